@@ -22,7 +22,7 @@ import rows
 
 JSON = {"eppcommands", "eppforms", "eppreplies", "serde_json"}
 ROWS = {"sqlrows", "sqltables", "sqlcolumns"}
-ABOVE = {"store", "registry", "mapbook", "eppwire", "frames", "server", "tldreg", "script"}
+ABOVE = {"books", "registry", "mapbook", "eppwire", "frames", "server", "tldreg", "script"}
 DOMAINS = 1000
 COUNTED = 200
 

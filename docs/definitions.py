@@ -1,10 +1,11 @@
 #!/usr/bin/env python3
-"""The index of definitions, from the first sentence of each file of crates/*/specs, in the order of crates.txt.
+"""The index of definitions, from the beginning of each file of crates/*/specs, in the order of crates.txt.
 
 usage: definitions.py > DEFINITIONS.md
        definitions.py --check     the status is 1 unless DEFINITIONS.md is that
 
-What is only told of a crate's own functions (specs/inner) is left out.
+Of the first sentence the page has what comes before a colon or a semicolon. Definitions of a crate's own functions
+(specs/inner) are left out.
 """
 import re
 import sys
@@ -14,7 +15,7 @@ ROOT = Path(__file__).resolve().parent.parent
 PAGE = ROOT / "docs/DEFINITIONS.md"
 HEAD = """# Definitions
 
-For who reads a contract and looks for a word of it: each file of definitions, by crate, the lowest first. `docs/definitions.py` makes this page from the files' first lines. Files in `specs/inner` are left out: no promise of the registry names what they define ([READING.md](READING.md)).
+For who looks for a word of a contract: each file of `crates/*/specs`, the lowest crate first. `docs/definitions.py` makes this page from the files' first lines. Files in `specs/inner` are left out: no promise of the registry names what they define ([READING.md](READING.md)).
 """
 
 
@@ -35,8 +36,9 @@ def first_sentence(path):
             break
         words.append(line[3:])
     text = " ".join(words)
-    sources = "; ".join(re.findall(r"\(((?:RFC|UTS)[^)]*)\)", text))
-    sentence = re.split(r"\.(?:\s|$)", re.sub(r" \((?:RFC|UTS)[^)]*\)", "", text))[0].strip().rstrip(":")
+    sources = "; ".join(it.split(": ")[0] for it in re.findall(r"\(((?:RFC|UTS)[^)]*)\)", text))
+    sentence = re.split(r"[.:;](?:\s|$)", re.sub(r" \((?:RFC|UTS)[^)]*\)", "", text))[0].strip()
+    sentence = re.sub(r",? and how (?:they lie|it lies) in (?:their|its) table", "", sentence.replace(", how they lie in their table", ""))
     return sentence[:1].lower() + sentence[1:] if not re.match(r"[A-Z]{2}|`", sentence) else sentence, sources
 
 
@@ -51,11 +53,11 @@ def page():
             continue
         if open_heading:
             parts.append(f"\n## {open_heading}\n")
-            parts.append("\n|file|defines|standard|\n|---|---|---|\n")
+            parts.append("\n|crate|file|defines|standard|\n|---|---|---|---|\n")
             open_heading = None
         for it in files:
             what, sources = first_sentence(it)
-            parts.append(f"|`{name}/specs/{it.name}`|{what.replace('|', chr(92) + '|')}|{sources}|\n")
+            parts.append(f"|{'' if it is not files[0] else name}|`{it.stem}`|{what.replace('|', chr(92) + '|')}|{sources}|\n")
     return "".join(parts)
 
 

@@ -26,6 +26,7 @@ put 755 examples/client.py usr/bin/tldreg-client
 for it in tld tldreg-zone; do put 755 "examples/office/$it" "usr/sbin/$it"; done
 for it in examples/office/*.service examples/office/*.timer; do put 644 "$it" "usr/lib/systemd/system/${it##*/}"; done
 for it in docs/*.md CHANGELOG.md LICENSE SECURITY.md; do put 644 "$it" "usr/share/doc/tldreg/${it##*/}"; done
+for it in docs/pictures/*.svg; do put 644 "$it" "usr/share/doc/tldreg/pictures/${it##*/}"; done
 for it in examples/policy.toml examples/audit.sql examples/first.script examples/office/*.conf examples/office/*.cfg \
     examples/office/own.zone examples/office/registrars.cnf; do
     put 644 "$it" "usr/share/doc/tldreg/examples/${it##*/}"

@@ -12,10 +12,10 @@ ROOT = Path(__file__).resolve().parent.parent.parent
 DATABASE = {"sqlite", "sqlrows", "sqltables"}
 TESTS = ("transcripts", "faulttests")
 GROUPS = [
-    ("values and objects", "#eef3fa", ["basis", "calendar", "names", "policy", "objects", "accounts", "lifecycle"]),
+    ("values and objects", "#eef3fa", ["basis", "calendar", "names", "policy", "objects", "accounts", "lifecycle", "statements"]),
     ("the wire", "#f3eefa", ["protocol", "eppforms", "eppcommands", "jsonobjects", "eppreplies", "streams", "frames"]),
-    ("the rules", "#e3f3e6", ["model", "facts", "verdict", "rules", "privacy", "concerns"]),
-    ("the book and the registry", "#fbf0e3", ["transactions", "store", "mapbook", "registry", "runs", "eppwire"]),
+    ("the rules", "#e3f3e6", ["model", "facts", "rules", "decisions", "isolation", "concerns"]),
+    ("the book and the registry", "#fbf0e3", ["states", "books", "mapbook", "registry", "runs", "eppwire"]),
     ("the public", "#e6f4f4", ["zonefile", "rdap", "wires", "server", "operator", "listening"]),
 ]
 
@@ -46,7 +46,7 @@ def groups(below, rows):
     grouped, left = [], dict.fromkeys(below)
     for title, colour, names in GROUPS:
         grouped.append((title, colour, [it for it in names if it in left]))
-    grouped.append(("programs", "#ffffff", [it for it in ("script", "memory", "takeover", "restarts", "tldreg") if it in left]))
+    grouped.append(("programs", "#ffffff", [it for it in ("script", "memory", "takeover", "bookfiles", "tldreg") if it in left]))
     grouped.append(("tests", "#f2f2f2", [it for it in TESTS if it in left]))
     taken = {it for _, _, names in grouped for it in names}
     grouped.append(("the tables", "#f7e6ee", [it for it in below if it in rows and it not in taken]))

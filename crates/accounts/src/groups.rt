@@ -2,7 +2,7 @@
 ghost use Rattle.std.specs.Prelude.{◌≡◌, ◌<◌, ◌++◌, ◌∷◌, [], length, true, false, IfOk, IfSome, OnOk, OnErr};
 ghost use Rattle.std.specs.List.{filter, list_any, position};
 ghost use Rattle.basis.specs.Bag.{add, bag_of, remade, same, taken};
-ghost use Rattle.accounts.specs.Groups.{IsBounded, IsSmall};
+ghost use Rattle.accounts.specs.Groups.{IsBounded, IsSmall, all_lines};
 ghost use Rattle.accounts.specs.Lines as spec;
 ghost use Rattle.accounts.specs.Lines.{in_order};
 
@@ -121,6 +121,17 @@ fn key_of(roid: &Option<Roid>) -> [u64; 3]
     }
 }
 
+/// The lines of all groups, one group after another.
+fn joined(alloc: Global, groups: &BTreeMap<[u64; 3], Group>) -> Result<Vec<Line>, AllocError>
+    ensures { IfOk result (λ lines. lines.items ≡ all_lines groups.now.entries) }
+{
+    let mut lines = Vec::new(alloc);
+    for (_, group) in groups.iter() {
+        lines.extend_from_slice(&group.lines)?;
+    }
+    Ok(lines)
+}
+
 /// A bag of lines. Those of one domain are found by a look-up.
 #[derive(Drop)]
 pub(crate) struct Groups {
@@ -171,6 +182,13 @@ impl Groups {
             Some(group) => &group.lines,
             None => &[],
         }
+    }
+
+    /// The lines on all domains and on none, in no order that says anything.
+    pub(crate) fn all(&self) -> Result<Vec<Line>, AllocError>
+        ensures { IfOk result (λ lines. bag_of in_order lines.items ≡ self.now) }
+    {
+        joined(self.alloc, &self.groups)
     }
 
     /// Whether a line is there, so that it can be taken out and put back.

@@ -53,6 +53,13 @@ impl Lines {
         self.groups.on(roid)
     }
 
+    /// All lines, in no order that says anything.
+    pub fn all(&self) -> Result<Vec<Line>, AllocError>
+        ensures { IfOk result (λ lines. bag_of in_order lines.items ≡ self.now) }
+    {
+        self.groups.all()
+    }
+
     /// Whether a line is there, so that it can be taken out and put back.
     pub fn has(&self, line: &Line) -> bool
         ensures there { result ≡ list_any (same in_order line.now) self.now }

@@ -55,17 +55,17 @@ use Rattle.model.specs.LapseLaws.{HasAllDue}
 use Rattle.model.specs.Registry.{Registry, account_of}
 use Rattle.model.proofs.LapseLaws.{all-due-lapse-as-all, lapses-on-from-some}
 use Rattle.model.proofs.SweepLemmas.{gives, left, registry}
-use Rattle.rules.specs.declared.change.Change.{Change}
-use Rattle.rules.specs.declared.change.Change.TheVariants.{MoveClock, OpenAccount, PutContact, DropContact, PutDomain, DropDomain, PutHost, DropHost, RenameHost, LapseContact, LapseDomain, Post}
-use Rattle.rules.specs.Changes.{changed, changed_all, host_renamed, may_rename, with_account, with_host_renamed}
+use Rattle.decisions.specs.declared.change.Change.{Change}
+use Rattle.decisions.specs.declared.change.Change.TheVariants.{MoveClock, OpenAccount, PutContact, DropContact, PutDomain, DropDomain, PutHost, DropHost, RenameHost, LapseContact, LapseDomain, Post}
+use Rattle.decisions.specs.Changes.{changed, changed_all, host_renamed, may_rename, with_account, with_host_renamed}
 use Rattle.concerns.specs.declared.given.Names.{Names}
 use Rattle.concerns.specs.Concerns.{IsSettledIn, concerned, is_about, without}
 use Rattle.concerns.proofs.PostedLemmas.{AllPost, IsElsewhere, contact-elsewhere, domain-elsewhere, post-both, post-given, post-weaker}
 use Rattle.concerns.proofs.ConcernLemmas.{is_in}
 use Rattle.concerns.proofs.FactsLemmas.{contact-not-about, domain-not-about, roid-off}
-use Rattle.rules.proofs.LineEntryLemmas.{AllOff, IsOff, on-one}
-use Rattle.rules.proofs.LineTimeLemmas.{completed-off, domain-off}
-use Rattle.rules.proofs.NamedLemmas.{drop-cases, put-cases, remade-cases, same_name}
+use Rattle.decisions.proofs.LineEntryLemmas.{AllOff, IsOff, on-one}
+use Rattle.decisions.proofs.LineTimeLemmas.{completed-off, domain-off}
+use Rattle.decisions.proofs.NamedLemmas.{drop-cases, put-cases, remade-cases, same_name}
 
 -- ---- a sweep of a map, one of whose names it leaves alone
 

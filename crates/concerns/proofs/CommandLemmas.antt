@@ -37,21 +37,21 @@ use Rattle.protocol.specs.Requests.{asks_of, contacts_asked, domains_asked, hold
 use Rattle.model.specs.Lapse.{Choice, now}
 use Rattle.model.specs.Registry.{Registry, account_of}
 use Rattle.model.specs.View.{domain_sight}
-use Rattle.rules.specs.declared.change.Change.{Change}
-use Rattle.rules.specs.declared.decision.Decision.{Decision}
-use Rattle.rules.specs.Changes.{changed_all}
+use Rattle.decisions.specs.declared.change.Change.{Change}
+use Rattle.decisions.specs.declared.decision.Decision.{Decision}
+use Rattle.decisions.specs.Changes.{changed_all}
 use Rattle.concerns.specs.declared.given.Names.{Names}
 use Rattle.concerns.specs.Concerns.{IsSettledIn, concerned, contact_name, domain_name, meant, read_at}
 use Rattle.concerns.specs.Names.{named_by, named_in}
-use Rattle.rules.specs.Decisions.{changes_after, changes_of, contact_changes, decided, deletion_at, deletion_changes, domain_changes, ending, host_changes, renaming, renewal_changes, report_changes, restore_changes, updated_host}
-use Rattle.rules.specs.Steps.{answer, decision, effect, reply_of}
-use Rattle.rules.specs.Transfers.{contact_transfer_changes, contact_transferred_if, domain_transfer_changes, domain_transferred_if}
+use Rattle.decisions.specs.Decisions.{changes_after, changes_of, contact_changes, decided, deletion_at, deletion_changes, domain_changes, ending, host_changes, renaming, renewal_changes, report_changes, restore_changes, updated_host}
+use Rattle.decisions.specs.Steps.{answer, decision, effect, reply_of}
+use Rattle.decisions.specs.Transfers.{contact_transfer_changes, contact_transferred_if, domain_transfer_changes, domain_transferred_if}
 use Rattle.concerns.proofs.ChangeLemmas.{AllSuit, IsNamedRoid, Suits, changed-now}
-use Rattle.rules.proofs.CommandLemmas.{at-itself, contact-full, domain-full}
+use Rattle.decisions.proofs.CommandLemmas.{at-itself, contact-full, domain-full}
 use Rattle.concerns.proofs.ConcernLemmas.{any-read, bytes-itself, in-first, in-itself, in-second, is_in}
 use Rattle.concerns.proofs.FactsLemmas.{account-now, contacts-acted, facts-now}
-use Rattle.verdict.specs.Deletion.{goes_at_once}
-use Rattle.verdict.specs.Transfers.{transfer_after}
+use Rattle.rules.specs.Deletion.{goes_at_once}
+use Rattle.rules.specs.Transfers.{transfer_after}
 
 -- ---- what is concerned: what is named, and what bears the name of what stands there
 

@@ -28,7 +28,7 @@ use Rattle.model.proofs.LapseLaws.{left-of}
 use Rattle.model.proofs.SweepLemmas.{left}
 use Rattle.concerns.specs.declared.given.Names.{Names}
 use Rattle.concerns.specs.Concerns.{HasConcerned, IsSettledIn, concerned, contact_name, domain_name, domain_roid, is_about, is_concerned, meant, read_at}
-use Rattle.rules.proofs.LapsedLemmas.{contact-left, domain-left}
+use Rattle.decisions.proofs.LapsedLemmas.{contact-left, domain-left}
 
 -- ---- names among names
 

@@ -65,11 +65,11 @@ use Rattle.concerns.specs.Concerns.{IsSettledIn, concerned, contact_name, domain
 use Rattle.concerns.specs.Names.{contacts_in, hosts_in, listed, named_by}
 use Rattle.concerns.proofs.PostedLemmas.{AllPost, IsElsewhere, contact-elsewhere, domain-elsewhere, elsewhere-posted, not-party, post-both, post-given, requester-off}
 use Rattle.concerns.proofs.ConcernLemmas.{any-in, any-read, in-filter_map, in-first, in-itself, in-second, is_in}
-use Rattle.rules.proofs.LapsedLemmas.{domain-left}
-use Rattle.rules.proofs.LineEntryLemmas.{AllOff, IsKeptOff, entered_lines, keep-posted, off-both, off-keep}
-use Rattle.rules.proofs.LineTimeLemmas.{completed-off, domain-off}
-use Rattle.rules.proofs.PostingLemmas.{due-is}
-use Rattle.rules.proofs.TransferLemmas.{graces-elsewhere}
+use Rattle.decisions.proofs.LapsedLemmas.{domain-left}
+use Rattle.decisions.proofs.LineEntryLemmas.{AllOff, IsKeptOff, entered_lines, keep-posted, off-both, off-keep}
+use Rattle.decisions.proofs.LineTimeLemmas.{completed-off, domain-off}
+use Rattle.decisions.proofs.PostingLemmas.{due-is}
+use Rattle.decisions.proofs.TransferLemmas.{graces-elsewhere}
 
 -- ---- tests of what is left
 

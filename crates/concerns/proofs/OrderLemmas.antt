@@ -18,20 +18,20 @@ use Rattle.model.specs.declared.object.Object.TheVariants as objects
 use Rattle.model.specs.Lapse.{Choice, now}
 use Rattle.model.specs.Objects.{object_at, object_ordered}
 use Rattle.model.specs.Registry.{Registry}
-use Rattle.rules.specs.declared.change.Change.{Change}
-use Rattle.rules.specs.declared.order.OrderDecision.{OrderDecision}
-use Rattle.rules.specs.Changes.{changed_all}
+use Rattle.decisions.specs.declared.change.Change.{Change}
+use Rattle.decisions.specs.declared.order.OrderDecision.{OrderDecision}
+use Rattle.decisions.specs.Changes.{changed_all}
 use Rattle.protocol.specs.Requests.{holds_of}
 use Rattle.concerns.specs.declared.given.Names.{Names}
 use Rattle.concerns.specs.Concerns.{IsSettledIn, concerned, is_about, is_concerned}
 use Rattle.concerns.specs.ConcernLaws.{IsSettledFor}
 use Rattle.concerns.specs.Names.{named_of, no_names}
-use Rattle.rules.specs.Orders.{cents_of, decided_order, deposited, deposited_to, order_answer, order_changes, order_decision, order_effect, status_decision}
+use Rattle.decisions.specs.Orders.{cents_of, decided_order, deposited, deposited_to, order_answer, order_changes, order_decision, order_effect, status_decision}
 use Rattle.concerns.proofs.CommandLemmas.{contact-borne, domain-borne}
 use Rattle.concerns.proofs.ChangeLemmas.{AllSuit, changed-now}
 use Rattle.concerns.proofs.ConcernLemmas.{in-itself}
 use Rattle.concerns.proofs.FactsLemmas.{contact-at, domain-at}
-use Rattle.verdict.specs.Orders.{order_code}
+use Rattle.rules.specs.Orders.{order_code}
 
 -- ---- the object under a name
 

@@ -23,10 +23,10 @@ use Rattle.objects.specs.Sight.{is_party}
 use Rattle.objects.specs.Transfers.{is_incoming, is_pending_state, names}
 use Rattle.policy.specs.Rules.{PolicyRules}
 use Rattle.model.specs.Registry.{Registry, account_of}
-use Rattle.rules.specs.Changes.{with_account}
+use Rattle.decisions.specs.Changes.{with_account}
 use Rattle.concerns.specs.Concerns.{is_about, is_at_stake}
-use Rattle.rules.proofs.PostingLemmas.{due-is}
-use Rattle.rules.proofs.ViewLemmas.{account_of-with_account, same_number}
+use Rattle.decisions.proofs.PostingLemmas.{due-is}
+use Rattle.decisions.proofs.ViewLemmas.{account_of-with_account, same_number}
 
 -- ---- what is so of all postings
 

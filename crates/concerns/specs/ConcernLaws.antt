@@ -11,8 +11,8 @@ use Rattle.protocol.specs.declared.command.Command.{Command}
 use Rattle.protocol.specs.declared.order.Order.TheVariants as orders
 use Rattle.protocol.specs.declared.order.StatusOrder.{StatusOrder}
 use Rattle.protocol.specs.Orders.{name_ordered}
-use Rattle.rules.specs.Orders.{order_answer, order_effect}
-use Rattle.rules.specs.Steps.{answer, effect}
+use Rattle.decisions.specs.Orders.{order_answer, order_effect}
+use Rattle.decisions.specs.Steps.{answer, effect}
 use Rattle.concerns.specs.declared.given.Names.{Names}
 use Rattle.concerns.specs.Concerns.{HasConcerned, IsSettledIn, concerned}
 use Rattle.concerns.specs.Names.{named_by, named_of, no_names}

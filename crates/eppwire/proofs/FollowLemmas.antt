@@ -7,7 +7,7 @@ use Rattle.protocol.specs.declared.session.BeforeLogin.TheVariants as before
 use Rattle.protocol.specs.declared.session.InSession.{InSession}
 use Rattle.protocol.specs.declared.session.InSession.TheVariants as within
 use Rattle.frames.specs.Outcomes.{Outcome}
-use Rattle.store.specs.Book.{BookState, Follows}
+use Rattle.books.specs.Book.{BookState, Follows}
 use Rattle.eppwire.specs.Answers.{Answers, AnswersHello, AnswersOpening, AnswersSaid}
 
 pub stays_followed : (state : BookState) → Follows state state

@@ -10,9 +10,9 @@ use Rattle.model.specs.View.{View}
 use Rattle.policy.specs.Rules.{PolicyRules}
 use Rattle.protocol.specs.declared.session.InSession.{InSession}
 use Rattle.protocol.specs.declared.session.InSession.TheVariants.{Hello, Ordinary}
-use Rattle.rules.specs.Steps.{answer}
+use Rattle.decisions.specs.Steps.{answer}
 use Rattle.frames.specs.Outcomes.{Outcome, replied, ended, framed, has_frame, sent}
-use Rattle.store.specs.Book.{BookState}
+use Rattle.books.specs.Book.{BookState}
 use Rattle.eppwire.specs.Answers.{AnswersSaid, Tells, greeting_outcome, is_last, reply_outcome}
 use Rattle.eppwire.specs.Isolation.{FramesAreIsolated, IsFixed, text_told, view_saying}
 

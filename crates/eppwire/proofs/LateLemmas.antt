@@ -11,7 +11,7 @@ use Rattle.registry.specs.Execution.{IsUnchanged, last_call}
 use Rattle.registry.specs.declared.fault.Fault.{Fault}
 use Rattle.registry.specs.declared.fault.Fault.TheVariants as faults
 use Rattle.frames.specs.Outcomes.{Outcome, sent}
-use Rattle.store.specs.Book.{BookState}
+use Rattle.books.specs.Book.{BookState}
 use Rattle.eppwire.specs.Answers.{AnswersSaid, GivesUp}
 use Rattle.eppwire.specs.Late.{LateFramesFail}
 

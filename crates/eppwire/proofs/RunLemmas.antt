@@ -1,6 +1,6 @@
 -- What a registrar is sent over whole runs hangs on nothing that others hide.
 use Rattle.std.proofs.Common.{map, ap}
-use Rattle.privacy.proofs.RunLemmas.{alike-lists-tell-the-same}
+use Rattle.isolation.proofs.RunLemmas.{alike-lists-tell-the-same}
 use Rattle.eppwire.specs.Isolation.{AlikeListsSendTheSame, text_of}
 
 pub alike-lists-send-the-same : AlikeListsSendTheSame

@@ -19,9 +19,9 @@ use Rattle.protocol.specs.declared.session.InSession.{InSession}
 use Rattle.protocol.specs.declared.session.InSession.TheVariants as within
 use Rattle.protocol.specs.Codes.{code_of_form}
 use Rattle.registry.specs.Execution.{Greets, IsUnchanged, Isolates, Steps, last_call}
-use Rattle.rules.specs.Steps.{answer}
+use Rattle.decisions.specs.Steps.{answer}
 use Rattle.frames.specs.Outcomes.{Outcome, replied, ended, failed, lost}
-use Rattle.store.specs.Book.{BookState, Follows}
+use Rattle.books.specs.Book.{BookState, Follows}
 
 -- ---- replies
 

@@ -8,14 +8,14 @@ use Rattle.model.specs.Lapse.{lapsed}
 use Rattle.model.specs.Registry.{Registry}
 use Rattle.model.specs.View.{View, view, view_for}
 use Rattle.policy.specs.Rules.{PolicyRules}
-use Rattle.privacy.specs.Alike.{Pair, AreAlike, firsts, seconds}
-use Rattle.privacy.specs.Laws.{none}
-use Rattle.privacy.specs.Runs.{Answer, code, dated, reply, shown, told}
+use Rattle.isolation.specs.Alike.{Pair, AreAlike, firsts, seconds}
+use Rattle.isolation.specs.Laws.{none}
+use Rattle.isolation.specs.Runs.{Answer, code, dated, reply, shown, told}
 use Rattle.protocol.specs.declared.session.InSession.{InSession}
 use Rattle.protocol.specs.declared.session.InSession.TheVariants.{Hello, Ordinary}
-use Rattle.rules.specs.Steps.{answer}
+use Rattle.decisions.specs.Steps.{answer}
 use Rattle.frames.specs.Outcomes.{Outcome, sent}
-use Rattle.store.specs.Book.{BookState}
+use Rattle.books.specs.Book.{BookState}
 use Rattle.eppwire.specs.Answers.{AnswersRegistrar}
 
 -- a command could not be carried out, or its reply found no memory or has no frame

@@ -4,7 +4,7 @@ use Rattle.frames.specs.Texts.{failed_text}
 use Rattle.policy.specs.Rules.{PolicyRules}
 use Rattle.registry.specs.Execution.{IsUnchanged, last_call}
 use Rattle.frames.specs.Outcomes.{Outcome, sent}
-use Rattle.store.specs.Book.{BookState}
+use Rattle.books.specs.Book.{BookState}
 use Rattle.eppwire.specs.Answers.{AnswersRegistrar}
 
 -- Each frame of a registrar that is logged in is sent the fixed text then, a logout and what is no

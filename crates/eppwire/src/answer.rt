@@ -7,6 +7,7 @@ ghost use Rattle.eppwire.specs.Answers.{AnswersCommand, AnswersHello, AnswersReg
 
 use basis::registrar::RegistrarNo;
 use basis::text::Text;
+use books::Book;
 use calendar::Moment;
 use eppcommands::{before_login, in_session};
 use eppreplies::{anonymous_reply_bytes, greeting_bytes, reply_bytes};
@@ -15,7 +16,6 @@ use policy::Policy;
 use protocol::{BeforeLogin, Code, Command, Credentials, InSession, Reply};
 use registry::Registry;
 use std::alloc::{AllocError, Global};
-use store::Book;
 
 /// The version of the protocol by which registrars log in.
 const VERSION: &str = "1.0";

@@ -5,11 +5,11 @@ ghost use Rattle.std.proofs.Props.{props};
 
 use crate::answer::{answer_before_login, answer_registrar};
 use basis::registrar::RegistrarNo;
+use books::Book;
 use calendar::Moment;
 use frames::{Answer, Peer};
 use registry::Registry;
 use std::alloc::Global;
-use store::Book;
 
 /// A registry, and who is logged in on the connection to it.
 #[derive(Drop)]

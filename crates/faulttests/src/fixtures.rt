@@ -2,11 +2,10 @@
 
 ghost use Rattle.std.specs.Prelude.{◌≡◌, false};
 
-use mapbook::{PlainBook, new_book};
+use books::Book;
 use policy::Policy;
 use registry::Registry;
 use std::alloc::Global;
-use store::Book;
 
 /// A policy of two registrars, at whose prices each year costs eight units.
 pub const POLICY: &str = r#"zone = "test"
@@ -58,9 +57,4 @@ pub fn registry_over<B: Book + Drop>(alloc: Global, book: B) -> Result<Registry<
         Ok(registry) => Ok(registry),
         Err(_) => Err("not opened"),
     }
-}
-
-/// A registry that is new, in ordered maps.
-pub fn registry_of(alloc: Global) -> Result<Registry<PlainBook>, &'static str> {
-    registry_over(alloc, new_book(alloc))
 }

@@ -1,5 +1,5 @@
 //! What no contract says and no file of data can show (`docs/TRANSCRIPTS.md`): disks in memory that stop or
-//! fail, sockets, and what lies in the tables of a database.
+//! fail, and what lies in the tables of a database.
 #![tactic(auto)]
 
 #[cfg(test)]
@@ -22,8 +22,6 @@ mod registries;
 mod row_stores;
 #[cfg(test)]
 mod rows;
-#[cfg(test)]
-mod sockets;
 #[cfg(test)]
 mod stops;
 #[cfg(test)]

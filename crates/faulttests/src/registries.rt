@@ -5,6 +5,7 @@ ghost use Rattle.sqlite.specs.Held.{state};
 ghost use Rattle.sqltables.specs.Adoption.{IsFound};
 
 use crate::policies::{Under, policy_under};
+use books::Book;
 use registry::Registry;
 use script::run_on;
 use sqlbook::{OnDisk, SqlBook, Unadopted, into_files, taken};
@@ -12,7 +13,6 @@ use sqlite::{Alter, Connection, Error, FileStore, Files, Leftover, Options};
 use sqlite_disk::Disk;
 use std::alloc::Global;
 use std::test::Fail;
-use store::Book;
 
 /// What is printed where files can't be opened, and where the book in them can't be taken up.
 pub const NOT_OPENED: &str = "not opened\n";

@@ -7,9 +7,9 @@ use sqlite::{Alter, Connection, Error, MemStore};
 use sqltables::{
     AccountRow, LinkRow, MetaRow, RowStore, Unadopted, balance_of_bytes, bytes_of_balance, create,
 };
+use states::{BookFault, Ready};
 use std::alloc::{AllocError, Global};
 use std::process::Abort;
-use transactions::{BookFault, Ready};
 
 // ---- rows
 

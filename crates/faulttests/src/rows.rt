@@ -4,13 +4,13 @@
 ghost use Rattle.std.specs.Prelude.{◌≡◌, false, IfOk};
 
 use crate::fixtures::registry_over;
+use books::{Book, BookFault};
 use registry::Registry;
 use script::{Exit, run_on};
 use sqlbook::{InMemory, SqlBook, in_memory};
 use sqlite::MemStore;
 use std::alloc::Global;
 use std::test::Fail;
-use store::{Book, BookFault};
 
 /// A registry in the rows of a database in memory.
 pub type Rows = Registry<SqlBook<MemStore, InMemory>>;

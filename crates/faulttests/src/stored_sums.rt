@@ -3,6 +3,7 @@
 //! and when a domain is due. What they have to be is worked out by hand.
 
 use crate::rows::{new_registry, printed};
+use books::{Book, BookFault};
 use registry::Registry;
 use sqlbook::{Provenance, SqlBook};
 use sqlite::Alter;
@@ -10,7 +11,6 @@ use sqltables::{AccountRow, DomainRow, HostRow, RowStore, balance_of_bytes};
 use std::alloc::Global;
 use std::process::Abort;
 use std::test::Fail;
-use store::{Book, BookFault};
 
 /// `waiting`, `balance` and `held` of the account of a number.
 type Account = (i64, i64, i128, i64);

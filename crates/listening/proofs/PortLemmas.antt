@@ -2,7 +2,7 @@
 use Rattle.std.proofs.Common.{◌≡◌, ◌∷◌, List, ℕ, subst}
 use Rattle.policy.specs.Rules.{PolicyRules}
 use Rattle.listening.specs.Ports.{Leaves, LeavesOne, ServesPorts}
-use Rattle.store.specs.Book.{BookState}
+use Rattle.books.specs.Book.{BookState}
 
 -- one more behind those that were served
 pub one_more_turn : (p q : PolicyRules) (credentials : List ℕ) (old between new : BookState) → q ≡ p → ServesPorts p credentials old between → LeavesOne q credentials between new → ServesPorts p credentials old new

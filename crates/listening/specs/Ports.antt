@@ -6,7 +6,7 @@ use Rattle.operator.specs.declared.serving.RequestEnd.{RequestEnd}
 use Rattle.policy.specs.Rules.{PolicyRules}
 use Rattle.server.specs.Connections.{Serves}
 use Rattle.server.specs.declared.connection.ConnectionEnd.{ConnectionEnd}
-use Rattle.store.specs.Book.{BookState}
+use Rattle.books.specs.Book.{BookState}
 
 -- by which port a connection came, and how it ended
 pub data PortTurn : Type 0 where

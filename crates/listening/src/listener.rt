@@ -1,8 +1,9 @@
 //! Connections of a port.
 ghost use Rattle.std.specs.Prelude.{◌≡◌};
 ghost use Rattle.server.specs.Listening.{ServesInTurn, ServesUnknown};
-ghost use Rattle.store.specs.Book.{Follows};
+ghost use Rattle.books.specs.Book.{Follows};
 
+use books::Book;
 use frames::SessionEnd;
 use rdap::Routes;
 use registry::Registry;
@@ -10,7 +11,6 @@ use server::{ConnectionEnd, HttpEnd, MachineClock, let_go, let_go_with_more, ser
 use std::alloc::Global;
 use std::net::{Net, TcpListener, TcpStream};
 use std::time;
-use store::Book;
 use wires::{Door, Limits, Log, Port, Room, Rooms, Turn, Wire, WireReader, WireWriter, next_turn};
 
 /// Serves connections without end, one after the other. Returns where no connection can be accepted any

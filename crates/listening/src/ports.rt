@@ -3,9 +3,10 @@ ghost use Rattle.std.specs.Prelude.{◌≡◌, None};
 ghost use Rattle.listening.specs.Ports.{LeavesOne, ServesPorts};
 ghost use Rattle.operator.specs.Operations.{Operates};
 ghost use Rattle.operator.specs.declared.serving.RequestEnd.{RequestEnd};
-ghost use Rattle.store.specs.Book.{Follows};
+ghost use Rattle.books.specs.Book.{Follows};
 
 use crate::listener::serve_public;
+use books::Book;
 use operator::{Figures, RequestEnd, serve_request};
 use rdap::Routes;
 use registry::Registry;
@@ -13,7 +14,6 @@ use server::{MachineClock, let_go_with_more};
 use std::alloc::{AllocError, Global};
 use std::net::{Net, TcpListener};
 use std::time;
-use store::Book;
 use wires::{
     Door, Limits, Log, Port, Room, Rooms, Turn, Wire, WireReader, WireWriter, next_turn,
     write_figures,

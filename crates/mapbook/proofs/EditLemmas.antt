@@ -13,7 +13,7 @@ use Rattle.basis.proofs.BagLaws.{taken-add}
 use Rattle.basis.proofs.MapLemmas.{names_apart}
 use Rattle.mapbook.specs.declared.edit.Edit.{Edit}
 use Rattle.mapbook.specs.declared.edit.Edit.TheVariants as edit
-use Rattle.store.specs.Book.{Stored}
+use Rattle.books.specs.Book.{Stored}
 use Rattle.accounts.specs.declared.account.Account.{Account}
 use Rattle.accounts.specs.Account.{empty_account}
 use Rattle.accounts.specs.Entries.{with_lines, with_queue}
@@ -24,11 +24,11 @@ use Rattle.accounts.specs.declared.message.Message.{Message}
 use Rattle.accounts.proofs.LineLaws.{lines_in_order}
 use Rattle.accounts.proofs.QueueLaws.{dropped-put}
 use Rattle.accounts.specs.declared.counters.Counters.{Counters}
-use Rattle.store.specs.Ledgers.{changed_if_there, put, with_changed, with_counted, with_line, with_notice}
+use Rattle.books.specs.Ledgers.{changed_if_there, put, with_changed, with_counted, with_line, with_notice}
 use Rattle.accounts.specs.Counters.{counters_of, with_counters}
 use Rattle.mapbook.specs.inner.Edits.{counters_back, inverse, line_back, notice_back}
 use Rattle.mapbook.specs.Edits.{edited, undone_all}
-use Rattle.store.proofs.PutLemmas.{put-back}
+use Rattle.books.proofs.PutLemmas.{put-back}
 
 with_accounts : Stored → FinMap nat_cmp Account → Stored
 with_accounts s n = record s { registry = record s.registry { accounts = n } }

@@ -16,9 +16,9 @@ use Rattle.basis.specs.Bag.{add, taken}
 use Rattle.accounts.specs.Account.{empty_account}
 use Rattle.basis.proofs.MapLemmas.{get-map_values}
 use Rattle.accounts.specs.declared.counters.Counters.{Counters}
-use Rattle.store.specs.Ledgers.{accounts_of, changed_if_there, counted, lacks, lines_of, put, queue_of, with_changed, with_counted, with_line, with_notice, without_line, without_notice}
+use Rattle.books.specs.Ledgers.{accounts_of, changed_if_there, counted, lacks, lines_of, put, queue_of, with_changed, with_counted, with_line, with_notice, without_line, without_notice}
 use Rattle.accounts.specs.Counters.{counters_of, with_counters}
-use Rattle.store.proofs.PutLemmas.{put-again}
+use Rattle.books.proofs.PutLemmas.{put-again}
 
 abbrev Accounts : Type 0
 Accounts = FinMap nat_cmp Account

@@ -2,13 +2,13 @@
 use Rattle.std.proofs.Common.{◌≡◌, ℕ, [], Bool, true, refl, sym, ap, ◌∙◌, if◌then◌else◌}
 use Rattle.std.specs.Prelude.{is_some}
 use Rattle.std.specs.FinMap.{get}
-use Rattle.store.specs.Book.{Stored}
+use Rattle.books.specs.Book.{Stored}
 use Rattle.mapbook.specs.Plain.{readiness_of}
-use Rattle.store.specs.Records.{RecordsState}
-use Rattle.transactions.specs.States.{Writes}
-use Rattle.transactions.proofs.LeavingLemmas.{leaves-refl}
-use Rattle.store.specs.Tables.{account_opened}
-use Rattle.store.proofs.PostingLemmas.{opened-same}
+use Rattle.books.specs.Records.{RecordsState}
+use Rattle.states.specs.States.{Writes}
+use Rattle.states.proofs.LeavingLemmas.{leaves-refl}
+use Rattle.books.specs.Tables.{account_opened}
+use Rattle.books.proofs.PostingLemmas.{opened-same}
 
 -- in memory: what is in the maps, where going back leads, whether a transaction is open, and whether one was kept
 abbrev pub in_memory : Stored → Stored → Bool → Bool → RecordsState

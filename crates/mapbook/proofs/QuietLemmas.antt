@@ -17,17 +17,17 @@ use Rattle.objects.specs.declared.domain.Domain.{Domain}
 use Rattle.policy.specs.declared.schedule.Schedule.{Schedule}
 use Rattle.policy.specs.declared.terms.Terms.{Terms}
 use Rattle.policy.specs.Rules.{PolicyRules}
-use Rattle.rules.proofs.NamedLemmas.{drop-cases, put-cases}
+use Rattle.decisions.proofs.NamedLemmas.{drop-cases, put-cases}
 use Rattle.lifecycle.specs.declared.due_object.Due.{Due}
 use Rattle.lifecycle.specs.DueObjects.{contact_due, domain_due, due_then, found_due, with_due}
 use Rattle.model.specs.DueBy.{due_by}
 use Rattle.mapbook.specs.declared.edit.Edit.{Edit}
 use Rattle.mapbook.specs.declared.edit.Edit.TheVariants as edit
-use Rattle.store.specs.Book.{Stored}
+use Rattle.books.specs.Book.{Stored}
 use Rattle.mapbook.specs.Edits.{edited}
 use Rattle.mapbook.specs.Quiet.{HasDaysOf, IsQuiet, NoneBefore}
 use Rattle.mapbook.specs.inner.Quiet.{quiet_after, sooner, sooner_with, until_contacts, until_domains}
-use Rattle.store.specs.Tables.{domain_put}
+use Rattle.books.specs.Tables.{domain_put}
 
 -- ---- under any policy with the same lengths
 

@@ -15,12 +15,12 @@ use Rattle.basis.specs.Maps.{map_values}
 use Rattle.basis.proofs.MapLemmas.{names_apart, get-map_values}
 use Rattle.objects.specs.declared.domain.Domain.{Domain}
 use Rattle.objects.specs.Links.{names_host}
-use Rattle.rules.specs.Changes.{may_rename, with_host_renamed}
+use Rattle.decisions.specs.Changes.{may_rename, with_host_renamed}
 use Rattle.mapbook.specs.declared.plain.Plain.{Plain}
 use Rattle.mapbook.specs.Plain.{at_begin, content_of, plain_records, registry_in}
-use Rattle.store.specs.Book.{Stored}
+use Rattle.books.specs.Book.{Stored}
 use Rattle.objects.specs.declared.host.Host.{Host}
-use Rattle.store.specs.Tables.{host_moved, host_put, with_domains}
+use Rattle.books.specs.Tables.{host_moved, host_put, with_domains}
 use Rattle.mapbook.specs.declared.edit.Edit.TheVariants as edit
 use Rattle.mapbook.specs.Edits.{edited}
 use Rattle.mapbook.specs.Renaming.{amended, domains_naming, host_renamed_at, host_renamed_in}

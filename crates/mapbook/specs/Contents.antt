@@ -1,7 +1,7 @@
 -- What ordered maps hold.
 use Rattle.model.specs.Registry.{Registry}
 use Rattle.mapbook.specs.declared.content.Content.{Content}
-use Rattle.store.specs.Book.{Stored}
+use Rattle.books.specs.Book.{Stored}
 
 abbrev pub registry_in : Content → Registry
 registry_in c = record { contacts = c.contacts; hosts = c.hosts; domains = c.domains; accounts = c.accounts; clock = c.clock }

@@ -2,8 +2,8 @@
 use Rattle.std.specs.Prelude.{List, [], ◌∷◌}
 use Rattle.mapbook.specs.declared.edit.Edit.{Edit}
 use Rattle.mapbook.specs.declared.edit.Edit.TheVariants as edit
-use Rattle.store.specs.Book.{Stored}
-use Rattle.store.specs.Ledgers.{put, with_counted, with_line, with_notice, without_line, without_notice}
+use Rattle.books.specs.Book.{Stored}
+use Rattle.books.specs.Ledgers.{put, with_counted, with_line, with_notice, without_line, without_notice}
 
 abbrev pub edited : Edit → Stored → Stored
 edited (edit.Clock t) s = record s { registry = record s.registry { clock = t } }

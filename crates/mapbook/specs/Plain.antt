@@ -1,15 +1,15 @@
 -- What records in ordered maps hold, and a book that is made of them.
 use Rattle.std.specs.Prelude.{◌≡◌, ◌-◌, length, take, List, Bool, true, false, if◌then◌else◌, []}
-use Rattle.transactions.specs.declared.readiness.Ready.{Ready}
-use Rattle.transactions.specs.declared.readiness.Ready.TheVariants.{Empty, Used}
+use Rattle.states.specs.declared.readiness.Ready.{Ready}
+use Rattle.states.specs.declared.readiness.Ready.TheVariants.{Empty, Used}
 use Rattle.mapbook.specs.declared.edit.Edit.{Edit}
-use Rattle.store.specs.declared.kept.Kept.{Kept}
+use Rattle.books.specs.declared.kept.Kept.{Kept}
 use Rattle.mapbook.specs.declared.plain.Plain.{Plain}
-use Rattle.store.specs.Book.{BookState, Stored}
+use Rattle.books.specs.Book.{BookState, Stored}
 pub use Rattle.mapbook.specs.Contents.{content_of, registry_in}
 use Rattle.mapbook.specs.Edits.{edited, undone_all}
-use Rattle.store.specs.Kept.{state_of}
-use Rattle.store.specs.Records.{RecordsState}
+use Rattle.books.specs.Kept.{state_of}
+use Rattle.books.specs.Records.{RecordsState}
 
 -- what was held when the transaction began
 abbrev pub at_begin : Plain → Stored

@@ -7,7 +7,7 @@ use Rattle.objects.specs.declared.contact.Contact.{Contact}
 use Rattle.objects.specs.declared.domain.Domain.{Domain}
 use Rattle.policy.specs.declared.terms.Terms.{Terms}
 use Rattle.policy.specs.Rules.{PolicyRules}
-use Rattle.store.specs.Book.{Stored}
+use Rattle.books.specs.Book.{Stored}
 
 -- a book was opened under the lengths of periods that a policy has
 abbrev pub HasDaysOf : Option Terms → PolicyRules → Type 0

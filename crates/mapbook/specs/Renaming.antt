@@ -5,9 +5,9 @@ use Rattle.std.specs.FinMap.{FinMap, entries, get, insert}
 use Rattle.std.specs.Ordering.{nat_cmp}
 use Rattle.model.specs.Registry.{Registry}
 use Rattle.objects.specs.Links.{names_host}
-use Rattle.rules.specs.Changes.{with_host_renamed}
-use Rattle.store.specs.Book.{Stored}
-use Rattle.store.specs.Tables.{with_domains}
+use Rattle.decisions.specs.Changes.{with_host_renamed}
+use Rattle.books.specs.Book.{Stored}
+use Rattle.books.specs.Tables.{with_domains}
 
 -- the domains that name a host, by name
 abbrev pub domains_naming : List ℕ → Registry → List (List ℕ)

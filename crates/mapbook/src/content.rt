@@ -2,8 +2,8 @@
 ghost use Rattle.std.specs.Prelude.{◌≡◌, nat_le, option_map, IfOk};
 ghost use Rattle.std.specs.FinMap as finmap;
 ghost use Rattle.facts.specs.Facts as facts;
-ghost use Rattle.rules.specs.Changes as changes;
-ghost use Rattle.store.specs.Faces as faces;
+ghost use Rattle.decisions.specs.Changes as changes;
+ghost use Rattle.books.specs.Faces as faces;
 ghost use Rattle.mapbook.specs.Plain.{registry_in};
 ghost use Rattle.mapbook.specs.Renaming.{domains_naming};
 

@@ -1,7 +1,7 @@
 //! Values at keys.
 ghost use Rattle.std.specs.Prelude.{◌≡◌, IfOk, OnErr, OnOk};
 ghost use Rattle.std.specs.Option.{option_copied};
-ghost use Rattle.store.specs.Ledgers.{put};
+ghost use Rattle.books.specs.Ledgers.{put};
 ghost use Rattle.mapbook.specs.declared.edit.Edit.TheVariants as edits;
 
 use accounts::{

@@ -9,8 +9,8 @@ ghost use Rattle.accounts.specs.Counters.{counters_of};
 ghost use Rattle.accounts.specs.Lines as lines;
 ghost use Rattle.accounts.specs.Lines.{in_order, swapped_all};
 ghost use Rattle.basis.specs.Bag.{bag_of, remade};
-ghost use Rattle.store.specs.Ledgers as spec;
-ghost use Rattle.store.specs.Ledgers.{put};
+ghost use Rattle.books.specs.Ledgers as spec;
+ghost use Rattle.books.specs.Ledgers.{put};
 
 use crate::edit::{account_clone, copy_message};
 use accounts::{Account, Counters, Line, LineChange, LineSwap, Lines, Message, Queue};
@@ -36,7 +36,7 @@ impl Model for Ledgers {
     ghost use Rattle.std.specs.FinMap as map;
     ghost use Rattle.std.specs.Coded.{coded_ℕ};
     ghost use Rattle.accounts.specs.contracts.account.Account as account;
-    ghost use Rattle.store.specs.Ledgers.{accounts_of};
+    ghost use Rattle.books.specs.Ledgers.{accounts_of};
 
     ghost coded = { map.code coded_ℕ account.the_row.coded };
 
@@ -81,6 +81,16 @@ impl Ledgers {
         match self.ledger(registrar) {
             None => 0,
             Some(account) => account.lines.balance(),
+        }
+    }
+
+    /// A registrar's lines.
+    pub fn lines(&self, alloc: Global, registrar: RegistrarNo) -> Result<Lines, AllocError>
+        ensures { IfOk result (λ lines. lines ≡ spec.lines_of (map.get self.now registrar)) }
+    {
+        match self.ledger(registrar) {
+            None => Ok(Lines::new(alloc)),
+            Some(account) => lines_clone(&account.lines),
         }
     }
 
@@ -330,6 +340,12 @@ fn counters_now(account: &Account, other: Option<&Counters>) -> Counters
         None => Counters::of(account),
         Some(counters) => *counters,
     }
+}
+
+fn lines_clone(lines: &Lines) -> Result<Lines, AllocError>
+    ensures { IfOk result (λ copy. copy ≡ lines.now) }
+{
+    lines.clone()
 }
 
 /// Lines as a bag.

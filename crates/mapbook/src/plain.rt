@@ -6,8 +6,8 @@ ghost use Rattle.mapbook.specs.Quiet.{IsQuiet};
 use crate::content::Content;
 use crate::edit::Edit;
 use basis::list::Seq;
+use books::{Book, Kept};
 use calendar::Moment;
-use store::{Book, Kept};
 
 /// A book in ordered maps.
 pub type PlainBook = Kept<Plain>;

@@ -8,15 +8,15 @@ use accounts::{Account, Counters, Line, LineChange, LineSwap, Lines, Message};
 use basis::list::Seq;
 use basis::registrar::RegistrarNo;
 use basis::text::Text;
+use books::Records;
 use calendar::Moment;
 use concerns::Names;
 use facts::Superordinate;
 use lifecycle::Due;
 use objects::{Contact, Domain, Host, Roid};
 use policy::{Policy, Terms};
+use states::{BookFault, Ready};
 use std::alloc::Global;
-use store::Records;
-use transactions::{BookFault, Ready};
 
 /// Records in ordered maps are a book's once a transaction was kept.
 fn readiness_of(is_used: bool) -> Ready
@@ -73,6 +73,12 @@ impl Records for Plain {
         self.settle()?;
         let alloc = self.content.alloc;
         Ok(self.content.accounts.lines_on(alloc, registrar, roid)?)
+    }
+
+    fn lines(&mut self, registrar: RegistrarNo) -> Result<Lines, BookFault> {
+        self.settle()?;
+        let alloc = self.content.alloc;
+        Ok(self.content.accounts.lines(alloc, registrar)?)
     }
 
     fn swaps<C: LineChange>(

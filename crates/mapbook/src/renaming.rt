@@ -2,15 +2,15 @@
 ghost use Rattle.std.specs.Prelude.{◌≡◌, true, Some};
 ghost use Rattle.mapbook.specs.Plain.{plain_records};
 ghost use Rattle.mapbook.specs.Renaming as spec;
-ghost use Rattle.store.specs.Tables.{host_moved, host_put, host_renamed};
-ghost use Rattle.transactions.specs.States.{Makes};
+ghost use Rattle.books.specs.Tables.{host_moved, host_put, host_renamed};
+ghost use Rattle.states.specs.States.{Makes};
 
 use crate::edit::Edit;
 use crate::plain::Plain;
 use basis::text::Text;
 use objects::Host;
 use policy::Policy;
-use transactions::BookFault;
+use states::BookFault;
 
 impl Plain {
     /// A host goes from one name to that of its own, and each domain that named it names it by that. Where there is

@@ -1,13 +1,13 @@
 //! How records in ordered maps are changed, and each change taken back.
 ghost use Rattle.std.specs.Prelude.{◌≡◌, true, ◌<◌, ℕ, List, [], length, OnOk, OnErr, Some};
-ghost use Rattle.store.specs.Book.{unused};
+ghost use Rattle.books.specs.Book.{unused};
 ghost use Rattle.mapbook.specs.Contents.{registry_in};
 ghost use Rattle.model.specs.DueBy.{due_by};
 ghost use Rattle.mapbook.specs.Edits.{edited, undone_all};
 ghost use Rattle.mapbook.specs.Plain.{IsSettled, LatestUndoes, content_of, at_begin, plain_records, plain_state, without_latest};
 ghost use Rattle.mapbook.specs.Quiet.{IsQuiet};
-ghost use Rattle.transactions.specs.States.{Makes, Stays};
-ghost use Rattle.store.specs.Tables.{domain_put};
+ghost use Rattle.states.specs.States.{Makes, Stays};
+ghost use Rattle.books.specs.Tables.{domain_put};
 
 use crate::content::Content;
 use crate::edit::Edit;
@@ -18,13 +18,13 @@ use crate::quiet::{covers, has_days_of, sooner};
 use basis::list::Seq;
 use basis::maps::NameMap;
 use basis::text::Text;
+use books::Kept;
 use calendar::Moment;
 use lifecycle::due_by;
 use objects::Domain;
 use policy::Policy;
+use states::BookFault;
 use std::alloc::{AllocError, Global};
-use store::Kept;
-use transactions::BookFault;
 
 /// A book with nothing in it, which was never opened.
 pub fn new_book(alloc: Global) -> PlainBook

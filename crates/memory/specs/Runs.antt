@@ -9,7 +9,7 @@ use Rattle.registry.specs.Opening.{opened}
 use Rattle.script.specs.declared.exit.Exit.{Exit}
 use Rattle.script.specs.declared.exit.Exit.TheVariants as exits
 use Rattle.script.specs.Runs.{Ends}
-use Rattle.store.specs.Book.{nothing}
+use Rattle.books.specs.Book.{nothing}
 
 -- a registry that was never used, opened under a policy
 abbrev pub start : PolicyRules → Registry

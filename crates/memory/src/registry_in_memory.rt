@@ -1,18 +1,18 @@
 //! The book in memory that a script runs over: the tables of a database.
 ghost use Rattle.std.specs.Prelude.{◌≡◌, true, IfOk};
 ghost use Rattle.policy.specs.Rules.{IsRegistrar};
-ghost use Rattle.rules.specs.Isolation.{IsIsolated};
+ghost use Rattle.decisions.specs.Isolation.{IsIsolated};
 ghost use Rattle.memory.specs.Runs.{start};
 ghost use Rattle.script.specs.Runs.{kept};
 
 use basis::registrar::RegistrarNo;
+use books::{Book, BookFault};
 use calendar::Moment;
 use policy::Policy;
 use protocol::{Command, Reply};
 use registry::{Fault, OpenFault, Registry};
 use sqlbook::{MemoryBook, in_memory};
 use std::alloc::Global;
-use store::{Book, BookFault};
 
 /// A registry in memory that was never used.
 pub(crate) fn open(alloc: Global, policy: Policy) -> Result<Registry<MemoryBook>, OpenFault>

@@ -4,13 +4,13 @@ ghost use Rattle.script.specs.Runs.{Ends, kept};
 ghost use Rattle.memory.specs.Runs.{EndsByFile, EndsUnder};
 
 use crate::registry_in_memory::{is_clean, open};
+use books::Book;
 use policy::Policy;
 use registry::Registry;
 use script::{Exit, run_on};
 use sqlbook::MemoryBook;
 use std::alloc::Global;
 use std::io::{Read, Write};
-use store::Book;
 
 /// Answers a script line by line, under a policy, over a registry in memory that starts empty. What
 /// was written before a fault stays.

@@ -19,7 +19,7 @@ use Rattle.sqlrows.proofs.StandLemmas.{same_if_shown, stands_if_not_shown}
 use Rattle.sqltables.specs.Content.{Content}
 use Rattle.sqltables.specs.inner.FirstTables.{first_registry}
 use Rattle.sqltables.proofs.StandingLemmas.{clean-of, honest, was-honest}
-use Rattle.transactions.specs.declared.fault.BookFault.{BookFault}
+use Rattle.states.specs.declared.fault.BookFault.{BookFault}
 use Rattle.oldrows.specs.inner.Stored.{Agrees, Asks, Finds, Fits, IsOld, old_contents, rows_in, stands}
 use Rattle.oldrows.specs.Stored.{IsRead, OldState}
 

@@ -8,9 +8,9 @@ use Rattle.sqlite_keyed.specs.Keyed.{IsKeyedBy, insert_by}
 use Rattle.sqlite_keyed.proofs.KeyedLemmas.{Less-from_lt}
 use Rattle.sqlite_keyed.proofs.ListLemmas.{all-append, all_both}
 use Rattle.sqlrows.specs.Meanings.{HasChanged}
-use Rattle.transactions.specs.declared.fault.BookFault.{BookFault}
-use Rattle.transactions.specs.States.{Makes, StateOf, Writes}
-use Rattle.transactions.proofs.LeavingLemmas.{leaves-on}
+use Rattle.states.specs.declared.fault.BookFault.{BookFault}
+use Rattle.states.specs.States.{Makes, StateOf, Writes}
+use Rattle.states.proofs.LeavingLemmas.{leaves-on}
 use Rattle.sqltables.specs.Content.{Content}
 use Rattle.oldrows.specs.Stored.{IsRead, OldState}
 use Rattle.oldrows.specs.inner.Copies.{Copies, IsCopied, IsLeft, IsOnItsWay, put_all}

@@ -1,7 +1,7 @@
 -- The tables of the schema before this one: those of today, without the lengths that are in force from a
 -- moment on, and without the ends of lines' graces.
 use Rattle.std.specs.Prelude.{◌≡◌, Bool, true}
-use Rattle.transactions.specs.declared.readiness.Ready.{Ready}
+use Rattle.states.specs.declared.readiness.Ready.{Ready}
 use Rattle.sqltables.specs.Content.{Content}
 
 -- What is held, whether nothing wrong was ever taken from what keeps it and it still answers, and whether

@@ -3,7 +3,7 @@ ghost use Rattle.std.specs.Prelude.{◌≡◌, ℤ, true, List, map, refl, IfOk}
 ghost use Rattle.sqlite_keyed.specs.Keyed.{insert_by};
 ghost use Rattle.sqltables.specs.Content.{Content};
 ghost use Rattle.oldrows.specs.inner.Stored.{Finds};
-ghost use Rattle.transactions.specs.States.{Makes};
+ghost use Rattle.states.specs.States.{Makes};
 ghost use Rattle.oldrows.specs.Copies.{renumbered};
 
 use crate::reading::OldRows;
@@ -14,8 +14,8 @@ use sqltables::{
     AccountRow, AddressRow, ContactRow, DomainRow, HostRow, LineRow, LinkRow, MessageRow, MetaRow,
     RowStore, SCHEMA_NUMBER, TransferRow,
 };
+use states::BookFault;
 use std::alloc::Global;
-use transactions::BookFault;
 
 const ACCOUNTS: &str =
     "SELECT id, ident, commands, messages, serial, waiting, balance, held FROM account ORDER BY id";

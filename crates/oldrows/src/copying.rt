@@ -1,7 +1,7 @@
 //! Rows, copied into the same tables of today.
 ghost use Rattle.std.specs.Prelude.{◌≡◌, true};
 ghost use Rattle.oldrows.specs.inner.Copies.{Copies, put_all, put_of, put_of_all};
-ghost use Rattle.transactions.specs.States.{Makes};
+ghost use Rattle.states.specs.States.{Makes};
 
 use crate::copied::Copied;
 use crate::reading::OldRows;
@@ -10,7 +10,7 @@ use sqltables::{
     AccountRow, AddressRow, ContactRow, DomainRow, HostRow, LineRow, LinkRow, MessageRow, MetaRow,
     RowStore, TransferRow,
 };
-use transactions::BookFault;
+use states::BookFault;
 
 /// A table that is copied.
 #[derive(Clone, Copy, Drop)]

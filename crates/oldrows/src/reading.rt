@@ -8,9 +8,9 @@ use sqlite::{Alter, Connection, Error};
 use sqlite_schema::schema::Schema;
 use sqlrows::{Record, begin, is_schema};
 use sqltables::{MetaRow, create_first, fault_of, read_all, reread};
+use states::{BookFault, Ready};
 use std::alloc::Global;
 use std::marker::Model;
-use transactions::{BookFault, Ready};
 
 /// The number of the schema before this one, which the row of `meta` keeps.
 const NUMBER: i64 = 1;

@@ -1,14 +1,16 @@
--- What a look at the clock leaves.
+-- What a look at the clock and a look-up leave.
 use Rattle.std.proofs.Common.{ℕ, inl, inr, ap}
 use Rattle.std.specs.Prelude.{Result, Ok, Err, IfErr, IfOk}
 use Rattle.policy.specs.Rules.{PolicyRules}
-use Rattle.privacy.specs.Runs.{Answer, Question}
-use Rattle.registry.specs.Calls.{CallKeeps}
+use Rattle.isolation.specs.Runs.{Answer, Question}
+use Rattle.model.specs.Registry.{Registry}
+use Rattle.registry.specs.Calls.{CallKeeps, LooksUpKeeping}
 use Rattle.registry.specs.Execution.{Fails, Greets, IsUnchanged}
+use Rattle.registry.specs.Faces.{LooksUp}
 use Rattle.registry.specs.declared.fault.Fault.{Fault}
 use Rattle.registry.specs.declared.fault.Fault.TheVariants as faults
 use Rattle.server.specs.Http.{Passes}
-use Rattle.store.specs.Book.{BookState, Stored}
+use Rattle.books.specs.Book.{BookState, Stored}
 
 unchanged : (fault : Fault) (old new : BookState) → Fails fault old new → IsUnchanged old new
 unchanged faults.Memory old new fails = fails.0
@@ -24,6 +26,22 @@ looked p moment x told makes (Ok date) after old new greets fails keeps = record
   follows = keeps.follows;
 }
 looked p moment x told makes (Err fault) after old new greets fails keeps =
+    let kept : IsUnchanged old new = unchanged fault old new fails in
+    record {
+      registry = λ clean. inl (ap (λ (held : Stored). held.registry) (kept.content clean));
+      terms = λ clean. ap (λ (held : Stored). held.terms) (kept.content clean);
+      follows = keeps.follows;
+    }
+
+-- a look-up neither
+pub passes_by : {X : Type 0} (p : PolicyRules) (moment : ℕ) (find : Registry → X) (makes : Stored → Stored → Type 0) (result : Result X Fault) (after : PolicyRules) (old new : BookState) → IfOk result (λ found. LooksUp p find moment found old new)
+    → LooksUpKeeping p moment makes result after old new → IfErr result (λ fault. Fails fault old new) → Passes p moment old new
+passes_by p moment find makes (Ok found) after old new step keeps fails = record {
+  registry = λ clean. inr (step clean).left;
+  terms = keeps.answered.terms;
+  follows = keeps.follows;
+}
+passes_by p moment find makes (Err fault) after old new step keeps fails =
     let kept : IsUnchanged old new = unchanged fault old new fails in
     record {
       registry = λ clean. inl (ap (λ (held : Stored). held.registry) (kept.content clean));

@@ -3,7 +3,7 @@ use Rattle.std.specs.Prelude.{ℕ, List, [], ◌∷◌, ◌++◌, codes, decimal
 use Rattle.operator.specs.declared.answer.Outcome.{Outcome}
 use Rattle.operator.specs.declared.answer.Outcome.TheVariants.{Done, Malformed, Unauthorized, NotFound, OnlyGet, OnlyPost, Conflict, LengthRequired, TooLarge, Failed}
 use Rattle.operator.specs.declared.answer.Kind.{Kind}
-use Rattle.operator.specs.declared.answer.Kind.TheVariants.{Json, Plain, Prometheus}
+use Rattle.operator.specs.declared.answer.Kind.TheVariants.{Json, Plain, Prometheus, Csv}
 use Rattle.operator.specs.declared.request.Refusal.{Refusal}
 use Rattle.operator.specs.declared.request.Refusal.TheVariants as refusals
 
@@ -37,6 +37,8 @@ abbrev pub type_of : Kind → List ℕ
 type_of Json = codes "application/json"
 type_of Plain = codes "text/plain"
 type_of Prometheus = codes "text/plain; version=0.0.4"
+-- RFC 4180, 3
+type_of Csv = codes "text/csv"
 
 -- the pieces, one after the other
 abbrev pub joined : List (List ℕ) → List ℕ
@@ -56,10 +58,24 @@ response outcome kind body = head outcome kind (length body) ++ body
 
 -- ---- refusals
 
+-- what is answered where nothing is done: the outcome, and the same words as the body
+abbrev pub refusal : Outcome → List ℕ
+refusal outcome = response outcome Plain (status_of outcome)
+
 abbrev pub outcome_of : Refusal → Outcome
 outcome_of refusals.Token = Unauthorized
 outcome_of refusals.Target = NotFound
+outcome_of refusals.Query = Malformed
 outcome_of refusals.OnlyGet = OnlyGet
 outcome_of refusals.OnlyPost = OnlyPost
 outcome_of refusals.Length = LengthRequired
 outcome_of refusals.Size = TooLarge
+
+-- ---- figures
+
+-- the registry's clock, in seconds since 1970, in Prometheus' text format
+unfoldable pub clock_figure : ℕ → List ℕ
+clock_figure clock = joined (
+    codes "# TYPE tldreg_registry_clock_seconds gauge\ntldreg_registry_clock_seconds " ∷ decimal clock
+    ∷ codes "\n" ∷ []
+    )

@@ -2,9 +2,10 @@
 use Rattle.std.specs.Prelude.{◌≡◌, ℕ, List, [], ◌++◌, length, Option, IfSome}
 use Rattle.httparse.specs.Grammar.{ReadsRequest, RequestHead}
 use Rattle.operator.specs.declared.request.Asked.{Asked}
-use Rattle.operator.specs.declared.request.Asked.TheVariants.{Order, Zone, Metrics, Refused}
+use Rattle.operator.specs.declared.request.Asked.TheVariants.{Order, Zone, Metrics, Statement, Refused}
 use Rattle.operator.specs.declared.hearing.TheConstants.{MOST_HEAD}
 use Rattle.operator.specs.Requests.{IsAskedBy}
+use Rattle.policy.specs.Rules.{PolicyRules}
 
 -- the most bytes of a head, with the empty line at its end
 abbrev pub most_head : ℕ
@@ -15,12 +16,13 @@ abbrev pub IsBodyOf : Asked → List ℕ → Type 0
 IsBodyOf (Order n) body = length body ≡ n
 IsBodyOf Zone body = body ≡ []
 IsBodyOf Metrics body = body ≡ []
+IsBodyOf (Statement extract) body = body ≡ []
 IsBodyOf (Refused why) body = body ≡ []
 
 -- The input begins with a head by which this is asked, and with this body behind it. Of an input that isn't
 -- known, some head is heard.
-pub record IsHeard (credentials : List ℕ) (input : Option (List ℕ)) (asked : Asked) (body : List ℕ) : Type 0 where
+pub record IsHeard (p : PolicyRules) (credentials : List ℕ) (input : Option (List ℕ)) (asked : Asked) (body : List ℕ) : Type 0 where
   pub head : RequestHead
-  pub by : IsAskedBy credentials head asked
+  pub by : IsAskedBy p credentials head asked
   pub begins : IfSome input (λ bytes. (rest : List ℕ) × ReadsRequest bytes head (body ++ rest))
   pub whole : IsBodyOf asked body

@@ -1,15 +1,18 @@
 -- What a request of the operator's does to a registry, and what it is answered.
-use Rattle.std.specs.Prelude.{◌≡◌, ◌⊎◌, ℕ, List, [], take, Option, Some, None}
+use Rattle.std.specs.Prelude.{◌≡◌, ◌⊎◌, ℕ, max, true, List, [], ◌++◌, take, Option, Some, None}
 use Rattle.std.specs.Io.KnownBytes.{Appends}
 use Rattle.eppcommands.specs.Order.{order_in}
 use Rattle.frames.specs.Clocks.{Tells, first_moment}
-use Rattle.operator.specs.Answers.{response}
+use Rattle.accounts.specs.declared.line.Line.{Line}
+use Rattle.model.specs.Lapse.{lapsed}
+use Rattle.model.specs.Registry.{account_of}
+use Rattle.operator.specs.Answers.{clock_figure, outcome_of, refusal, response}
 use Rattle.operator.specs.Heard.{IsHeard}
 use Rattle.operator.specs.declared.answer.Kind.TheVariants as kinds
 use Rattle.operator.specs.declared.answer.Outcome.{Outcome}
 use Rattle.operator.specs.declared.answer.Outcome.TheVariants as outcomes
 use Rattle.operator.specs.declared.request.Asked.{Asked}
-use Rattle.operator.specs.declared.request.Asked.TheVariants.{Order, Zone, Metrics, Refused}
+use Rattle.operator.specs.declared.request.Asked.TheVariants.{Order, Zone, Metrics, Statement, Refused}
 use Rattle.operator.specs.declared.serving.RequestEnd.{RequestEnd}
 use Rattle.operator.specs.declared.serving.RequestEnd.TheVariants as ends
 use Rattle.policy.specs.Rules.{PolicyRules}
@@ -21,7 +24,9 @@ use Rattle.script.specs.declared.exit.Exit.TheVariants as exits
 use Rattle.script.specs.Deposits.{IsCarriedOut}
 use Rattle.script.specs.Orders.{IsOrdered, IsTold}
 use Rattle.server.specs.Http.{Passes}
-use Rattle.store.specs.Book.{BookState}
+use Rattle.statements.specs.Tables.{statement}
+use Rattle.statements.specs.declared.extract.Extract.{Extract}
+use Rattle.books.specs.Book.{BookState}
 
 -- ---- orders
 
@@ -79,18 +84,61 @@ DoesOrder p body clock later old new before after end =
 abbrev pub DoesZone : PolicyRules → (clock later : Option (List ℕ)) → (old new : BookState) → Type 0
 DoesZone p clock later old new = (moment : ℕ) × Tells clock later moment × Passes p moment old new
 
+-- ---- statements
+
+-- the lines of a registrar's account at a moment: what is due by then has lapsed
+abbrev pub lines_at : PolicyRules → ℕ → ℕ → BookState → List Line
+lines_at p r moment old = (account_of r (lapsed p moment old.content.registry)).lines
+
+-- the statement of these lines, if nothing wrong was taken from what keeps the book
+abbrev pub IsStatement : PolicyRules → Extract → ℕ → (old new : BookState) → List ℕ → Type 0
+IsStatement p x moment old new text =
+    new.is_clean ≡ true → text ≡ statement x.bounds (lines_at p x.registrar moment old)
+
+-- A statement at one moment, which changes nothing but that time passes. Where the registry gave up, or there was
+-- no memory, that is said.
+abbrev pub DoesStatement : PolicyRules → Extract → (clock later : Option (List ℕ)) → (old new : BookState)
+    → (before after : Option (List ℕ)) → RequestEnd → Type 0
+DoesStatement p x clock later old new before after end =
+    (moment : ℕ) × Tells clock later moment × Passes p moment old new
+    × (((text : List ℕ) × IsStatement p x moment old new text × IsSent (response outcomes.Done kinds.Csv text) before after end)
+    ⊎ IsSent (refusal outcomes.Failed) before after end)
+
+-- ---- figures
+
+-- what the registry's clock is told as
+abbrev pub IsClock : (old new : BookState) → ℕ → Type 0
+IsClock old new clock = new.is_clean ≡ true → clock ≡ max first_moment old.content.registry.clock
+
+-- some figures, with a clock at their end
+abbrev pub IsFigures : ℕ → (before after : Option (List ℕ)) → RequestEnd → Type 0
+IsFigures clock before after end =
+    ((text : List ℕ) × IsSent (response outcomes.Done kinds.Prometheus (text ++ clock_figure clock)) before after end)
+    ⊎ IsSent (refusal outcomes.Failed) before after end
+
+-- figures with the registry's clock, or that there are none
+abbrev pub SendsFigures : (old new : BookState) → (before after : Option (List ℕ)) → RequestEnd → Type 0
+SendsFigures old new before after end =
+    ((clock : ℕ) × IsClock old new clock × IsFigures clock before after end)
+    ⊎ IsSent (refusal outcomes.Failed) before after end
+
+-- ---- all that is asked
+
 -- What is done for what is asked. For figures the registry's clock is looked at, and what is refused does nothing.
 abbrev pub Does : PolicyRules → Asked → List ℕ → (clock later : Option (List ℕ)) → (old new : BookState)
     → (before after : Option (List ℕ)) → RequestEnd → Type 0
 Does p (Order n) body clock later old new before after end = DoesOrder p body clock later old new before after end
 Does p Zone body clock later old new before after end = DoesZone p clock later old new
 Does p Metrics body clock later old new before after end =
-    (later ≡ clock) × Passes p first_moment old new
-Does p (Refused why) body clock later old new before after end = (later ≡ clock) × (new ≡ old)
+    (later ≡ clock) × Passes p first_moment old new × SendsFigures old new before after end
+Does p (Statement extract) body clock later old new before after end = DoesStatement p extract clock later old new before after end
+Does p (Refused why) body clock later old new before after end =
+    (later ≡ clock) × (new ≡ old) × IsSent (refusal (outcome_of why)) before after end
 
--- A request: what is done is what its head asks for, of who has the token. Where none is heard nothing is done.
+-- A request: what is done is what its head asks for, of who has the token. Where none is heard nothing is done, and
+-- that is said or nothing is.
 abbrev pub Operates : PolicyRules → List ℕ → (input clock : Option (List ℕ)) → BookState
     → (before after later : Option (List ℕ)) → BookState → RequestEnd → Type 0
 Operates p credentials input clock old before after later new end =
-    ((later ≡ clock) × (new ≡ old))
-    ⊎ ((asked : Asked) × (body : List ℕ) × IsHeard credentials input asked body × Does p asked body clock later old new before after end)
+    ((later ≡ clock) × (new ≡ old) × IsSent (refusal outcomes.Malformed) before after end)
+    ⊎ ((asked : Asked) × (body : List ℕ) × IsHeard p credentials input asked body × Does p asked body clock later old new before after end)

@@ -6,8 +6,11 @@ use Rattle.std.specs.Str.Parse.{IsNumeral, digits_value}
 use Rattle.httparse.specs.Grammar.{ReadsRequest, RequestHead}
 use Rattle.httparse.specs.Spans.{name_and_value}
 use Rattle.operator.specs.declared.request.Asked.{Asked}
-use Rattle.operator.specs.declared.request.Asked.TheVariants.{Order, Zone, Metrics, Refused}
+use Rattle.operator.specs.declared.request.Asked.TheVariants.{Order, Zone, Metrics, Statement, Refused}
 use Rattle.operator.specs.declared.request.Refusal.TheVariants as refusals
+use Rattle.statements.specs.declared.extract.Bounds.{Bounds}
+use Rattle.statements.specs.Extracts.{account_asked, after, bounds_asked}
+use Rattle.policy.specs.Rules.{PolicyRules}
 use Rattle.operator.specs.declared.request.TheConstants.{MOST_BODY}
 use Rattle.operator.specs.declared.token.TheConstants.{LEAST_TOKEN}
 
@@ -77,26 +80,41 @@ ordered (Some n) = if nat_le n most_body then Order n else Refused refusals.Size
 abbrev pub got : List ℕ → Asked → Asked
 got method asked = if bytes_eq method (codes "GET") then asked else Refused refusals.OnlyGet
 
+-- the statement of a registrar's account, between moments that read
+abbrev pub stated : Option Bounds → ℕ → Asked
+stated None r = Refused refusals.Query
+stated (Some bounds) r = Statement (record { registrar = r; bounds = bounds })
+
+-- of a registrar of the policy (RFC 9110, 15.5.1)
+abbrev pub of_registrar : Option ℕ → Option Bounds → List ℕ → Asked
+of_registrar None bounds method = Refused refusals.Target
+of_registrar (Some r) bounds method = got method (stated bounds r)
+
+-- what a target of none of the others asks for, by what follows /statement/ in it
+abbrev pub elsewhere : PolicyRules → Option (List ℕ) → List ℕ → Asked
+elsewhere p None method = Refused refusals.Target
+elsewhere p (Some text) method = of_registrar (account_asked p text) (bounds_asked text) method
+
 -- of who has the token, by method and target (RFC 9110, 15.5.5 and 15.5.6)
-abbrev pub routed : List ℕ → List ℕ → Option ℕ → Asked
-routed method target length =
+abbrev pub routed : PolicyRules → List ℕ → List ℕ → Option ℕ → Asked
+routed p method target length =
     if bytes_eq target (codes "/orders") then (if bytes_eq method (codes "POST") then ordered length else Refused refusals.OnlyPost)
     else (if bytes_eq target (codes "/zone") then got method Zone
     else (if bytes_eq target (codes "/metrics") then got method Metrics
-    else Refused refusals.Target))
+    else elsewhere p (after (codes "/statement/") target) method))
 
 -- who doesn't have it is refused, whatever is asked (RFC 9110, 15.5.2)
-abbrev pub asked_by : Bool → List ℕ → List ℕ → Option ℕ → Asked
-asked_by false method target length = Refused refusals.Token
-asked_by true method target length = routed method target length
+abbrev pub asked_by : PolicyRules → Bool → List ℕ → List ℕ → Option ℕ → Asked
+asked_by p false method target length = Refused refusals.Token
+asked_by p true method target length = routed p method target length
 
 -- what is asked by a head, of who has these credentials
-pub record IsAskedBy (credentials : List ℕ) (h : RequestHead) (asked : Asked) : Type 0 where
+pub record IsAskedBy (p : PolicyRules) (credentials : List ℕ) (h : RequestHead) (asked : Asked) : Type 0 where
   pub length : Option ℕ
   pub told : IfSome length (IsLength (map name_and_value h.fields))
-  pub is : asked ≡ asked_by (bears credentials (map name_and_value h.fields)) h.method h.target length
+  pub is : asked ≡ asked_by p (bears credentials (map name_and_value h.fields)) h.method h.target length
 
 -- the bytes begin with a head by which this is asked, and which ends behind so many of them
-abbrev pub HasHead : List ℕ → List ℕ → Asked → ℕ → Type 0
-HasHead credentials bytes asked len =
-    (h : RequestHead) × ReadsRequest bytes h (drop len bytes) × (len ≤ length bytes) × IsAskedBy credentials h asked
+abbrev pub HasHead : PolicyRules → List ℕ → List ℕ → Asked → ℕ → Type 0
+HasHead p credentials bytes asked len =
+    (h : RequestHead) × ReadsRequest bytes h (drop len bytes) × (len ≤ length bytes) × IsAskedBy p credentials h asked

@@ -28,6 +28,7 @@ pub enum Kind {
     Json,
     Plain,
     Prometheus,
+    Csv,
 }
 
 impl Outcome {
@@ -70,6 +71,7 @@ impl Kind {
             Kind::Json => "application/json",
             Kind::Plain => "text/plain",
             Kind::Prometheus => "text/plain; version=0.0.4",
+            Kind::Csv => "text/csv",
         }
     }
 }
@@ -81,6 +83,7 @@ pub fn outcome_of(refusal: Refusal) -> Outcome
     match refusal {
         Refusal::Token => Outcome::Unauthorized,
         Refusal::Target => Outcome::NotFound,
+        Refusal::Query => Outcome::Malformed,
         Refusal::OnlyGet => Outcome::OnlyGet,
         Refusal::OnlyPost => Outcome::OnlyPost,
         Refusal::Length => Outcome::LengthRequired,

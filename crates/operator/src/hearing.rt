@@ -7,6 +7,7 @@ ghost use Rattle.operator.specs.Heard.{IsBodyOf, IsHeard, most_head};
 use crate::request::{Asked, MOST_FIELDS, read_head};
 use httparse::Status;
 use httparse::spans::{EMPTY_HEADER_SPAN, parse_request};
+use policy::Policy;
 use std::alloc::{AllocError, Global};
 use std::io::{ErrorKind, Read};
 use streams::{ReadFault, read_to_fill};
@@ -31,28 +32,34 @@ pub enum Unheard {
 }
 
 /// Reads a request: its head, and behind it the body of an order.
-pub fn hear<R: Read>(alloc: Global, credentials: &[u8], reader: &mut R) -> Result<Heard, Unheard>
-    ensures { IfOk result (λ heard. IsHeard credentials.now (R.remaining reader.old) heard.asked
+pub fn hear<R: Read>(
+    alloc: Global,
+    policy: &Policy,
+    credentials: &[u8],
+    reader: &mut R,
+) -> Result<Heard, Unheard>
+    ensures { IfOk result (λ heard. IsHeard policy.now credentials.now (R.remaining reader.old) heard.asked
         heard.body.items) }
 {
     let Ok(mut buffer) = head_buffer(alloc) else {
         return Err(Unheard::Lost);
     };
-    hear_in(alloc, credentials, &mut buffer, reader)
+    hear_in(alloc, policy, credentials, &mut buffer, reader)
 }
 
 /// The same with memory for its head.
 fn hear_in<R: Read>(
     alloc: Global,
+    policy: &Policy,
     credentials: &[u8],
     buffer: &mut [u8],
     reader: &mut R,
 ) -> Result<Heard, Unheard>
-    ensures { IfOk result (λ heard. IsHeard credentials.now (R.remaining reader.old) heard.asked
+    ensures { IfOk result (λ heard. IsHeard policy.now credentials.now (R.remaining reader.old) heard.asked
         heard.body.items) }
 {
     match read_to_head(reader, buffer) {
-        Ok(count) => hear_behind(alloc, credentials, front_of(buffer, count), reader),
+        Ok(count) => hear_behind(alloc, policy, credentials, front_of(buffer, count), reader),
         Err(ReadFault) => Err(Unheard::Lost),
     }
 }
@@ -60,29 +67,30 @@ fn hear_in<R: Read>(
 /// The same where a beginning was read.
 fn hear_behind<R: Read>(
     alloc: Global,
+    policy: &Policy,
     credentials: &[u8],
     front: &[u8],
     reader: &mut R,
 ) -> Result<Heard, Unheard>
-    ensures { IfOk result (λ heard. IsHeard credentials.now
+    ensures { IfOk result (λ heard. IsHeard policy.now credentials.now
         (option_append (Some front.now) (R.remaining reader.old)) heard.asked heard.body.items) }
 {
-    let Some((asked, len)) = read_head(credentials, front) else {
+    let Some((asked, len)) = read_head(policy, credentials, front) else {
         return Err(Unheard::Headless);
     };
-    let body = body_of(alloc, asked, &mut behind(front, len).chain(reader))?;
+    let body = body_of(alloc, &asked, &mut behind(front, len).chain(reader))?;
     Ok(Heard { asked, body })
 }
 
 /// The body that an order has.
-fn body_of<R: Read>(alloc: Global, asked: Asked, reader: &mut R) -> Result<Vec<u8>, Unheard>
+fn body_of<R: Read>(alloc: Global, asked: &Asked, reader: &mut R) -> Result<Vec<u8>, Unheard>
     ensures bytes { IfOk result (λ body. Consumes (R.remaining reader.old) (R.remaining reader.new)
         body.items) }
-    ensures whole { IfOk result (λ body. IsBodyOf asked body.items) }
+    ensures whole { IfOk result (λ body. IsBodyOf asked.now body.items) }
 {
     match asked {
-        Asked::Order(length) => read_body(alloc, length, reader),
-        Asked::Zone | Asked::Metrics | Asked::Refused(_) => Ok(Vec::new(alloc)),
+        Asked::Order(length) => read_body(alloc, *length, reader),
+        _ => Ok(Vec::new(alloc)),
     }
 }
 

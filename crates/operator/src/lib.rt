@@ -1,4 +1,4 @@
-//! The operator's port: orders, the zone and figures over HTTP, for whoever has the token.
+//! The operator's port: orders, the zone, figures and statements of accounts over HTTP, for whoever has the token.
 //!
 //! - `request`: what a head asks for, by its token, its method and its target; `token` compares.
 //! - `hearing`: a request as a connection gives it, head and body.

@@ -2,15 +2,15 @@
 ghost use Rattle.std.specs.Prelude.{◌≡◌, Some, []};
 ghost use Rattle.operator.specs.Operations.{Orders};
 ghost use Rattle.operator.specs.Operations as spec;
-ghost use Rattle.store.specs.Book.{Follows};
+ghost use Rattle.books.specs.Book.{Follows};
 
 use crate::answer::Outcome;
+use books::Book;
 use calendar::Moment;
 use protocol::Code;
 use registry::Registry;
 use script::{Exit, order_on};
 use std::alloc::Global;
-use store::Book;
 
 /// What becomes of an order, and the text that tells it.
 #[derive(Drop)]

@@ -1,13 +1,16 @@
 //! What a request of the operator's asks for.
-ghost use Rattle.std.specs.Prelude.{◌≡◌, ◌≤◌, length, map, drop, All, IfSome, option_map};
+ghost use Rattle.std.specs.Prelude.{◌≡◌, ◌≤◌, length, map, drop, All, IfSome, Some, option_map};
 ghost use Rattle.std.specs.List.{list_any};
 ghost use Rattle.httparse.specs.Spans.{IsHeaderWithin, header_bytes};
 ghost use Rattle.operator.specs.Requests as spec;
 ghost use Rattle.operator.specs.Requests.{HasHead, IsLength};
 
 use crate::token::is_same;
+use basis::registrar::RegistrarNo;
 use httparse::Status;
 use httparse::spans::{EMPTY_HEADER_SPAN, HeaderSpan, parse_request};
+use policy::Policy;
+use statements::{Bounds, Extract, account_asked, after, bounds_asked};
 
 /// The most bytes of an order: those of a frame's payload.
 pub const MOST_BODY: usize = 65_536;
@@ -24,6 +27,8 @@ pub enum Asked {
     Zone,
     /// `GET /metrics`
     Metrics,
+    /// `GET /statement/REGISTRAR?from=MOMENT&to=MOMENT`
+    Statement(Extract),
     /// Something that is refused.
     Refused(Refusal),
 }
@@ -35,6 +40,8 @@ pub enum Refusal {
     Token,
     /// There is no such target.
     Target,
+    /// What stands behind its question mark are no two moments.
+    Query,
     /// Its target has the method GET alone.
     OnlyGet,
     /// Its target has the method POST alone.
@@ -46,14 +53,15 @@ pub enum Refusal {
 }
 
 /// What the head asks for that bytes begin with, and how long it is. None where they begin with none.
-pub fn read_head(credentials: &[u8], bytes: &[u8]) -> Option<(Asked, usize)>
-    ensures { IfSome result (λ read. HasHead credentials.now bytes.now read.0 read.1) }
+pub fn read_head(policy: &Policy, credentials: &[u8], bytes: &[u8]) -> Option<(Asked, usize)>
+    ensures { IfSome result (λ read. HasHead policy.now credentials.now bytes.now read.0 read.1) }
 {
     let mut headers = [EMPTY_HEADER_SPAN; MOST_FIELDS];
     match parse_request(bytes, &mut headers) {
         Ok(Status::Complete(head)) => {
             let fields = &headers[..head.headers];
             let asked = asked_by(
+                policy,
                 bears(credentials, bytes, fields),
                 head.method.of(bytes),
                 head.path.of(bytes),
@@ -67,18 +75,24 @@ pub fn read_head(credentials: &[u8], bytes: &[u8]) -> Option<(Asked, usize)>
 
 // ---- what is asked
 
-fn asked_by(has_token: bool, method: &[u8], target: &[u8], length: Option<usize>) -> Asked
-    ensures { result ≡ spec.asked_by has_token method.now target.now length }
+fn asked_by(
+    policy: &Policy,
+    has_token: bool,
+    method: &[u8],
+    target: &[u8],
+    length: Option<usize>,
+) -> Asked
+    ensures { result ≡ spec.asked_by policy.now has_token method.now target.now length }
 {
     if has_token {
-        routed(method, target, length)
+        routed(policy, method, target, length)
     } else {
         Asked::Refused(Refusal::Token)
     }
 }
 
-fn routed(method: &[u8], target: &[u8], length: Option<usize>) -> Asked
-    ensures { result ≡ spec.routed method.now target.now length }
+fn routed(policy: &Policy, method: &[u8], target: &[u8], length: Option<usize>) -> Asked
+    ensures { result ≡ spec.routed policy.now method.now target.now length }
 {
     if target == b"/orders".as_slice() {
         if method == b"POST".as_slice() {
@@ -91,7 +105,36 @@ fn routed(method: &[u8], target: &[u8], length: Option<usize>) -> Asked
     } else if target == b"/metrics".as_slice() {
         got(method, Asked::Metrics)
     } else {
-        Asked::Refused(Refusal::Target)
+        elsewhere(policy, after(b"/statement/", target), method)
+    }
+}
+
+/// What a target of none of the others asks for, by what follows `/statement/` in it.
+fn elsewhere(policy: &Policy, text: Option<&[u8]>, method: &[u8]) -> Asked
+    ensures { result ≡ spec.elsewhere policy.now (option_map (λ text. text.now) text.entry)
+        method.now }
+{
+    match text {
+        Some(text) => statement_of(policy, text, method),
+        None => Asked::Refused(Refusal::Target),
+    }
+}
+
+fn statement_of(policy: &Policy, text: &[u8], method: &[u8]) -> Asked
+    ensures { result ≡ spec.elsewhere policy.now (Some text.now) method.now }
+{
+    match account_asked(policy, text) {
+        Some(registrar) => got(method, stated(bounds_asked(text), registrar)),
+        None => Asked::Refused(Refusal::Target),
+    }
+}
+
+fn stated(bounds: Option<Bounds>, registrar: RegistrarNo) -> Asked
+    ensures { result ≡ spec.stated bounds registrar }
+{
+    match bounds {
+        Some(bounds) => Asked::Statement(Extract { registrar, bounds }),
+        None => Asked::Refused(Refusal::Query),
     }
 }
 

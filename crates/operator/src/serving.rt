@@ -1,11 +1,11 @@
 //! A connection of the operator's: one request.
-ghost use Rattle.std.specs.Prelude.{◌≡◌, ◌≤◌, OnOk};
-ghost use Rattle.operator.specs.Answers.{response};
+ghost use Rattle.std.specs.Prelude.{◌≡◌, ◌≤◌, true, string_bytes, IfSome, OnOk};
+ghost use Rattle.operator.specs.Answers.{refusal, response};
 ghost use Rattle.operator.specs.Operations.{Does, IsSent, Operates};
 ghost use Rattle.operator.specs.Operations as spec;
 ghost use Rattle.server.specs.Http.{Passes};
 ghost use Rattle.frames.specs.Clocks.{Tells, first_moment};
-ghost use Rattle.store.specs.Book.{Follows};
+ghost use Rattle.books.specs.Book.{Follows};
 
 use crate::answer::{Kind, Outcome, outcome_of, response};
 use crate::chunks::Chunks;
@@ -13,13 +13,16 @@ use crate::figures::{Figures, figures_of};
 use crate::hearing::{Heard, Unheard, hear};
 use crate::orders::order_at;
 use crate::request::Asked;
+use accounts::Lines;
+use basis::registrar::RegistrarNo;
+use books::Book;
 use calendar::Moment;
 use frames::Clock;
 use registry::Registry;
 use server::{ZoneExportFault, zone_on};
+use statements::{Extract, statement};
 use std::alloc::Global;
 use std::io::{Read, Write};
-use store::Book;
 use streams::{WriteFault, write_whole};
 
 /// How a connection of the operator's ended.
@@ -50,7 +53,7 @@ pub fn serve_request<R: Read, W: Write, C: Clock, F: Figures, B: Book + Drop>(
     ensures follows { Follows (B.state registry.old.book) (B.state registry.new.book) }
     ensures policy { registry.new.policy ≡ registry.old.policy }
 {
-    match hear(alloc, credentials, reader) {
+    match hear(alloc, registry.policy(), credentials, reader) {
         Ok(heard) => {
             let Heard { asked, body } = heard;
             answer(alloc, figures, asked, &body, writer, clock, registry)
@@ -80,6 +83,7 @@ fn answer<W: Write, C: Clock, F: Figures, B: Book + Drop>(
         Asked::Order(_) => answer_order(alloc, body, writer, clock, registry),
         Asked::Zone => answer_zone(alloc, writer, clock, registry),
         Asked::Metrics => answer_metrics(alloc, figures, writer, registry),
+        Asked::Statement(extract) => answer_statement(alloc, extract, writer, clock, registry),
         Asked::Refused(why) => refuse(alloc, outcome_of(why), writer),
     }
 }
@@ -157,6 +161,59 @@ fn end_of_zone<W: Write + Drop>(told: Result<(), ZoneExportFault>, chunks: Chunk
     }
 }
 
+/// Sends the statement of an account at the clock's moment.
+fn answer_statement<W: Write, C: Clock, B: Book + Drop>(
+    alloc: Global,
+    extract: Extract,
+    writer: &mut W,
+    clock: &mut C,
+    registry: &mut Registry<B>,
+) -> RequestEnd
+    ensures does { spec.DoesStatement registry.old.policy extract (C.moments clock.old)
+        (C.moments clock.new) (B.state registry.old.book) (B.state registry.new.book)
+        (W.contents writer.old) (W.contents writer.new) result }
+    ensures follows { Follows (B.state registry.old.book) (B.state registry.new.book) }
+    ensures policy { registry.new.policy ≡ registry.old.policy }
+{
+    let moment = clock.moment();
+    match statement_at(alloc, registry, moment, extract) {
+        Some(text) => send(alloc, Outcome::Done, Kind::Csv, text.as_bytes(), writer),
+        None => refuse(alloc, Outcome::Failed, writer),
+    }
+}
+
+/// The statement of an account at a moment.
+fn statement_at<B: Book + Drop>(
+    alloc: Global,
+    registry: &mut Registry<B>,
+    moment: Moment,
+    extract: Extract,
+) -> Option<String>
+    ensures told { IfSome result (λ text. spec.IsStatement registry.old.policy extract moment
+        (B.state registry.old.book) (B.state registry.new.book) (string_bytes text)) }
+    ensures passes { Passes registry.old.policy moment (B.state registry.old.book)
+        (B.state registry.new.book) }
+    ensures policy { registry.new.policy ≡ registry.old.policy }
+{
+    let lines = lines_at(registry, moment, extract.registrar)?;
+    statement(alloc, &lines, extract.bounds).ok()
+}
+
+/// The lines of an account at a moment.
+fn lines_at<B: Book + Drop>(
+    registry: &mut Registry<B>,
+    moment: Moment,
+    registrar: RegistrarNo,
+) -> Option<Lines>
+    ensures told { IfSome result (λ lines. (B.state registry.new.book).is_clean ≡ true
+        → lines ≡ spec.lines_at registry.old.policy registrar moment (B.state registry.old.book)) }
+    ensures passes { Passes registry.old.policy moment (B.state registry.old.book)
+        (B.state registry.new.book) }
+    ensures policy { registry.new.policy ≡ registry.old.policy }
+{
+    registry.lines(registrar, moment).ok()
+}
+
 /// Sends figures of the program and of the registry's clock.
 fn answer_metrics<W: Write, F: Figures, B: Book + Drop>(
     alloc: Global,
@@ -166,13 +223,27 @@ fn answer_metrics<W: Write, F: Figures, B: Book + Drop>(
 ) -> RequestEnd
     ensures passes { Passes registry.old.policy first_moment (B.state registry.old.book)
         (B.state registry.new.book) }
+    ensures sends { spec.SendsFigures (B.state registry.old.book) (B.state registry.new.book)
+        (W.contents writer.old) (W.contents writer.new) result }
     ensures follows { Follows (B.state registry.old.book) (B.state registry.new.book) }
     ensures policy { registry.new.policy ≡ registry.old.policy }
 {
-    let Some(now) = clock_of(registry) else {
-        return refuse(alloc, Outcome::Failed, writer);
-    };
-    match figures_of(alloc, figures, now) {
+    match clock_of(registry) {
+        Some(now) => send_figures(alloc, figures, now, writer),
+        None => refuse(alloc, Outcome::Failed, writer),
+    }
+}
+
+/// Sends figures of the program and of a clock.
+fn send_figures<W: Write, F: Figures>(
+    alloc: Global,
+    figures: &F,
+    clock: Moment,
+    writer: &mut W,
+) -> RequestEnd
+    ensures { spec.IsFigures clock (W.contents writer.old) (W.contents writer.new) result }
+{
+    match figures_of(alloc, figures, clock) {
         Ok(text) => send(
             alloc,
             Outcome::Done,
@@ -186,6 +257,8 @@ fn answer_metrics<W: Write, F: Figures, B: Book + Drop>(
 
 /// The registry's clock: what it tells at the first moment of all.
 fn clock_of<B: Book + Drop>(registry: &mut Registry<B>) -> Option<Moment>
+    ensures told { IfSome result (λ clock. spec.IsClock (B.state registry.old.book)
+        (B.state registry.new.book) clock) }
     ensures passes { Passes registry.old.policy first_moment (B.state registry.old.book)
         (B.state registry.new.book) }
     ensures policy { registry.new.policy ≡ registry.old.policy }
@@ -194,7 +267,9 @@ fn clock_of<B: Book + Drop>(registry: &mut Registry<B>) -> Option<Moment>
 }
 
 /// Answers that nothing is done.
-fn refuse<W: Write>(alloc: Global, outcome: Outcome, writer: &mut W) -> RequestEnd {
+fn refuse<W: Write>(alloc: Global, outcome: Outcome, writer: &mut W) -> RequestEnd
+    ensures { IsSent (refusal outcome) (W.contents writer.old) (W.contents writer.new) result }
+{
     send(
         alloc,
         outcome,

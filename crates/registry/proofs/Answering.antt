@@ -4,7 +4,7 @@ use Rattle.model.specs.Lapse.{lapsed}
 use Rattle.model.specs.Registry.{Registry}
 use Rattle.model.proofs.LapseLaws.{lapses-on}
 use Rattle.policy.specs.Rules.{PolicyRules}
-use Rattle.privacy.specs.Runs.{IsCall, code, command, date, dated, look_up, order, reply, shown}
+use Rattle.isolation.specs.Runs.{IsCall, code, command, date, dated, look_up, order, reply, shown}
 use Rattle.protocol.specs.declared.code.Code.{Code}
 use Rattle.protocol.specs.declared.command.Command.{Command}
 use Rattle.protocol.specs.declared.order.Order.{Order}

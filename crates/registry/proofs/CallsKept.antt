@@ -7,8 +7,8 @@ use Rattle.model.specs.WellFormed.{IsRegistry, last_clock}
 use Rattle.model.proofs.LapseLaws.{lapsed-is-settled}
 use Rattle.policy.specs.Rules.{PolicyRules, IsRegistrar, IsSound}
 use Rattle.policy.specs.Terms.{terms_of}
-use Rattle.privacy.specs.Runs.{Answer, IsCall, Question, command, date, look_up, order}
-use Rattle.privacy.proofs.RunLemmas.{calls-are-steps-of-two}
+use Rattle.isolation.specs.Runs.{Answer, IsCall, Question, command, date, look_up, order}
+use Rattle.isolation.proofs.RunLemmas.{calls-are-steps-of-two}
 use Rattle.protocol.specs.declared.command.Command.{Command}
 use Rattle.protocol.specs.declared.order.Order.{Order}
 use Rattle.registry.specs.declared.fault.Fault.{Fault}
@@ -18,13 +18,13 @@ use Rattle.registry.specs.Crashes.{Outlives}
 use Rattle.registry.specs.Execution.{SameTerms}
 use Rattle.registry.specs.Money.{CallKeepsMoney}
 use Rattle.registry.specs.WellFormed.{BookCanBeReopened, CallKeepsWellFormed, KeepsWellFormed, StaysWellFormed}
-use Rattle.rules.specs.Askable.{CanBeAsked}
-use Rattle.rules.specs.Orders.{order_effect}
-use Rattle.rules.specs.Steps.{effect}
-use Rattle.rules.proofs.LapsedLemmas.{serial-lapsed}
-use Rattle.rules.proofs.MoneyLaws.{money-effect-now, money-lapsed-now, money-order-now}
-use Rattle.rules.proofs.RegistryLemmas.{registry-effect, registry-lapsed, registry-now, registry-order}
-use Rattle.store.specs.Book.{BookState, Follows, LeavesSame, Stored}
+use Rattle.decisions.specs.Askable.{CanBeAsked}
+use Rattle.decisions.specs.Orders.{order_effect}
+use Rattle.decisions.specs.Steps.{effect}
+use Rattle.decisions.proofs.LapsedLemmas.{serial-lapsed}
+use Rattle.decisions.proofs.MoneyLaws.{money-effect-now, money-lapsed-now, money-order-now}
+use Rattle.decisions.proofs.RegistryLemmas.{registry-effect, registry-lapsed, registry-now, registry-order}
+use Rattle.books.specs.Book.{BookStarts, BookState, BookStays, Follows, LeavesSame, Stored}
 use Rattle.registry.proofs.CrashLemmas.{gave_up_by, outlives_later}
 
 -- ---- a well formed registry
@@ -103,6 +103,9 @@ pub kept_late : {A : Type 0} (p : PolicyRules) (moment : ℕ) (x : Question) (to
 kept_late p moment x told makes s = record { policy = refl; follows = follows-itself s; crash = (λ left may. may, refl); answered = tt }
 
 -- ---- a call inside
+
+pub begun : (old mid : BookState) → BookStarts old mid → BookStays old mid → Follows old mid
+begun old mid starts stays = record { clean = stays.clean; counted = omega (arith, starts.counted) }
 
 -- a transaction was begun, and work was done in it
 pub step_kept : {A : Type 0} (p : PolicyRules) (makes : Stored → Stored → Type 0) (result : Result A Fault) (old mid new : BookState)

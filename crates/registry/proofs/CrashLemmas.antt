@@ -7,8 +7,8 @@ use Rattle.registry.specs.declared.fault.OpenFault.{OpenFault}
 use Rattle.registry.specs.declared.fault.OpenFault.TheVariants as refusals
 use Rattle.registry.specs.Crashes.{GivesUpTo, OpensTo, Outlives, OutlivesOpening}
 use Rattle.registry.specs.Execution.{GoesBack}
-use Rattle.store.specs.Book.{BookState, BookKeeps, Follows, LeavesHeld, LeavesItself, LeavesOld, LeavesOldOrMade, LeavesSame, Stored, may_leave}
-use Rattle.transactions.specs.States.{Has, Remains, holding}
+use Rattle.books.specs.Book.{BookState, BookKeeps, Follows, LeavesHeld, LeavesItself, LeavesOld, LeavesOldOrMade, LeavesSame, Stored, may_leave}
+use Rattle.states.specs.States.{Has, Remains, holding}
 
 -- nothing was tried
 pub left_alone : (old new : BookState) → LeavesSame old new → LeavesOld old new

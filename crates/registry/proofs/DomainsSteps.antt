@@ -12,8 +12,8 @@ use Rattle.registry.specs.Faces.{IsLookUp, LooksUp}
 use Rattle.registry.specs.inner.Passing.{Passes}
 use Rattle.registry.proofs.CallsKept.{follows-itself, follows-on}
 use Rattle.registry.proofs.PassingSteps.{now-lapsed, same_then}
-use Rattle.store.specs.Book.{BookState, Follows, LeavesSame}
-use Rattle.store.specs.Faces.{domain_face_at}
+use Rattle.books.specs.Book.{BookState, Follows, LeavesSame}
+use Rattle.books.specs.Faces.{domain_face_at}
 
 -- so many domains were looked up, and the transaction is open still
 pub record AreLookedUp (p : PolicyRules) (t : ℕ) (names : List (List ℕ)) (faces : List (Option DomainFace)) (old new : BookState) : Type 0 where

@@ -20,8 +20,8 @@ use Rattle.concerns.specs.Concerns.{IsSettledIn, concerned}
 use Rattle.concerns.specs.Names.{named_of}
 use Rattle.concerns.proofs.ConcernLemmas.{in-filter_map, in-itself}
 use Rattle.concerns.proofs.FactsLemmas.{contact-at, contact-linked, domain-at, graces-now, host-linked}
-use Rattle.store.specs.Faces.{contact_face_at, domain_face, domain_face_at, host_addresses_at, host_face_at}
-use Rattle.verdict.specs.ResponseData.{host_info, with_shown_link}
+use Rattle.books.specs.Faces.{contact_face_at, domain_face, domain_face_at, host_addresses_at, host_face_at}
+use Rattle.rules.specs.ResponseData.{host_info, with_shown_link}
 
 module _ (p : PolicyRules) (name : List ℕ) (u : Registry) where
   pub domain-face-now : IsSettledIn p (concerned None (named_of kinds.Domain name) u) u → domain_face_at p (now p u) name ≡ domain_face_at p u name

@@ -2,8 +2,8 @@
 use Rattle.std.proofs.Common.{ℕ, ◌≤◌, Result, Ok, Err, IfOk}
 use Rattle.policy.specs.Rules.{PolicyRules, IsSound}
 use Rattle.registry.specs.Execution.{IsStep}
-use Rattle.rules.specs.Isolation.{IsIsolated}
-use Rattle.rules.proofs.IsolationLemmas.{isolated}
+use Rattle.decisions.specs.Isolation.{IsIsolated}
+use Rattle.decisions.proofs.IsolationLemmas.{isolated}
 use Rattle.protocol.specs.declared.command.Command.{Command}
 use Rattle.protocol.specs.declared.reply.Reply.{Reply}
 use Rattle.model.specs.Registry.{Registry}

@@ -3,8 +3,8 @@ use Rattle.std.proofs.Common.{◌≡◌, ◌<◌, ℕ, true, cond, max, min, len
 use Rattle.model.specs.Lapse.{accounts_at, at, lapse, now}
 use Rattle.model.specs.Registry.{Registry}
 use Rattle.policy.specs.Rules.{PolicyRules}
-use Rattle.rules.specs.declared.change.Change.TheVariants.{MoveClock}
-use Rattle.rules.specs.Lapsing.{lapse_changes}
+use Rattle.decisions.specs.declared.change.Change.TheVariants.{MoveClock}
+use Rattle.decisions.specs.Lapsing.{lapse_changes}
 use Rattle.model.specs.Objects.{object_at}
 use Rattle.registry.specs.declared.fault.Fault.{Fault}
 use Rattle.registry.specs.declared.fault.Fault.TheVariants as faults
@@ -12,7 +12,7 @@ use Rattle.registry.specs.Execution.{GoesBack, Settles, at_moment}
 use Rattle.registry.specs.Lapsing.{dues_lapsed, with_dues_lapsed, with_lapsed}
 use Rattle.registry.proofs.LapsingLemmas.{all-lapsed, some-lapsed}
 use Rattle.lifecycle.specs.declared.due_object.Due.{Due}
-use Rattle.store.specs.Book.{BookState, Follows, IsBack, BookReads, LeavesSame, BookWrites, Stored, with_changes}
+use Rattle.books.specs.Book.{BookState, Follows, IsBack, BookReads, LeavesSame, BookWrites, Stored, with_changes}
 use Rattle.model.specs.DueBy.{due_by}
 
 -- some of what is due has lapsed, and what is left leads to where all of it does

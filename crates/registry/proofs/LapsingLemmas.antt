@@ -29,9 +29,9 @@ use Rattle.objects.specs.declared.roid.ObjectKind.TheVariants as kinds
 use Rattle.objects.specs.declared.transfer.Transfer.{Transfer}
 use Rattle.objects.specs.Transfers.{is_pending_state}
 use Rattle.policy.specs.Rules.{PolicyRules}
-use Rattle.rules.specs.declared.change.Change.TheVariants.{LapseContact, LapseDomain}
-use Rattle.rules.specs.Changes.{changed, changed_all}
-use Rattle.rules.specs.Lapsing.{posting_change, lapse_changes}
+use Rattle.decisions.specs.declared.change.Change.TheVariants.{LapseContact, LapseDomain}
+use Rattle.decisions.specs.Changes.{changed, changed_all}
+use Rattle.decisions.specs.Lapsing.{posting_change, lapse_changes}
 use Rattle.concerns.specs.declared.given.Names.{Names}
 use Rattle.concerns.specs.Concerns.{HasConcerned, concerned}
 use Rattle.concerns.specs.DueFor as dues

@@ -23,15 +23,15 @@ use Rattle.policy.proofs.ScheduleLemmas.{continues-itself, in-force-same}
 use Rattle.policy.proofs.TermsLemmas.{continues-Decides}
 use Rattle.registry.specs.Opening.{KeepsLengths, Opens, OpensAsItWas, continues_earlier, goes_on, opened, openings}
 use Rattle.registry.specs.WellFormed.{HoldsRegistry, OpensWellFormed}
-use Rattle.rules.specs.declared.change.Change.{Change}
-use Rattle.rules.specs.declared.change.Change.TheVariants.{OpenAccount}
-use Rattle.rules.specs.Changes.{changed, changed_all, itself, with_account}
-use Rattle.rules.proofs.GrowthLemmas.{Grows}
-use Rattle.rules.proofs.KeepingLemmas.{kept-grown, placed}
-use Rattle.rules.proofs.LineKeepingLemmas.{lines-domains}
-use Rattle.rules.proofs.RegistryLemmas.{registry-now}
-use Rattle.rules.proofs.ViewLemmas.{account_of-with_account}
-use Rattle.store.specs.Book.{BookState, Stored}
+use Rattle.decisions.specs.declared.change.Change.{Change}
+use Rattle.decisions.specs.declared.change.Change.TheVariants.{OpenAccount}
+use Rattle.decisions.specs.Changes.{changed, changed_all, itself, with_account}
+use Rattle.decisions.proofs.GrowthLemmas.{Grows}
+use Rattle.decisions.proofs.KeepingLemmas.{kept-grown, placed}
+use Rattle.decisions.proofs.LineKeepingLemmas.{lines-domains}
+use Rattle.decisions.proofs.RegistryLemmas.{registry-now}
+use Rattle.decisions.proofs.ViewLemmas.{account_of-with_account}
+use Rattle.books.specs.Book.{BookState, Stored}
 use Rattle.names.specs.Zone.{ZoneRules}
 use Rattle.model.specs.Lapse.{accounts_at, now, postings}
 use Rattle.model.specs.Registry.{Registry, account_of, blank}

@@ -6,10 +6,10 @@ use Rattle.registry.specs.declared.fault.OpenFault.TheVariants as refusals
 use Rattle.registry.specs.Opening.{IsOthers, IsOurs, Opens, Refuses, RefusesOurs, goes_on, openings}
 use Rattle.policy.specs.Terms.{terms_of}
 use Rattle.registry.specs.Opening.{opened}
-use Rattle.store.specs.Book.{BookState, Follows, IsBack, BookReads, home}
-use Rattle.transactions.specs.declared.readiness.Ready.{Ready}
-use Rattle.transactions.specs.declared.readiness.Ready.TheVariants.{Other}
-use Rattle.rules.specs.declared.change.Change.TheVariants.{OpenAccount}
+use Rattle.books.specs.Book.{BookState, Follows, IsBack, BookReads, home}
+use Rattle.states.specs.declared.readiness.Ready.{Ready}
+use Rattle.states.specs.declared.readiness.Ready.TheVariants.{Other}
+use Rattle.decisions.specs.declared.change.Change.TheVariants.{OpenAccount}
 
 pub openings-zero : openings 0 ≡ []
 unfolding openings

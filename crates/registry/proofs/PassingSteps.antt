@@ -27,14 +27,14 @@ use Rattle.registry.specs.inner.Passing.{IsPassed, Passes, Reaches, names_at, st
 use Rattle.registry.proofs.CallsKept.{follows-on}
 use Rattle.registry.proofs.LapseSteps.{same-lapse}
 use Rattle.registry.proofs.LapsingLemmas.{each-as-some, has-concerned, objects_of, some-lapsed}
-use Rattle.rules.specs.declared.change.Change.TheVariants.{MoveClock}
-use Rattle.rules.specs.Changes.{changed_all}
-use Rattle.rules.specs.Decisions.{decided}
-use Rattle.rules.specs.Orders.{deposit_decision, order_answer, order_effect}
-use Rattle.rules.specs.Steps.{answer, effect, reply_of}
+use Rattle.decisions.specs.declared.change.Change.TheVariants.{MoveClock}
+use Rattle.decisions.specs.Changes.{changed_all}
+use Rattle.decisions.specs.Decisions.{decided}
+use Rattle.decisions.specs.Orders.{deposit_decision, order_answer, order_effect}
+use Rattle.decisions.specs.Steps.{answer, effect, reply_of}
 use Rattle.registry.specs.declared.fault.Fault.{Fault}
 use Rattle.lifecycle.specs.declared.due_object.Due.{Due}
-use Rattle.store.specs.Book.{BookState, Follows, BookReads, BookWrites, Stored, with_changes}
+use Rattle.books.specs.Book.{BookState, Follows, BookReads, BookWrites, Stored, with_changes}
 use Rattle.concerns.specs.DueFor.{due_for}
 
 -- ---- of a registry
@@ -262,9 +262,9 @@ greets p moment (Err fault) old new first told = tt
 
 -- ---- look-ups in a book
 
-pub reached-by : {X : Type 0} (p : PolicyRules) (find : Registry → X) (g : Names) (moment : ℕ) (old new : BookState)
-    → ((s : Registry) → IsSettledIn p (concerned None g s) s → find (now p s) ≡ find s) → Passes p None g moment old new → Reaches p find moment old new
-reached-by p find g moment old new stands first = record {
+pub reached-for : {X : Type 0} (p : PolicyRules) (find : Registry → X) (r : Option ℕ) (g : Names) (moment : ℕ) (old new : BookState)
+    → ((s : Registry) → IsSettledIn p (concerned r g s) s → find (now p s) ≡ find s) → Passes p r g moment old new → Reaches p find moment old new
+reached-for p find r g moment old new stands first = record {
   counted = first.counted;
   opened = first.opened;
   found = λ clean. let is = first.passed clean in sym (stands new.content.registry is.settled) ∙ ap find is.future;
@@ -272,6 +272,10 @@ reached-by p find g moment old new stands first = record {
   terms = first.terms;
   before = first.before;
 }
+
+pub reached-by : {X : Type 0} (p : PolicyRules) (find : Registry → X) (g : Names) (moment : ℕ) (old new : BookState)
+    → ((s : Registry) → IsSettledIn p (concerned None g s) s → find (now p s) ≡ find s) → Passes p None g moment old new → Reaches p find moment old new
+reached-by p find g moment old new stands first = reached-for p find None g moment old new stands first
 
 pub reached-all : {X : Type 0} (p : PolicyRules) (find : Registry → X) (moment : ℕ) (old new : BookState) → BookWrites old new (at_moment p moment old.content) → Reaches p find moment old new
 reached-all p find moment old new moved = record {

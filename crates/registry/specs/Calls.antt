@@ -2,7 +2,7 @@
 use Rattle.std.specs.Prelude.{◌≡◌, ℕ, Result, IfOk, OnOk}
 use Rattle.policy.specs.Rules.{PolicyRules}
 use Rattle.model.specs.Lapse.{lapsed}
-use Rattle.privacy.specs.Runs.{Answer, Question, look_up, shown}
+use Rattle.isolation.specs.Runs.{Answer, Question, look_up, shown}
 use Rattle.registry.specs.declared.fault.Fault.{Fault}
 use Rattle.registry.specs.declared.fault.OpenFault.{OpenFault}
 use Rattle.registry.specs.Crashes.{Outlives, RefusedTo}
@@ -11,7 +11,7 @@ use Rattle.registry.specs.Money.{BookKeepsMoney}
 use Rattle.registry.specs.Opening.{IsOurs, Opens, Refuses, RefusesOurs}
 use Rattle.registry.specs.TwoRuns.{BookTellsAlike, StepsOfTwo}
 use Rattle.registry.specs.WellFormed.{BookCanBeReopened, BookKeepsWellFormed, BookOpensWellFormed}
-use Rattle.store.specs.Book.{BookState, Follows, LeavesItself, Stored}
+use Rattle.books.specs.Book.{BookState, Follows, LeavesItself, Stored}
 
 -- A question was answered at a moment. The book is kept under the same terms and can be opened again; a well
 -- formed registry stays one; the money of every account follows; and in any other registry that is one with

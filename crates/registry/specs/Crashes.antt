@@ -8,7 +8,7 @@ use Rattle.registry.specs.declared.fault.Fault.TheVariants as faults
 use Rattle.registry.specs.declared.fault.OpenFault.{OpenFault}
 use Rattle.registry.specs.declared.fault.OpenFault.TheVariants as refusals
 use Rattle.registry.specs.Opening.{goes_on, opened}
-use Rattle.store.specs.Book.{BookState, LeavesItself, LeavesOld, LeavesOldOrMade, Stored}
+use Rattle.books.specs.Book.{BookState, LeavesItself, LeavesOld, LeavesOldOrMade, Stored}
 
 -- The step of its registry, whatever it answers, under the same terms.
 abbrev pub Makes : {A : Type 0} → (Registry → Registry → A → Type 0) → Stored → Stored → Type 0

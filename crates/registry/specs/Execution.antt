@@ -6,11 +6,11 @@ use Rattle.registry.specs.declared.fault.Fault.{Fault}
 use Rattle.registry.specs.declared.fault.Fault.TheVariants as faults
 use Rattle.registry.specs.declared.command.Prepared.{Prepared}
 use Rattle.registry.specs.declared.registry.TheConstants.{LAST_CALL}
-use Rattle.rules.specs.Decisions.{decided}
-use Rattle.rules.specs.Orders.{order_answer, order_effect}
-use Rattle.rules.specs.Steps.{answer, effect, reply_of}
-use Rattle.rules.specs.Isolation.{IsIsolated}
-use Rattle.store.specs.Book.{BookState, Follows, HasRefused, IsBack, NoRefusal, Stored}
+use Rattle.decisions.specs.Decisions.{decided}
+use Rattle.decisions.specs.Orders.{order_answer, order_effect}
+use Rattle.decisions.specs.Steps.{answer, effect, reply_of}
+use Rattle.decisions.specs.Isolation.{IsIsolated}
+use Rattle.books.specs.Book.{BookState, Follows, HasRefused, IsBack, NoRefusal, Stored}
 use Rattle.model.specs.DueBy.{due_by}
 use Rattle.protocol.specs.declared.code.Code.{Code}
 use Rattle.protocol.specs.declared.command.Command.{Command}

@@ -8,8 +8,8 @@ use Rattle.model.specs.Registry.{Registry}
 use Rattle.objects.specs.declared.domain.DomainFace.{DomainFace}
 use Rattle.objects.specs.declared.host.HostFace.{HostFace}
 use Rattle.policy.specs.Rules.{PolicyRules}
-use Rattle.store.specs.Book.{BookState}
-use Rattle.store.specs.Faces.{domain_faces, host_faces}
+use Rattle.books.specs.Book.{BookState}
+use Rattle.books.specs.Faces.{domain_faces, host_faces}
 
 -- of all hosts and all domains, and the moment at which they stand so
 pub record ZoneFaces : Type 0 where

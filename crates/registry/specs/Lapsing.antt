@@ -3,10 +3,10 @@ use Rattle.std.specs.Prelude.{ℕ, List, fold}
 use Rattle.model.specs.Objects.{object_at}
 use Rattle.model.specs.Registry.{Registry}
 use Rattle.policy.specs.Rules.{PolicyRules}
-use Rattle.rules.specs.Changes.{changed_all}
-use Rattle.rules.specs.Lapsing.{lapse_changes}
+use Rattle.decisions.specs.Changes.{changed_all}
+use Rattle.decisions.specs.Lapsing.{lapse_changes}
 use Rattle.lifecycle.specs.declared.due_object.Due.{Due}
-use Rattle.store.specs.Book.{Stored}
+use Rattle.books.specs.Book.{Stored}
 use Rattle.model.specs.DueBy.{due_by}
 
 abbrev pub due_lapsed : PolicyRules → ℕ → Registry → Due → Registry

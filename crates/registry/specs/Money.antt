@@ -5,8 +5,8 @@ use Rattle.model.specs.Money.{MoneyFollows}
 use Rattle.model.specs.Registry.{Registry}
 use Rattle.model.specs.WellFormed.{IsRegistry}
 use Rattle.policy.specs.Rules.{PolicyRules}
-use Rattle.privacy.specs.Runs.{Question, command, date, look_up, order}
-use Rattle.store.specs.Book.{BookState}
+use Rattle.isolation.specs.Runs.{Question, command, date, look_up, order}
+use Rattle.books.specs.Book.{BookState}
 
 -- what the registry is now follows from what it was
 abbrev pub KeepsMoney : PolicyRules → ℕ → Registry → Registry → Type 0

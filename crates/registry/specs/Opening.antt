@@ -7,11 +7,11 @@ use Rattle.policy.specs.Rules.{PolicyRules, days_of}
 use Rattle.policy.specs.Terms.{continues, terms_of}
 use Rattle.registry.specs.declared.fault.OpenFault.{OpenFault}
 use Rattle.registry.specs.declared.fault.OpenFault.TheVariants as refusals
-use Rattle.rules.specs.declared.change.Change.{Change}
-use Rattle.rules.specs.declared.change.Change.TheVariants.{OpenAccount}
-use Rattle.rules.specs.Changes.{changed_all}
-use Rattle.store.specs.Book.{BookState, HasRefused, IsBack, BookWrites, NoRefusal, Stored}
-use Rattle.transactions.specs.declared.readiness.Ready.TheVariants.{Other}
+use Rattle.decisions.specs.declared.change.Change.{Change}
+use Rattle.decisions.specs.declared.change.Change.TheVariants.{OpenAccount}
+use Rattle.decisions.specs.Changes.{changed_all}
+use Rattle.books.specs.Book.{BookState, HasRefused, IsBack, BookWrites, NoRefusal, Stored}
+use Rattle.states.specs.declared.readiness.Ready.TheVariants.{Other}
 
 abbrev pub continues_earlier : ℕ → Terms → Option Terms → Bool
 continues_earlier clock terms None = true

@@ -1,9 +1,9 @@
 -- What the calls of the registry tell and leave in two runs that are alike for a registrar.
 use Rattle.std.specs.Prelude.{◌≡◌, ℕ, true}
 use Rattle.policy.specs.Rules.{PolicyRules}
-use Rattle.privacy.specs.Laws.{IsStepOfTwo, TellsAlike}
-use Rattle.privacy.specs.Runs.{Answer, Question}
-use Rattle.store.specs.Book.{BookState}
+use Rattle.isolation.specs.Laws.{IsStepOfTwo, TellsAlike}
+use Rattle.isolation.specs.Runs.{Answer, Question}
+use Rattle.books.specs.Book.{BookState}
 
 -- a call is a step of two runs, if nothing wrong was taken from what keeps the book
 abbrev pub StepsOfTwo : PolicyRules → ℕ → Question → Answer → BookState → BookState → Type 0

@@ -5,8 +5,8 @@ use Rattle.model.specs.Registry.{Registry}
 use Rattle.model.specs.WellFormed.{HasNumbersLeft, IsRegistry}
 use Rattle.policy.specs.Rules.{PolicyRules}
 use Rattle.policy.specs.Terms.{terms_of}
-use Rattle.privacy.specs.Runs.{Question, command, date, look_up, order}
-use Rattle.store.specs.Book.{BookState, Stored, nothing}
+use Rattle.isolation.specs.Runs.{Question, command, date, look_up, order}
+use Rattle.books.specs.Book.{BookState, Stored, nothing}
 
 -- A registrar's call on a well formed registry leaves one, where its numbers are far from the greatest.
 abbrev pub StaysWellFormed : PolicyRules → ℕ → Registry → Registry → Type 0

@@ -4,8 +4,8 @@ ghost use Rattle.std.specs.List.{slice_get};
 ghost use Rattle.std.specs.Option.{IfSome};
 ghost use Rattle.names.specs.Canonical.{IsCanonical};
 ghost use Rattle.protocol.specs.Requests.{asks_of, domains_asked, transfer_years};
-ghost use Rattle.rules.specs.Askable.{CanBeAsked, IsAskable};
-ghost use Rattle.verdict.specs.Conditions.{host_name_after};
+ghost use Rattle.decisions.specs.Askable.{CanBeAsked, IsAskable};
+ghost use Rattle.rules.specs.Conditions.{host_name_after};
 
 use protocol::{Command, Request, TransferOp};
 

@@ -2,10 +2,10 @@
 ghost use Rattle.std.specs.Prelude.{◌≡◌, true, IfOk, IfErr, OnOk};
 ghost use Rattle.accounts.specs.Account.{saturating_next};
 ghost use Rattle.registry.specs.Execution.{GoesBack, IsPrepared, IsStep, IsWithin, Steps};
-ghost use Rattle.rules.specs.Steps.{reply_of};
-ghost use Rattle.store.specs.Book.{Follows, BookReads, LeavesSame, BookWrites, with_changes};
+ghost use Rattle.decisions.specs.Steps.{reply_of};
+ghost use Rattle.books.specs.Book.{Follows, BookReads, LeavesSame, BookWrites, with_changes};
 ghost use Rattle.facts.specs.Facts.{facts};
-ghost use Rattle.verdict.specs.ResponseData.{id_of};
+ghost use Rattle.rules.specs.ResponseData.{id_of};
 ghost use Rattle.protocol.specs.Requests.{cl_trid_of};
 
 use crate::fault::Fault;
@@ -15,14 +15,14 @@ use crate::work::Work;
 use basis::list::Seq;
 use basis::registrar::RegistrarNo;
 use basis::text::{Text, copied};
+use books::Book;
 use calendar::Moment;
+use decisions::{Change, decide};
 use facts::Facts;
 use policy::Policy;
 use protocol::{Command, Reply, SvTrid};
-use rules::{Change, decide};
+use rules::{Verdict, id_of};
 use std::alloc::{AllocError, Global};
-use store::Book;
-use verdict::{Verdict, id_of};
 
 /// A registrar's command at a moment.
 #[derive(Drop)]

@@ -1,30 +1,35 @@
-//! What everyone may know of a registry at a moment.
+//! What can be looked up in a registry at a moment: what everyone may know, and a registrar's account.
 ghost use Rattle.std.specs.Prelude.{◌≡◌, true, map, IfOk, IfErr, OnOk};
 ghost use Rattle.registry.specs.Execution.{GoesBack, IsWithin};
 ghost use Rattle.registry.specs.Faces.{IsLookUp, LooksUp};
-ghost use Rattle.store.specs.Book.{Follows, BookReads, LeavesSame};
-ghost use Rattle.store.specs.Faces.{contact_face_at, domain_face_at, domain_names, host_addresses_at, host_face_at};
+ghost use Rattle.books.specs.Book.{Follows, BookReads, LeavesSame};
+ghost use Rattle.model.specs.Registry.{account_of};
+ghost use Rattle.books.specs.Faces.{contact_face_at, domain_face_at, domain_names, host_addresses_at, host_face_at};
 
 use crate::fault::Fault;
-use crate::passing::{settle_all, settle_for_object, settle_nothing, settle_object};
+use crate::passing::{
+    settle_all, settle_for_object, settle_for_registrar, settle_nothing, settle_object,
+};
 use crate::transaction::or_rollback;
 use crate::work::Work;
+use accounts::Lines;
 use basis::list::Seq;
+use basis::registrar::RegistrarNo;
 use basis::text::Text;
+use books::Book;
 use calendar::Moment;
 use objects::{ContactFace, DomainFace, HostFace, ObjectKind};
 use policy::Policy;
 use std::alloc::Global;
-use store::Book;
 
-/// What can be looked up in a book, whoever asks.
+/// What can be looked up in a book.
 pub(crate) trait LookUp {
     ghost use Rattle.std.specs.Prelude.{◌≡◌, true, IfOk, IfErr, OnOk};
     ghost use Rattle.model.specs.Registry.{Registry};
     ghost use Rattle.policy.specs.Rules.{PolicyRules};
     ghost use Rattle.registry.specs.Execution.{GoesBack};
     ghost use Rattle.registry.specs.inner.Passing.{Reaches};
-    ghost use Rattle.store.specs.Book.{Follows, BookReads, LeavesSame};
+    ghost use Rattle.books.specs.Book.{Follows, BookReads, LeavesSame};
 
     /// What is found.
     type Found: Drop;
@@ -182,6 +187,31 @@ impl LookUp for AddressesAt<'_> {
 
     fn look<B: Book>(&self, book: &mut B, _: &Policy) -> Result<Option<Seq<Text>>, Fault> {
         Ok(book.host_addresses(self.0)?)
+    }
+}
+
+/// The lines of a registrar's account. What concerns the registrar lapses first.
+#[derive(Clone, Copy, Drop)]
+pub(crate) struct LinesOf(pub RegistrarNo);
+
+impl LookUp for LinesOf {
+    type Found = Lines;
+
+    ghost finds = { λ it p s. (account_of it.0 s).lines };
+
+    fn reach<B: Book>(
+        &self,
+        book: &mut B,
+        alloc: Global,
+        moment: Moment,
+        policy: &Policy,
+    ) -> Result<(), Fault> {
+        settle_for_registrar(book, alloc, self.0, moment, policy)?;
+        Ok(())
+    }
+
+    fn look<B: Book>(&self, book: &mut B, _: &Policy) -> Result<Lines, Fault> {
+        Ok(book.lines(self.0)?)
     }
 }
 

@@ -3,8 +3,8 @@ ghost use Rattle.std.specs.Prelude.{◌≡◌};
 ghost use Rattle.registry.specs.declared.fault.Fault.TheVariants.{Memory};
 ghost use Rattle.registry.specs.Faults.{of_book};
 
+use books::BookFault;
 use std::alloc::AllocError;
-use store::BookFault;
 use thiserror::Error;
 
 /// Why a call gave up. The registry, its clock and all counters are then as they were before the

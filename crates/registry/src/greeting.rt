@@ -4,10 +4,10 @@ ghost use Rattle.registry.specs.Execution.{IsGreetingStep};
 use crate::fault::Fault;
 use crate::passing::settle_nothing;
 use crate::work::Work;
+use books::Book;
 use calendar::Moment;
 use policy::Policy;
 use std::alloc::Global;
-use store::Book;
 
 /// Hello at a moment. Nothing lapses.
 #[derive(Drop)]

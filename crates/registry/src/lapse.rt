@@ -3,25 +3,25 @@ ghost use Rattle.std.specs.Prelude.{◌≡◌, true, Some, None, IfOk, IfErr, On
 ghost use Rattle.concerns.specs.Names.{named_by, named_of};
 ghost use Rattle.registry.specs.Execution.{GoesBack};
 ghost use Rattle.registry.specs.Lapsing as spec;
-ghost use Rattle.store.specs.Book.{Follows, BookReads, LeavesSame, BookWrites, with_changes};
+ghost use Rattle.books.specs.Book.{Follows, BookReads, LeavesSame, BookWrites, with_changes};
 ghost use Rattle.model.specs.DueBy.{due_by};
 ghost use Rattle.concerns.specs.DueFor.{due_for};
 ghost use Rattle.model.specs.Objects.{object_at};
-ghost use Rattle.rules.specs.Lapsing.{lapse_changes};
+ghost use Rattle.decisions.specs.Lapsing.{lapse_changes};
 
 use crate::fault::Fault;
 use crate::transaction::{apply, object_at, or_rollback};
 use basis::list::Seq;
 use basis::registrar::RegistrarNo;
 use basis::text::Text;
+use books::Book;
 use calendar::Moment;
+use decisions::{Change, lapse_changes};
 use lifecycle::Due;
 use objects::ObjectKind;
 use policy::Policy;
 use protocol::Command;
-use rules::{Change, lapse_changes};
 use std::alloc::Global;
-use store::Book;
 
 /// What is due by a moment, in an open transaction.
 pub(crate) fn due<B: Book>(book: &mut B, moment: Moment, policy: &Policy) -> Result<Seq<Due>, Fault>

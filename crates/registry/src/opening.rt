@@ -6,17 +6,17 @@ ghost use Rattle.registry.specs.Execution.{GoesBack};
 ghost use Rattle.registry.specs.Opening as spec;
 ghost use Rattle.registry.specs.declared.fault.OpenFault.TheVariants as refusals;
 ghost use Rattle.registry.specs.Opening.{IsOurs, Opens, Refuses, RefusesOurs, TakesUp};
-ghost use Rattle.store.specs.Book.{Follows, LeavesSame, BookWrites};
+ghost use Rattle.books.specs.Book.{Follows, LeavesSame, BookWrites};
 
 use crate::fault::{Fault, OpenFault};
 use crate::transaction::{apply, clock, keep_terms, or_rollback, terms};
 use basis::list::Seq;
 use basis::registrar::RegistrarNo;
+use books::{Book, BookFault, Ready};
 use calendar::Moment;
+use decisions::Change;
 use policy::{Policy, Terms};
-use rules::Change;
 use std::alloc::{AllocError, Global};
-use store::{Book, BookFault, Ready};
 
 /// Opens a book, unless what keeps it is another's.
 #[tactic(auto, using(crate::proofs::OpeningLemmas::opens_later, crate::proofs::OpeningLemmas::refuses_later, crate::proofs::OpeningLemmas::is_others, crate::proofs::OpeningLemmas::is_ours, crate::proofs::OpeningLemmas::refuses_ours, crate::proofs::CrashLemmas::gave_up, crate::proofs::CrashLemmas::left_alone, crate::proofs::CrashLemmas::opening_later))]

@@ -3,8 +3,8 @@ ghost use Rattle.std.specs.Prelude.{◌≡◌, true, option_and_then, IfOk, IfEr
 ghost use Rattle.registry.specs.Execution.{GoesBack, IsOrderStep, IsWithin, OrderSteps};
 ghost use Rattle.protocol.specs.declared.order.Order.TheVariants as orders;
 ghost use Rattle.registry.specs.inner.Passing.{status_at};
-ghost use Rattle.rules.specs.Orders.{deposit_decision};
-ghost use Rattle.store.specs.Book.{Follows, BookReads, LeavesSame, BookWrites, with_changes};
+ghost use Rattle.decisions.specs.Orders.{deposit_decision};
+ghost use Rattle.books.specs.Book.{Follows, BookReads, LeavesSame, BookWrites, with_changes};
 ghost use Rattle.model.specs.Objects.{object_at};
 
 use crate::fault::Fault;
@@ -12,14 +12,14 @@ use crate::passing::{settle_for_name, settle_nothing};
 use crate::transaction::{apply, object_at, or_rollback};
 use crate::work::Work;
 use basis::text::Text;
+use books::Book;
 use calendar::Moment;
+use decisions::{OrderDecision, decide_deposit, decide_order};
 use model::Object;
 use objects::ObjectKind;
 use policy::Policy;
 use protocol::{Code, Order, StatusOrder};
-use rules::{OrderDecision, decide_deposit, decide_order};
 use std::alloc::Global;
-use store::Book;
 
 /// An order of the operator at a moment.
 #[derive(Drop)]

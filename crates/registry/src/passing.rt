@@ -3,20 +3,20 @@
 ghost use Rattle.std.specs.Prelude.{◌≡◌, max, true, Some, None, IfOk, IfErr, OnOk};
 ghost use Rattle.concerns.specs.Names.{named_by, no_names};
 ghost use Rattle.registry.specs.Execution.{GoesBack, at_moment};
-ghost use Rattle.registry.specs.inner.Passing.{Passes, names_at};
-ghost use Rattle.store.specs.Book.{BookWrites, Follows, LeavesSame};
+ghost use Rattle.registry.specs.inner.Passing.{Passes, balance_command, names_at};
+ghost use Rattle.books.specs.Book.{BookWrites, Follows, LeavesSame};
 
 use crate::fault::Fault;
 use crate::lapse::{due_at, due_for, lapse_all, lapse_each};
 use crate::transaction::move_clock;
 use basis::registrar::RegistrarNo;
 use basis::text::Text;
+use books::Book;
 use calendar::Moment;
 use objects::ObjectKind;
 use policy::Policy;
-use protocol::Command;
+use protocol::{Command, Request};
 use std::alloc::Global;
-use store::Book;
 
 /// Lets time pass up to a moment, lets what concerns a registrar's command lapse, and gives the clock.
 pub(crate) fn settle_for_command<B: Book>(
@@ -40,6 +40,37 @@ pub(crate) fn settle_for_command<B: Book>(
     let due = due_for(book, caller, command, now, policy)?;
     lapse_each(book, alloc, due, now, policy)?;
     Ok(now)
+}
+
+/// The same for what concerns a registrar, as its question for the balance does.
+pub(crate) fn settle_for_registrar<B: Book>(
+    book: &mut B,
+    alloc: Global,
+    registrar: RegistrarNo,
+    moment: Moment,
+    policy: &Policy,
+) -> Result<Moment, Fault>
+    requires { (B.state book.old).is_open ≡ true }
+    ensures moved { OnOk result (Passes policy.now (Some registrar) (named_by balance_command) moment
+        (B.state book.old) (B.state book.new)) }
+    ensures clock { IfOk result (λ clock. (B.state book.new).is_clean ≡ true
+        → clock ≡ max moment (B.state book.old).content.registry.clock) }
+    ensures fault { IfErr result (λ fault. GoesBack fault (B.state book.old) (B.state book.new)) }
+    ensures follows { Follows (B.state book.old) (B.state book.new) }
+    ensures leaves { LeavesSame (B.state book.old) (B.state book.new) }
+{
+    let balance = balance_command();
+    settle_for_command(book, alloc, registrar, &balance, moment, policy)
+}
+
+/// The question for the balance.
+fn balance_command() -> Command
+    ensures { result ≡ balance_command }
+{
+    Command::Asked {
+        cl_trid: None,
+        request: Request::Balance,
+    }
 }
 
 /// The same for what an info of an object concerns, if its name is there; else nothing lapses.

@@ -5,19 +5,20 @@ ghost use Rattle.std.specs.Coded.{codes};
 ghost use Rattle.basis.specs.Sets.{names_code};
 ghost use Rattle.policy.specs.Rules.{IsRegistrar, IsSound};
 ghost use Rattle.policy.specs.Terms.{terms_of};
-ghost use Rattle.privacy.specs.Runs as two_runs;
+ghost use Rattle.isolation.specs.Runs as two_runs;
 ghost use Rattle.registry.specs.Calls.{CallKeeps, IsOpenedAs, IsRefused, LooksUpKeeping, StepKeeps};
 ghost use Rattle.registry.specs.Crashes.{Makes};
 ghost use Rattle.registry.specs.Execution.{Fails, Greets, IsGreetingStep, IsOrderStep, IsSettlement, IsStep, Isolates, OrderSteps, Settles, Steps, last_call};
 ghost use Rattle.registry.specs.Faces.{IsLookUp, LooksUp};
 ghost use Rattle.registry.specs.Opening.{KeepsLengths, OpensAsItWas};
 ghost use Rattle.registry.specs.Sound.{BeginAfter-prop};
-ghost use Rattle.store.specs.Faces.{contact_face_at, domain_face_at, domain_names, host_addresses_at, host_face_at};
+ghost use Rattle.model.specs.Registry.{account_of};
+ghost use Rattle.books.specs.Faces.{contact_face_at, domain_face_at, domain_names, host_addresses_at, host_face_at};
 
 use crate::askable::can_be_asked;
 use crate::command::CommandWork;
 use crate::faces::{
-    AddressesAt, ContactAt, DomainAt, DomainNames, DomainsWork, HostAt, LookUp, LookUpWork,
+    AddressesAt, ContactAt, DomainAt, DomainNames, DomainsWork, HostAt, LinesOf, LookUp, LookUpWork,
 };
 use crate::fault::{Fault, OpenFault};
 use crate::greeting::GreetingWork;
@@ -25,16 +26,17 @@ use crate::opening::open_in;
 use crate::order::OrderWork;
 use crate::settlement::SettlementWork;
 use crate::work::{Work, keep};
+use accounts::Lines;
 use basis::list::Seq;
 use basis::registrar::RegistrarNo;
 use basis::text::Text;
+use books::Book;
 use calendar::Moment;
 use names::{DomainName, HostName};
 use objects::{ContactFace, DomainFace, HostFace};
 use policy::Policy;
 use protocol::{Code, Command, Order, Reply};
 use std::alloc::Global;
-use store::Book;
 
 /// The latest moment at which a call is taken: 2099-12-31T23:59:59Z.
 pub const LAST_CALL: u64 = 4_102_444_799;
@@ -310,7 +312,24 @@ impl<B: Book + Drop> Registry<B> {
         self.look_up(&AddressesAt(name), moment)
     }
 
-    /// Looks something up at a moment, which every call may do that tells what everyone may know.
+    /// The lines of a registrar's account at a moment: none where it was never opened. What concerns the
+    /// registrar lapses first, as for its question for the balance, so the charges of all that fell due
+    /// by then are among them.
+    pub fn lines(&mut self, registrar: RegistrarNo, moment: Moment) -> Result<Lines, Fault>
+        ensures step { IfOk result (λ found. LooksUp self.old.policy
+            (λ s. (account_of registrar s).lines) moment found (B.state self.old.book)
+            (B.state self.new.book)) }
+        ensures fault { IfErr result (λ fault. Fails fault (B.state self.old.book)
+            (B.state self.new.book)) }
+        ensures keeps { LooksUpKeeping self.old.policy moment
+            (Makes (IsLookUp self.old.policy (λ s. (account_of registrar s).lines) moment)) result
+            self.new.policy (B.state self.old.book) (B.state self.new.book) }
+        ensures late { (result ≡ Err Fault.Moment) ↔ (last_call < moment) }
+    {
+        self.look_up(&LinesOf(registrar), moment)
+    }
+
+    /// Looks something up at a moment, in a transaction of its own.
     #[tactic(auto, using(crate::proofs::CallsKept::kept_late))]
     fn look_up<L: LookUp>(&mut self, what: &L, moment: Moment) -> Result<L::Found, Fault>
         ensures step { IfOk result (λ found. LooksUp self.old.policy

@@ -1,18 +1,18 @@
 //! How some of what is due lapses: a settlement.
 ghost use Rattle.std.specs.Prelude.{◌≡◌, true, min, length, take, IfOk, IfErr, OnOk};
 ghost use Rattle.registry.specs.Execution.{GoesBack, IsSettlement, IsWithin, Settles};
-ghost use Rattle.store.specs.Book.{Follows, LeavesSame};
+ghost use Rattle.books.specs.Book.{Follows, LeavesSame};
 
 use crate::fault::Fault;
 use crate::lapse::{due, lapse_each};
 use crate::transaction::move_clock;
 use crate::work::Work;
 use basis::list::Seq;
+use books::Book;
 use calendar::Moment;
 use lifecycle::Due;
 use policy::Policy;
 use std::alloc::Global;
-use store::Book;
 
 /// A settlement at a moment, of so many objects at most.
 #[derive(Drop)]

@@ -1,7 +1,7 @@
 //! The steps of a transaction, each with one kind of fault: it then went back.
 ghost use Rattle.std.specs.Prelude.{◌≡◌, ◌∷◌, [], max, true, IfOk, IfErr, OnOk, Ok};
 ghost use Rattle.registry.specs.Execution.{GoesBack};
-ghost use Rattle.store.specs.Book.{BookKeeps, Follows, BookReads, LeavesHeld, LeavesSame, BookWrites, with_changes, with_terms};
+ghost use Rattle.books.specs.Book.{BookKeeps, Follows, BookReads, LeavesHeld, LeavesSame, BookWrites, with_changes, with_terms};
 ghost use Rattle.facts.specs.Facts.{facts};
 ghost use Rattle.model.specs.Objects.{object_at};
 
@@ -9,15 +9,15 @@ use crate::fault::Fault;
 use basis::list::Seq;
 use basis::registrar::RegistrarNo;
 use basis::text::Text;
+use books::Book;
 use calendar::Moment;
+use decisions::Change;
 use facts::Facts;
 use model::Object;
 use objects::ObjectKind;
 use policy::{Policy, Terms};
 use protocol::Command;
-use rules::Change;
 use std::alloc::{AllocError, Global};
-use store::Book;
 
 /// What was made, or back to where the transaction began where memory ran out.
 pub(crate) fn or_rollback<B: Book, T>(book: &mut B, made: Result<T, AllocError>) -> Result<T, Fault>

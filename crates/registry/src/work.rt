@@ -2,13 +2,13 @@
 ghost use Rattle.std.specs.Prelude.{◌≡◌, true, false, IfOk, IfErr, OnOk};
 ghost use Rattle.registry.specs.Crashes.{Makes, Outlives};
 ghost use Rattle.registry.specs.Execution.{GoesBack, IsOver, SameTerms};
-ghost use Rattle.store.specs.Book.{BookKeeps, Follows, LeavesHeld};
+ghost use Rattle.books.specs.Book.{BookKeeps, Follows, LeavesHeld};
 
 use crate::fault::Fault;
 use crate::transaction::commit;
+use books::Book;
 use policy::Policy;
 use std::alloc::Global;
-use store::Book;
 
 /// What a call of a registry does in a transaction.
 pub(crate) trait Work {
@@ -16,7 +16,7 @@ pub(crate) trait Work {
     ghost use Rattle.model.specs.Registry.{Registry};
     ghost use Rattle.policy.specs.Rules.{PolicyRules};
     ghost use Rattle.registry.specs.Execution.{GoesBack, IsWithin};
-    ghost use Rattle.store.specs.Book.{Follows, LeavesSame};
+    ghost use Rattle.books.specs.Book.{Follows, LeavesSame};
 
     /// What it answers.
     type Answer: Drop;

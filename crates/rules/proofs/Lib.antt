@@ -1,32 +1,7 @@
-pub mod Words
-pub mod Lemmas
-pub mod SightLemmas
-pub mod ViewLemmas
-pub mod OrderedSetLemmas
-pub mod NamedLemmas
-pub mod GrowthLemmas
-pub mod KeepingLemmas
-pub mod LinkLemmas
-pub mod CommandLemmas
-pub mod CreationLemmas
-pub mod WellFormedLemmas
-pub mod MeetingLemmas
-pub mod PostingLemmas
-pub mod LapsedLemmas
-pub mod SettledLemmas
-pub mod HandedOver
-pub mod LineEntryLemmas
-pub mod LineTimeLemmas
-pub mod LineKeepingLemmas
-pub mod LineCommandLemmas
-pub mod ShapeCommandLemmas
-pub mod RegistryLemmas
-pub mod IsolationLemmas
-pub mod LineTransferLemmas
-pub mod TransferLemmas
-pub mod AcceptedLemmas
-pub mod TransferCases
-pub mod CommandCases
-pub mod OrderCases
-pub mod MoneyCommandLemmas
-pub mod MoneyLaws
+pub mod RowLemmas
+mod ActionLemmas
+mod FirstCauseLemmas
+mod LaterCauseLemmas
+mod BreachLemmas
+pub mod LawLemmas
+pub mod RenewalLemmas

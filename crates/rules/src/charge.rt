@@ -1,63 +1,63 @@
-//! What commands charge.
-ghost use Rattle.std.specs.Prelude.{◌≡◌, option_map};
-ghost use Rattle.lifecycle.specs.Graces as graces;
-ghost use Rattle.rules.specs.Decisions as spec;
+//! What commands cost.
+ghost use Rattle.std.specs.Prelude.{◌≡◌};
+ghost use Rattle.std.specs.Option.{option_copied};
+ghost use Rattle.rules.specs.Charges as spec;
 
-use crate::change::Change;
-use accounts::{Line, LineKind};
-use basis::registrar::RegistrarNo;
 use calendar::Moment;
 use facts::Facts;
-use lifecycle::{AccountChange, period_of};
-use objects::Roid;
+use lifecycle::years_to_outlast;
+use objects::{DomainFace, FullDomain, Seen};
 use policy::Policy;
-use protocol::Request;
-use verdict::{charge_of, years_charged};
+use protocol::{Action, Request};
 
-/// When the grace of a charge begins, if it has one: at once.
-fn grace_from(kind: LineKind, moment: Moment) -> Option<Moment>
-    ensures { result ≡ option_map (λ period. moment) (graces.period_of kind) }
+/// What a command costs at a moment, in cents: the price of each year for which it charges.
+pub fn charge_of(policy: &Policy, request: &Request, facts: &Facts, moment: Moment) -> u64
+    ensures { result ≡ spec.charge_of policy.now moment request.now facts.now }
 {
-    match period_of(kind) {
-        Some(_) => Some(moment),
-        None => None,
+    u64::from(price_of(policy, request.action())) * u64::from(years_charged(request, facts, moment))
+}
+
+/// The years for which a command charges: those that it names, or those that a domain needs that is
+/// restored.
+pub fn years_charged(request: &Request, facts: &Facts, moment: Moment) -> u32
+    ensures { result ≡ spec.years_charged moment request.now facts.now }
+{
+    match request {
+        Request::ReportRestore { name, .. } => years_needed(facts.domain_seen(name.text()), moment),
+        _ => request.years(),
     }
 }
 
-/// The line of what a request charges for a domain.
-fn charge_line(
-    kind: LineKind,
-    roid: Roid,
-    request: &Request,
-    facts: &Facts,
-    moment: Moment,
-    policy: &Policy,
-) -> Line
-    ensures { result ≡ spec.charge_line kind policy.now moment roid request.now facts.now }
+/// The least number of years more with which a domain that is seen in full expires after the moment.
+fn years_needed(seen: Option<&Seen<FullDomain, DomainFace>>, moment: Moment) -> u32
+    ensures { result ≡ spec.years_needed moment (option_copied seen.entry) }
 {
-    Line {
-        kind,
-        roid: Some(roid),
-        recorded: moment,
-        years: years_charged(request, facts, moment),
-        cents: charge_of(policy, request, facts, moment),
-        started: grace_from(kind, moment),
-        refunded: None,
+    match seen {
+        Some(Seen::Full(known)) => years_to_outlast(&known.domain, moment),
+        _ => 0,
     }
 }
 
-/// The caller is charged for what it asks.
-pub(crate) fn charge(
-    kind: LineKind,
-    caller: RegistrarNo,
-    roid: Roid,
-    request: &Request,
-    facts: &Facts,
-    moment: Moment,
-    policy: &Policy,
-) -> Change
-    ensures { result ≡ spec.charge kind policy.now caller moment roid request.now facts.now }
+/// The price of a year in cents.
+fn price_of(policy: &Policy, action: Action) -> u32
+    ensures { result ≡ spec.price_of policy.now action }
 {
-    let line = charge_line(kind, roid, request, facts, moment, policy);
-    Change::Post(caller, AccountChange::Charge(line))
+    match action {
+        Action::Create => policy.create_price(),
+        Action::Renew | Action::ReportRestore => policy.renew_price(),
+        Action::RequestTransfer => policy.transfer_price(),
+        Action::Logout
+        | Action::Balance
+        | Action::Check
+        | Action::Info
+        | Action::Delete
+        | Action::Update
+        | Action::RequestRestore
+        | Action::QueryTransfer
+        | Action::ApproveTransfer
+        | Action::RejectTransfer
+        | Action::CancelTransfer
+        | Action::PollRequest
+        | Action::PollAck => 0,
+    }
 }

@@ -1,16 +1,34 @@
-//! What a command or an order changes, as a list of changes of the registry.
+//! What a command or an order is answered: the table of each command's refusals, the conditions that
+//! the tables name, and the data of what is accepted.
 #![tactic(auto)]
 
-mod change;
+mod amended;
+mod case;
 mod charge;
-mod created;
-mod decision;
-mod lapse;
+mod conditions;
+mod deletion;
 mod order;
-mod transfers;
-mod updated;
+mod poll;
+mod refusal;
+mod renewal;
+mod response;
+mod restoration;
+mod rules;
+mod transfer;
+mod verdict;
 
-pub use change::Change;
-pub use decision::{Decision, decide};
-pub use lapse::lapse_changes;
-pub use order::{MOST_DEPOSITED, OrderDecision, decide_deposit, decide_order};
+pub use charge::{charge_of, years_charged};
+pub use deletion::goes_at_once;
+pub use order::{OrderCondition, STATUS_ORDER, judge_order};
+pub use refusal::Cause;
+pub use response::id_of;
+pub use rules::{
+    CONTACT_CREATION, CONTACT_DELETION, CONTACT_INFO, CONTACT_TRANSFER_ANSWER,
+    CONTACT_TRANSFER_CANCEL, CONTACT_TRANSFER_QUERY, CONTACT_TRANSFER_REQUEST, CONTACT_UPDATE,
+    Condition, DOMAIN_CREATION, DOMAIN_DELETION, DOMAIN_INFO, DOMAIN_RENEWAL,
+    DOMAIN_TRANSFER_ANSWER, DOMAIN_TRANSFER_CANCEL, DOMAIN_TRANSFER_QUERY, DOMAIN_TRANSFER_REQUEST,
+    DOMAIN_UPDATE, HOST_CREATION, HOST_DELETION, HOST_INFO, HOST_UPDATE, MESSAGE_ACKNOWLEDGEMENT,
+    RESTORE_REPORT, RESTORE_REQUEST,
+};
+pub use transfer::transfer_after;
+pub use verdict::{Verdict, judge};

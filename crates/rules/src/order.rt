@@ -1,163 +1,158 @@
-//! What an order of the operator is answered, and what it changes.
-ghost use Rattle.std.specs.Prelude.{◌≡◌, [], IfOk};
+//! What the operator's orders are answered.
+ghost use Rattle.std.specs.Prelude.{◌≡◌, find};
+ghost use Rattle.std.specs.Option.{option_copied};
+ghost use Rattle.protocol.specs.Requests.{holds_of};
+ghost use Rattle.rules.specs.Conditions as conditions;
+ghost use Rattle.model.specs.Objects as model;
+ghost use Rattle.rules.specs.Causes.{cause_of_order};
 ghost use Rattle.rules.specs.Orders as spec;
-ghost use Rattle.verdict.specs.Orders.{order_code};
 
-use crate::change::{Change, only};
-use accounts::{Line, LineKind};
-use basis::list::Seq;
-use basis::text::Text;
-use calendar::Moment;
-use lifecycle::AccountChange;
+use crate::conditions::{any_set, any_unset};
+use crate::refusal::Cause;
+use OrderCondition::{
+    AddsWhatIsSet, ContradictsPendingState, HasAnothersStatus, HasUnknownStatus, IsMissing,
+    ListRepeats, RemovesWhatIsUnset,
+};
+use facts::has_status_twice;
 use model::Object;
-use objects::{Status, amended_statuses};
-use policy::Policy;
+use objects::{ObjectKind, Status as ObjectStatus, has_status};
 use protocol::{Code, StatusOrder};
-use std::alloc::{AllocError, Global};
-use verdict::judge_order;
 
-/// What an order is answered, and the changes that it makes.
-#[derive(Drop)]
-pub struct OrderDecision {
-    pub code: Code,
-    pub changes: Seq<Change>,
+/// What an order can be refused on.
+#[derive(Clone, Copy, Drop)]
+pub enum OrderCondition {
+    /// There is no object of the name.
+    IsMissing,
+    /// It prohibits what is done or pends already.
+    ContradictsPendingState,
+    /// It names what is no status.
+    HasUnknownStatus,
+    /// It names a status that isn't the operator's on this kind of object.
+    HasAnothersStatus,
+    /// A list names one status twice.
+    ListRepeats,
+    /// It adds a status that is set.
+    AddsWhatIsSet,
+    /// It removes a status that isn't set.
+    RemovesWhatIsUnset,
 }
 
-/// Decides on an order, by the object that it names.
-pub fn decide_order(
-    alloc: Global,
-    order: &StatusOrder,
-    object: Option<Object>,
-) -> Result<OrderDecision, AllocError>
-    ensures { IfOk result (λ decision. decision ≡ spec.decided_order order.now object
-        (order_code order.now object)) }
-{
-    let code = judge_order(order, object.as_ref());
-    Ok(OrderDecision {
-        code,
-        changes: Seq::from_vec(changes_after(alloc, order, object, code)?),
-    })
-}
-
-fn changes_after(
-    alloc: Global,
-    order: &StatusOrder,
-    object: Option<Object>,
-    answered: Code,
-) -> Result<Vec<Change>, AllocError>
-    ensures { IfOk result (λ changes. changes.items
-        ≡ (spec.decided_order order.now object answered).changes) }
-{
-    if !answered.is_accepted() {
-        drop(object);
-        return Ok(Vec::new(alloc));
+impl OrderCondition {
+    /// The cause that it is of a refusal (RFC 5730, 3).
+    pub fn cause(self) -> Cause
+        ensures { result ≡ cause_of_order self }
+    {
+        match self {
+            OrderCondition::IsMissing => Cause::Missing,
+            OrderCondition::ContradictsPendingState => Cause::StatusProhibits,
+            OrderCondition::HasUnknownStatus
+            | OrderCondition::HasAnothersStatus
+            | OrderCondition::ListRepeats
+            | OrderCondition::AddsWhatIsSet
+            | OrderCondition::RemovesWhatIsUnset => Cause::ParametersRefused,
+        }
     }
+}
+
+/// The table of the orders that set statuses.
+pub const STATUS_ORDER: &[OrderCondition] = &[
+    IsMissing,
+    ContradictsPendingState, // RFC 5731, 2.3
+    HasUnknownStatus,
+    HasAnothersStatus, // RFC 5731, 2.3
+    ListRepeats,
+    AddsWhatIsSet,
+    RemovesWhatIsUnset,
+];
+
+/// What an order is answered, by the object that it names.
+#[tactic(auto, unfolding(crate::specs::Refusals::first_refusal, crate::specs::Orders::order_code))]
+pub fn judge_order(order: &StatusOrder, object: Option<&Object>) -> Code
+    ensures { result ≡ spec.order_code order.now (option_copied object.entry) }
+{
+    match find_refusal(order, object) {
+        Some(condition) => condition.cause().code(),
+        None => Code::Completed,
+    }
+}
+
+fn find_refusal(order: &StatusOrder, object: Option<&Object>) -> Option<&'static OrderCondition>
+    ensures { option_copied result ≡ find (spec.order_holds order.now (option_copied object.entry))
+        STATUS_ORDER.now }
+{
+    STATUS_ORDER
+        .iter()
+        .find(|condition| meets(order, **condition, object))
+}
+
+fn meets(order: &StatusOrder, condition: OrderCondition, object: Option<&Object>) -> bool
+    ensures { result ≡ spec.order_holds order.now (option_copied object.entry) condition }
+{
+    let (add, rem) = (order.add.as_slice(), order.rem.as_slice());
+    match condition {
+        OrderCondition::IsMissing => object.is_none(),
+        OrderCondition::ContradictsPendingState => contradicts(add, object),
+        OrderCondition::HasUnknownStatus => order.has_unknown_status,
+        OrderCondition::HasAnothersStatus => {
+            any_foreign(order.kind, add) || any_foreign(order.kind, rem)
+        }
+        OrderCondition::ListRepeats => has_status_twice(add) || has_status_twice(rem),
+        OrderCondition::AddsWhatIsSet => adds_set(add, object),
+        OrderCondition::RemovesWhatIsUnset => removes_unset(rem, object),
+    }
+}
+
+fn contradicts(added: &[ObjectStatus], object: Option<&Object>) -> bool
+    ensures { result ≡ holds_of (spec.contradicts_pending_state added.now)
+        (option_copied object.entry) }
+{
     match object {
-        None => Ok(Vec::new(alloc)),
-        Some(object) => only(alloc, put_ordered(alloc, order, object)?),
+        None => false,
+        Some(object) => contradicts_pending_state(added, object),
     }
 }
 
-/// The object with the statuses that an order leaves.
-fn put_ordered(alloc: Global, order: &StatusOrder, object: Object) -> Result<Change, AllocError>
-    ensures { IfOk result (λ change. change ≡ spec.put_ordered order.now object) }
-{
-    match ordered(alloc, order, object.statuses()) {
-        Ok(statuses) => Ok(put_with(statuses, object)),
-        Err(error) => {
-            drop(object);
-            Err(error)
-        }
-    }
-}
-
-/// The object with these statuses.
-fn put_with(statuses: Seq<Status>, object: Object) -> Change
-    ensures { result ≡ spec.put_with statuses object }
+/// Whether it prohibits that a deleted domain is deleted, or that what pends is transferred.
+fn contradicts_pending_state(added: &[ObjectStatus], object: &Object) -> bool
+    ensures { result ≡ spec.contradicts_pending_state added.now object.now }
 {
     match object {
-        Object::Contact(mut contact) => {
-            contact.statuses = statuses;
-            Change::PutContact(contact)
+        Object::Contact(contact) => {
+            has_status(added, ObjectStatus::ServerTransferProhibited)
+                && contact.is_pending_transfer()
         }
-        Object::Domain(mut domain) => {
-            domain.statuses = statuses;
-            Change::PutDomain(domain)
+        Object::Domain(domain) => {
+            has_status(added, ObjectStatus::ServerDeleteProhibited) && domain.deletion.is_some()
+                || has_status(added, ObjectStatus::ServerTransferProhibited)
+                    && domain.is_pending_transfer()
         }
-        Object::Host(mut host) => {
-            host.statuses = statuses;
-            Change::PutHost(host)
-        }
+        Object::Host(_) => false,
     }
 }
 
-fn ordered(alloc: Global, order: &StatusOrder, old: &[Status]) -> Result<Seq<Status>, AllocError>
-    ensures { IfOk result (λ statuses. statuses ≡ spec.ordered order.now old.now) }
+/// Whether a status isn't one that the operator sets on this kind of object.
+fn any_foreign(kind: ObjectKind, statuses: &[ObjectStatus]) -> bool
+    ensures { result ≡ spec.any_foreign kind statuses.now }
 {
-    amended_statuses(alloc, old, order.rem.as_slice(), order.add.as_slice())
+    statuses.iter().any(|status| !status.is_server_of(kind))
 }
 
-// ---- deposits
-
-/// The most cents that are deposited at once: 10^12.
-pub const MOST_DEPOSITED: u64 = 1_000_000_000_000;
-
-/// The cents that were sent, if so many can be deposited at once.
-fn cents_of(cents: i64) -> Option<u64>
-    ensures { result ≡ spec.cents_of cents }
+fn adds_set(added: &[ObjectStatus], object: Option<&Object>) -> bool
+    ensures { result ≡ holds_of (λ it. conditions.any_set (model.statuses_of it) added.now)
+        (option_copied object.entry) }
 {
-    if 1 <= cents && cents <= MOST_DEPOSITED as i64 {
-        Some(cents as u64)
-    } else {
-        None
+    match object {
+        None => false,
+        Some(object) => any_set(object.statuses(), added),
     }
 }
 
-fn deposit_line(cents: u64, moment: Moment) -> Line
-    ensures { result ≡ spec.deposit_line moment cents }
+fn removes_unset(removed: &[ObjectStatus], object: Option<&Object>) -> bool
+    ensures { result ≡ holds_of (λ it. conditions.any_unset (model.statuses_of it) removed.now)
+        (option_copied object.entry) }
 {
-    Line {
-        kind: LineKind::Deposit,
-        roid: None,
-        recorded: moment,
-        years: 0,
-        cents,
-        started: None,
-        refunded: None,
-    }
-}
-
-/// Decides on a deposit at a moment. It is answered `ParameterRange` where the cents aren't 1 to
-/// 10^12, and `ObjectMissing` where there is no such registrar.
-pub fn decide_deposit(
-    alloc: Global,
-    registrar: &Text,
-    cents: i64,
-    moment: Moment,
-    policy: &Policy,
-) -> Result<OrderDecision, AllocError>
-    ensures { IfOk result (λ decision. decision ≡ spec.deposit_decision policy.now moment
-        registrar.now cents) }
-{
-    let Some(cents) = cents_of(cents) else {
-        return Ok(refused(alloc, Code::ParameterRange));
-    };
-    let Some(registrar) = policy.find(registrar.as_str()) else {
-        return Ok(refused(alloc, Code::ObjectMissing));
-    };
-    let line = deposit_line(cents, moment);
-    let change = Change::Post(registrar, AccountChange::Charge(line));
-    Ok(OrderDecision {
-        code: Code::Completed,
-        changes: Seq::from_vec(only(alloc, change)?),
-    })
-}
-
-fn refused(alloc: Global, code: Code) -> OrderDecision
-    ensures { result ≡ record { code = code; changes = [] } }
-{
-    OrderDecision {
-        code,
-        changes: Seq::new(alloc),
+    match object {
+        None => false,
+        Some(object) => any_unset(object.statuses(), removed),
     }
 }

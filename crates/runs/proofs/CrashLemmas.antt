@@ -12,11 +12,11 @@ use Rattle.registry.specs.declared.fault.OpenFault.TheVariants as refusals
 use Rattle.registry.specs.Crashes.{Makes, RefusedTo}
 use Rattle.registry.specs.Execution.{SameTerms}
 use Rattle.registry.specs.Opening.{Refuses}
-use Rattle.store.specs.Book.{BookState, Follows, LeavesItself, LeavesOldOrMade, Stored, may_leave}
-use Rattle.store.specs.Reopening.{IsBook, IsFound, IsFoundAgain, LeavesFound}
-use Rattle.transactions.specs.declared.readiness.Ready.{Ready}
-use Rattle.transactions.specs.declared.readiness.Ready.TheVariants.{Empty, Used, Other}
-use Rattle.transactions.specs.States.{Has, Remains}
+use Rattle.books.specs.Book.{BookState, Follows, LeavesItself, LeavesOldOrMade, Stored, may_leave}
+use Rattle.books.specs.Reopening.{IsBook, IsFound, IsFoundAgain, LeavesFound}
+use Rattle.states.specs.declared.readiness.Ready.{Ready}
+use Rattle.states.specs.declared.readiness.Ready.TheVariants.{Empty, Used, Other}
+use Rattle.states.specs.States.{Has, Remains}
 use Rattle.runs.specs.Crashes.{Call, Event, AreMade, Happen, Happened, Happens, ComeTo, Leads, WereMade, answered, asking, crash, gave_up, opening, refused, settling}
 use Rattle.runs.specs.CrashLaws.{CrashesLeaveRuns, CrashesLeftRuns, EventsGoOn, IsCarriedOut, TakenLeaveFound, event_of, refusal_of}
 

@@ -8,9 +8,9 @@ use Rattle.model.specs.WellFormed.{IsRegistry, last_clock}
 use Rattle.model.proofs.MoneyLaws.{money-follows-over}
 use Rattle.policy.specs.Rules.{PolicyRules, IsSound}
 use Rattle.registry.proofs.CallsKept.{formed, paid}
-use Rattle.rules.proofs.MoneyLaws.{money-lapsed}
-use Rattle.rules.proofs.RegistryLemmas.{registry-lapsed}
-use Rattle.privacy.specs.Runs.{Answer, IsCall, Question, command, date, look_up, order}
+use Rattle.decisions.proofs.MoneyLaws.{money-lapsed}
+use Rattle.decisions.proofs.RegistryLemmas.{registry-lapsed}
+use Rattle.isolation.specs.Runs.{Answer, IsCall, Question, command, date, look_up, order}
 use Rattle.runs.specs.Runs.{Taken, Turn, AreTurns, IsAskedIn, IsTurn, call, calls_of, moment_of, settlement}
 use Rattle.runs.specs.RunLaws.{RunsKeepMoney, RunsKeepRegistries}
 

@@ -3,9 +3,9 @@ use Rattle.std.proofs.Common.{◌≡◌, ℕ, cond, List, [], ◌∷◌, refl, s
 use Rattle.model.specs.Lapse.{lapsed, now}
 use Rattle.model.specs.Registry.{Registry}
 use Rattle.policy.specs.Rules.{PolicyRules}
-use Rattle.privacy.specs.Alike.{firsts, seconds}
-use Rattle.privacy.specs.Runs.{Answer, Question, answer_to, effect_of, is_asked_by, left_by, told}
-use Rattle.privacy.proofs.RunLemmas.{alike-lists-tell-the-same}
+use Rattle.isolation.specs.Alike.{firsts, seconds}
+use Rattle.isolation.specs.Runs.{Answer, Question, answer_to, effect_of, is_asked_by, left_by, told}
+use Rattle.isolation.proofs.RunLemmas.{alike-lists-tell-the-same}
 use Rattle.runs.specs.Runs.{IsRun, told_of}
 use Rattle.runs.specs.RunLaws.{AlikeRunsTellTheSame}
 use Rattle.runs.proofs.SettlementLemmas.{found-alike}

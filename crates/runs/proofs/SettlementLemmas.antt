@@ -5,7 +5,7 @@ use Rattle.model.specs.Registry.{Registry}
 use Rattle.model.proofs.LapseLaws.{have-one-future, lapses-on}
 use Rattle.policy.specs.Rules.{PolicyRules}
 use Rattle.registry.specs.Execution.{IsSettlement}
-use Rattle.privacy.specs.Runs.{Answer, IsCall, Question, answer_to, effect_of}
+use Rattle.isolation.specs.Runs.{Answer, IsCall, Question, answer_to, effect_of}
 use Rattle.runs.specs.Runs.{Turn, Follow, IsLater, IsRun, answers_of, call, questions_of, settlement, settles_last}
 use Rattle.runs.specs.RunLaws.{AnswersAreDetermined, SettlementsGoUnnoticed, SettlementsMayBeLeftOut}
 

@@ -16,10 +16,10 @@ use Rattle.registry.specs.Execution.{Fails, Greets, IsGreetingStep, IsOrderStep,
 use Rattle.registry.specs.Faces.{IsLookUp, LooksUp}
 use Rattle.registry.specs.Opening.{Opens, Refuses}
 use Rattle.runs.specs.Crashes.{Call, Event, ComeTo, Happen, Happened, Happens, answered, asking, crash, gave_up, opening, refused, settling}
-use Rattle.privacy.specs.Runs.{command, date, look_up, order}
-use Rattle.store.specs.Book.{BookState, Follows, LeavesItself, Stored, may_leave}
-use Rattle.store.specs.Reopening.{IsTakenUp, LeavesFound}
-use Rattle.transactions.specs.States.{Remains}
+use Rattle.isolation.specs.Runs.{command, date, look_up, order}
+use Rattle.books.specs.Book.{BookState, Follows, LeavesItself, Stored, may_leave}
+use Rattle.books.specs.Reopening.{IsTakenUp, LeavesFound}
+use Rattle.states.specs.States.{Remains}
 
 -- Whatever happens to a book that was taken up: what it holds is what calls made of what it held at first, all that
 -- answered, in their order, and of the others some that a crash showed; and so is what a crash leaves of it then.

@@ -4,9 +4,9 @@ use Rattle.policy.specs.Rules.{PolicyRules}
 use Rattle.policy.specs.Terms.{terms_of}
 use Rattle.registry.specs.Crashes.{Makes, OpensTo}
 use Rattle.registry.specs.Execution.{IsSettlement}
-use Rattle.privacy.specs.Runs.{IsCall, Question}
-use Rattle.store.specs.Book.{BookState, Follows, LeavesItself, LeavesOld, LeavesOldOrMade, Stored}
-use Rattle.store.specs.Reopening.{IsReopened, LeavesFound}
+use Rattle.isolation.specs.Runs.{IsCall, Question}
+use Rattle.books.specs.Book.{BookState, Follows, LeavesItself, LeavesOld, LeavesOldOrMade, Stored}
+use Rattle.books.specs.Reopening.{IsReopened, LeavesFound}
 
 -- ---- calls
 

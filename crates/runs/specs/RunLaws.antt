@@ -10,9 +10,9 @@ use Rattle.protocol.specs.declared.command.Command.{Command}
 use Rattle.protocol.specs.declared.order.Order.{Order}
 use Rattle.protocol.specs.declared.reply.Reply.{Reply}
 use Rattle.registry.specs.Execution.{IsGreetingStep, IsOrderStep, IsStep}
-use Rattle.privacy.specs.Alike.{Pair, AreAlike, firsts, seconds}
-use Rattle.privacy.specs.Laws.{none}
-use Rattle.privacy.specs.Runs.{Answer, IsCall, Question, code, command, date, dated, look_up, order, reply, shown}
+use Rattle.isolation.specs.Alike.{Pair, AreAlike, firsts, seconds}
+use Rattle.isolation.specs.Laws.{none}
+use Rattle.isolation.specs.Runs.{Answer, IsCall, Question, code, command, date, dated, look_up, order, reply, shown}
 use Rattle.runs.specs.Runs.{Taken, Turn, AreTurns, IsLater, IsRun, IsSettledRun, answers_of, calls_of, questions_of, settles_last, told_of}
 
 -- ---- the steps of the registry's calls are calls of a run

@@ -4,9 +4,9 @@ use Rattle.model.specs.Lapse.{lapse, now}
 use Rattle.model.specs.Registry.{Registry}
 use Rattle.model.specs.WellFormed.{HasNumbersLeft, last_clock}
 use Rattle.policy.specs.Rules.{PolicyRules, IsRegistrar}
-use Rattle.privacy.specs.Runs.{Answer, IsCall, Question, command, date, is_asked_by, look_up, order}
+use Rattle.isolation.specs.Runs.{Answer, IsCall, Question, command, date, is_asked_by, look_up, order}
 use Rattle.registry.specs.Execution.{IsSettlement}
-use Rattle.rules.specs.Askable.{CanBeAsked}
+use Rattle.decisions.specs.Askable.{CanBeAsked}
 
 -- ---- calls one after another
 

@@ -12,7 +12,7 @@ use Rattle.script.specs.Runs.{BeginsBehind, Writes, kept, lines_of, printed}
 use Rattle.script.specs.inner.Runs.{BreaksAt, EndsBehind, HaltsAt, LeavesAsWas}
 use Rattle.script.proofs.BeginLemmas.{begun_at}
 use Rattle.script.proofs.RunLemmas.{AreTold, Reads, next_lines, under}
-use Rattle.store.specs.Book.{BookState, Follows, Stored}
+use Rattle.books.specs.Book.{BookState, Follows, Stored}
 
 -- what a line leaves that ends a run
 abbrev LeftBy : Exit → Registry → Registry → Type 0

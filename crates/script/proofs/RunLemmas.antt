@@ -9,7 +9,7 @@ use Rattle.policy.specs.Rules.{PolicyRules}
 use Rattle.script.specs.declared.exit.Exit.TheVariants as exits
 use Rattle.script.specs.Runs.{Answers, EndsIn, Prints, begun_with, lines_of, printed}
 use Rattle.script.specs.inner.Runs.{TellsLine}
-use Rattle.store.specs.Book.{BookState, Follows}
+use Rattle.books.specs.Book.{BookState, Follows}
 use Rattle.model.specs.Registry.{Registry}
 
 -- ---- the lines of an input

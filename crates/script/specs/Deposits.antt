@@ -8,7 +8,7 @@ use Rattle.protocol.specs.declared.order.OperatorRequest.TheVariants as requests
 use Rattle.registry.specs.Execution.{Fails, IsUnchanged, OrderSteps, Settles}
 use Rattle.script.specs.declared.exit.Exit.{Exit}
 use Rattle.script.specs.declared.exit.Exit.TheVariants as exits
-use Rattle.store.specs.Book.{BookState}
+use Rattle.books.specs.Book.{BookState}
 
 -- a fault of the output, or of memory
 abbrev pub IsOfMachine : Exit → Type 0

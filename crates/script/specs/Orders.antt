@@ -12,7 +12,7 @@ use Rattle.registry.specs.Execution.{IsUnchanged, OrderSteps, Settles}
 use Rattle.script.specs.declared.exit.Exit.{Exit}
 use Rattle.script.specs.declared.exit.Exit.TheVariants as exits
 use Rattle.script.specs.Deposits.{EndsUntold, IsCarriedOut}
-use Rattle.store.specs.Book.{BookState}
+use Rattle.books.specs.Book.{BookState}
 
 -- the payload is an order or a settlement of which P holds
 abbrev pub IsOrdered : List ℕ → (OperatorRequest → Type 0) → Type 0

@@ -6,18 +6,18 @@ ghost use Rattle.script.specs.declared.line.Sender.TheVariants.{Registrar};
 ghost use Rattle.script.specs.Lines.{IsKnown};
 ghost use Rattle.script.specs.Runs.{Answers, IsAnswered, kept};
 ghost use Rattle.script.specs.inner.Runs.{IsAnsweredCommand, IsAnsweredHello, IsAnsweredOperator, IsAnsweredOrder, IsAnsweredSettlement, IsStopped, IsUnread, LeavesAsWas, told_text};
-ghost use Rattle.store.specs.Book.{Follows};
+ghost use Rattle.books.specs.Book.{Follows};
 
 use crate::exit::Exit;
 use crate::line::Line;
 use basis::registrar::RegistrarNo;
+use books::Book;
 use calendar::Moment;
 use eppcommands::{in_session, order_of};
 use eppreplies::{greeting_bytes, order_bytes, reply_bytes};
 use protocol::{Code, Command, InSession, OperatorRequest, Order, Reply};
 use registry::Registry;
 use std::alloc::{AllocError, Global};
-use store::Book;
 
 /// What a line is answered, or `None` where the call gave up or found no memory.
 pub(crate) fn answer<B: Book + Drop>(

@@ -6,17 +6,17 @@ ghost use Rattle.protocol.specs.declared.order.OperatorRequest.TheVariants as re
 ghost use Rattle.protocol.specs.declared.order.Order.TheVariants as orders;
 ghost use Rattle.registry.specs.Execution.{OrderSteps, last_call};
 ghost use Rattle.script.specs.Deposits.{EndsUntold, IsCarriedOut};
-ghost use Rattle.store.specs.Book.{Follows};
+ghost use Rattle.books.specs.Book.{Follows};
 
 use crate::exit::Exit;
 use crate::order::carry_out_order;
 use basis::text::Text;
+use books::Book;
 use calendar::Moment;
 use protocol::{Code, Order};
 use registry::Registry;
 use std::alloc::Global;
 use std::io::Write;
-use store::Book;
 
 /// Enters what a registrar has paid at a moment, in a registry that is open, and prints the answer as a
 /// script prints it; a moment before the clock counts as the clock. It gives the code of the answer:

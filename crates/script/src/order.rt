@@ -6,9 +6,10 @@ ghost use Rattle.protocol.specs.declared.order.OperatorRequest.TheVariants as re
 ghost use Rattle.registry.specs.Execution.{OrderSteps, last_call};
 ghost use Rattle.script.specs.Deposits.{EndsUntold, IsCarriedOut, IsOfMachine};
 ghost use Rattle.script.specs.Orders.{EndsUnanswered, IsOrdered, IsTold};
-ghost use Rattle.store.specs.Book.{Follows};
+ghost use Rattle.books.specs.Book.{Follows};
 
 use crate::exit::Exit;
+use books::Book;
 use calendar::Moment;
 use eppcommands::order_of;
 use eppreplies::order_bytes;
@@ -16,7 +17,6 @@ use protocol::{Code, OperatorRequest, Order};
 use registry::Registry;
 use std::alloc::Global;
 use std::io::Write;
-use store::Book;
 
 /// Carries out what the operator sends at a moment, an order or a settlement, in a registry that is open,
 /// and prints the answer as a script prints it; a moment before the clock counts as the clock. It gives

@@ -4,14 +4,14 @@ ghost use Rattle.std.specs.Io.BufRead.{strip_last};
 ghost use Rattle.std.specs.Io.KnownBytes.{Appends, Keeps, append_known};
 ghost use Rattle.script.specs.inner.Runs.{AppendsFront, BreaksAt, EndsBehind, HaltsAt, LeavesAsWas, TellsLine, end_of, told_text};
 ghost use Rattle.script.specs.Runs.{EndsIn, kept};
-ghost use Rattle.store.specs.Book.{Follows};
+ghost use Rattle.books.specs.Book.{Follows};
 
 use crate::answer::answer;
 use crate::exit::Exit;
+use books::Book;
 use registry::Registry;
 use std::alloc::{AllocError, Global};
 use std::io::{self, BufRead, BufReader, Read, Write};
-use store::Book;
 use streams::write_all;
 
 /// What is answered where a call gave up, and where a command found no memory.

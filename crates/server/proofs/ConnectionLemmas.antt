@@ -15,7 +15,7 @@ use Rattle.server.specs.declared.connection.ConnectionEnd.TheVariants as ends
 use Rattle.server.specs.declared.http.HttpEnd.{HttpEnd}
 use Rattle.server.specs.declared.http.HttpEnd.TheVariants as http
 use Rattle.server.proofs.PeerLemmas.{session_taken, taken_for}
-use Rattle.store.specs.Book.{BookState, Follows}
+use Rattle.books.specs.Book.{BookState, Follows}
 
 -- what was read and the rest are the input
 pub given_back : (input rest : Option (List ℕ)) (first : List ℕ) → Consumes input rest first → Agrees input (option_append (Some first) rest)

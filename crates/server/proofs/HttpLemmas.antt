@@ -23,7 +23,7 @@ use Rattle.registry.proofs.PassingSteps.{same_then}
 use Rattle.server.specs.Http.{AnswersHttp, IsAnswered, IsNeeded, IsRead, IsWritten, MayShow, Passes, faces_at, faces_of}
 use Rattle.server.specs.declared.http.HttpEnd.{HttpEnd}
 use Rattle.server.specs.declared.http.HttpEnd.TheVariants as ends
-use Rattle.store.specs.Book.{BookState, Stored}
+use Rattle.books.specs.Book.{BookState, Stored}
 
 -- ---- what a look-up leaves
 

@@ -14,8 +14,8 @@ use Rattle.registry.proofs.PassingSteps.{same_then}
 use Rattle.server.proofs.HttpLemmas.{at_that_moment, stays}
 use Rattle.server.specs.HandOver.{LeavesLent, Shows, serial_of, zone_at, zone_faces, zone_faces_at, zone_with}
 use Rattle.server.specs.Http.{Passes}
-use Rattle.store.specs.Book.{BookState, Follows}
-use Rattle.store.specs.Faces.{domain_face, domain_face_at, domain_names, host_addresses_at, host_face}
+use Rattle.books.specs.Book.{BookState, Follows}
+use Rattle.books.specs.Faces.{domain_face, domain_face_at, domain_names, host_addresses_at, host_face}
 use Rattle.zonefile.specs.ZoneText.{Faces, addresses_of, zone_text}
 
 -- ---- what look-ups leave

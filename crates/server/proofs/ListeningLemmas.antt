@@ -3,7 +3,7 @@ use Rattle.std.proofs.Common.{◌≡◌, None, ◌∷◌, subst}
 use Rattle.policy.specs.Rules.{PolicyRules}
 use Rattle.server.specs.Connections.{Serves}
 use Rattle.server.specs.Listening.{ServesInTurn, ServesUnknown}
-use Rattle.store.specs.Book.{BookState}
+use Rattle.books.specs.Book.{BookState}
 
 -- one more behind those that were served
 pub one_more : (p q : PolicyRules) (old between new : BookState) → q ≡ p → ServesInTurn p old between → ServesUnknown q between new → ServesInTurn p old new

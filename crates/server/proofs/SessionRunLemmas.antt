@@ -12,7 +12,7 @@ use Rattle.eppwire.proofs.FollowLemmas.{answers_follow, follows_on, same_follows
 use Rattle.model.specs.Lapse.{now}
 use Rattle.model.specs.Registry.{Registry}
 use Rattle.policy.specs.Rules.{PolicyRules}
-use Rattle.privacy.specs.Runs.{Answer, IsCall, Question, date, dated, reply}
+use Rattle.isolation.specs.Runs.{Answer, IsCall, Question, date, dated, reply}
 use Rattle.protocol.specs.declared.session.BeforeLogin.{BeforeLogin}
 use Rattle.protocol.specs.declared.session.BeforeLogin.TheVariants as before
 use Rattle.protocol.specs.declared.session.InSession.{InSession}
@@ -25,7 +25,7 @@ use Rattle.frames.specs.declared.session.SessionEnd.{SessionEnd}
 use Rattle.frames.specs.declared.session.SessionEnd.TheVariants.{Logout, End, Cut, Length, ReadFault, WriteFault, Lost}
 use Rattle.server.specs.Connections.{AnswersAt, Desk}
 use Rattle.server.specs.SessionRuns.{AreAnswered, IsAnsweredAll, SessionsAreAnswered, SessionsAreRuns, SessionsAreSentTheSame, are_sent, asked_by, asked_over, caller_after, caller_with, has_failed, has_text, outcome_before, outcome_by, outcome_told, question_within, questions_before, questions_said}
-use Rattle.store.specs.Book.{BookState, Follows, Stored}
+use Rattle.books.specs.Book.{BookState, Follows, Stored}
 
 -- ---- one frame
 

@@ -10,7 +10,7 @@ use Rattle.frames.specs.declared.session.SessionEnd.{SessionEnd}
 use Rattle.server.specs.Http.{AnswersHttp}
 use Rattle.server.specs.declared.connection.ConnectionEnd.{ConnectionEnd}
 use Rattle.server.specs.declared.connection.ConnectionEnd.TheVariants as ends
-use Rattle.store.specs.Book.{BookState, Follows}
+use Rattle.books.specs.Book.{BookState, Follows}
 
 -- A frame begins with a byte 0, since its length is below 2^24 (RFC 5734, 4). An input without a
 -- byte counts as one of EPP, too.

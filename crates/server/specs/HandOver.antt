@@ -6,7 +6,7 @@ use Rattle.model.specs.Lapse.{lapsed}
 use Rattle.model.specs.Registry.{Registry}
 use Rattle.registry.specs.Faces.{ZoneFaces, zone_faces_of}
 use Rattle.server.specs.Http.{Passes}
-use Rattle.store.specs.Book.{BookState}
+use Rattle.books.specs.Book.{BookState}
 use Rattle.zonefile.specs.ZoneText.{Faces, zone_text}
 
 -- the serial number is the clock's seconds, as far as it has room for them (RFC 1035, 3.3.13; RFC

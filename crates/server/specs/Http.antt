@@ -12,8 +12,8 @@ use Rattle.registry.specs.Execution.{last_call}
 use Rattle.server.specs.declared.http.HttpEnd.{HttpEnd}
 use Rattle.server.specs.declared.http.HttpEnd.TheVariants as ends
 use Rattle.frames.specs.Sessions.{Writes}
-use Rattle.store.specs.Book.{BookState, Follows}
-use Rattle.store.specs.Faces.{contact_face_at, domain_face_at, host_face_at}
+use Rattle.books.specs.Book.{BookState, Follows}
+use Rattle.books.specs.Faces.{contact_face_at, domain_face_at, host_face_at}
 
 -- the faces of a registry, as RDAP asks for them
 abbrev pub faces_of : PolicyRules → Registry → Faces

@@ -4,7 +4,7 @@ use Rattle.std.specs.Prelude.{◌≡◌, List, [], ◌∷◌, None}
 use Rattle.policy.specs.Rules.{PolicyRules}
 use Rattle.server.specs.Connections.{Serves}
 use Rattle.server.specs.declared.connection.ConnectionEnd.{ConnectionEnd}
-use Rattle.store.specs.Book.{BookState}
+use Rattle.books.specs.Book.{BookState}
 
 -- what a connection of which nothing is known leaves: what a session's steps or a request do
 abbrev pub ServesUnknown : PolicyRules → BookState → BookState → Type 0

@@ -8,7 +8,7 @@ use Rattle.eppwire.specs.Answers.{Tells, caller_of, greeting_outcome, login_code
 use Rattle.model.specs.Lapse.{now}
 use Rattle.model.specs.Registry.{Registry}
 use Rattle.policy.specs.Rules.{PolicyRules}
-use Rattle.privacy.specs.Runs.{Answer, Question, code, command, date, dated, reply, shown}
+use Rattle.isolation.specs.Runs.{Answer, Question, code, command, date, dated, reply, shown}
 use Rattle.protocol.specs.declared.session.BeforeLogin.{BeforeLogin}
 use Rattle.protocol.specs.declared.session.BeforeLogin.TheVariants as before
 use Rattle.protocol.specs.declared.session.InSession.{InSession}

@@ -4,6 +4,7 @@ ghost use Rattle.rdap.specs.Answering.{Faces, IsAnswer};
 ghost use Rattle.server.specs.Http.{MayShow, Passes};
 
 use basis::text::Text;
+use books::Book;
 use calendar::Moment;
 use names::{DomainName, HostName};
 use objects::{ContactFace, DomainFace, HostFace};
@@ -11,7 +12,6 @@ use policy::Policy;
 use rdap::{FaceSource, Routes, answer};
 use registry::{Fault, Registry};
 use std::alloc::Global;
-use store::Book;
 
 /// A registry that is lent with a moment: what is looked up is what everyone may know of it then.
 #[derive(Drop)]

@@ -4,7 +4,6 @@ ghost use Rattle.server.specs.Clocks.{nearest_moment};
 
 use calendar::{Moment, Range};
 use frames::Clock;
-use std::thread;
 use std::time::{self, Duration, SystemTime, UNIX_EPOCH};
 
 /// The last moment, 2199-12-31T23:59:59Z, in seconds since 1970-01-01T00:00:00Z.
@@ -20,11 +19,6 @@ pub struct MachineClock<'a, T: time::Clock> {
 impl<T: time::Clock> MachineClock<'_, T> {
     pub fn new(machine: &T) -> MachineClock<'_, T> {
         MachineClock { machine }
-    }
-
-    /// Waits until something that was wanting may have been given back: a tenth of a second.
-    pub(crate) fn pause(&self) {
-        thread::sleep(self.machine, Duration::from_millis(100));
     }
 
     /// The time since 1970-01-01T00:00:00Z.

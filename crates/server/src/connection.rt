@@ -7,16 +7,16 @@ ghost use Rattle.server.specs.Http.{AnswersHttp};
 ghost use Rattle.server.specs.declared.connection.ConnectionEnd.TheVariants as ends;
 ghost use Rattle.server.specs.declared.http.HttpEnd.{HttpEnd};
 ghost use Rattle.frames.specs.declared.session.SessionEnd.{SessionEnd};
-ghost use Rattle.store.specs.Book.{Follows};
+ghost use Rattle.books.specs.Book.{Follows};
 
 use crate::http::{HttpEnd, serve_http};
+use books::Book;
 use eppwire::Connection;
 use frames::{Clock, SessionEnd, serve_session};
 use rdap::Routes;
 use registry::Registry;
 use std::alloc::Global;
 use std::io::{Read, Write};
-use store::Book;
 use streams::read_to_fill;
 
 /// How a connection ended.

@@ -4,12 +4,12 @@ ghost use Rattle.rdap.specs.Heads.{IsCut, IsDecided, most_bytes};
 ghost use Rattle.server.specs.Http.{AnswersHttp, IsRead, IsWritten};
 
 use crate::at_moment::answer_at;
+use books::Book;
 use frames::Clock;
 use rdap::{MOST_BYTES, Reading, Routes, read_head};
 use registry::{Fault, Registry};
 use std::alloc::{AllocError, Global};
 use std::io::{ErrorKind, Read, Write};
-use store::Book;
 use streams::{ReadFault, WriteFault, write_whole};
 
 /// How a connection of HTTP ended.

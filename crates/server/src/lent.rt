@@ -3,11 +3,11 @@
 use crate::zone::ZoneExportFault;
 use basis::list::Seq;
 use basis::text::Text;
+use books::Book;
 use calendar::Moment;
 use objects::DomainFace;
 use policy::Policy;
 use registry::Registry;
-use store::Book;
 use zonefile::ZoneSource;
 
 /// A registry that is lent with a moment: the faces are those of all domains and hosts then.

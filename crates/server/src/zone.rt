@@ -7,11 +7,11 @@ ghost use Rattle.server.specs.declared.zone.ZoneExportFault.TheVariants as fault
 ghost use Rattle.zonefile.specs.ZoneText.{AppendsBeginning};
 
 use crate::lent::LentAtMoment;
+use books::Book;
 use calendar::Moment;
 use registry::{Fault, Registry};
 use std::alloc::Global;
 use std::io::Write;
-use store::Book;
 use thiserror::Error;
 use zonefile::{ZoneFault, write_zone};
 

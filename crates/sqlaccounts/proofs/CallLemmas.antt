@@ -1,7 +1,7 @@
 -- What calls on the store, one after another, leave.
 use Rattle.std.proofs.Common.{◌≡◌, true, sym, ap, subst, ◌∙◌}
-use Rattle.transactions.specs.States.{Reads, StateOf, Writes}
-use Rattle.transactions.proofs.LeavingLemmas.{leaves-on}
+use Rattle.states.specs.States.{Reads, StateOf, Writes}
+use Rattle.states.proofs.LeavingLemmas.{leaves-on}
 use Rattle.sqlite_keyed.specs.Keyed.{insert_by}
 use Rattle.sqltables.specs.Account.{Account, accounts}
 use Rattle.sqltables.specs.Content.{Content}

@@ -70,7 +70,7 @@ lines-at xs r None whole place at =
     ap (λ a. (unwrap_or a empty_account).lines) (get-accounts_of xs r ∙ (λ i. cond (place i) (option_map (account_in xs) (at i)) None))
     ∙ sym (lines-of-none xs (pos r) whole at)
 
-lines-there : (xs : Content) (r : ℕ) → IsWhole xs → is_place r ≡ true → (account_of r xs).lines ≡ lines_of xs (pos r)
+pub lines-there : (xs : Content) (r : ℕ) → IsWhole xs → is_place r ≡ true → (account_of r xs).lines ≡ lines_of xs (pos r)
 lines-there xs r whole place = lines-at xs r (row_of xs (pos r)) whole place refl
 
 pub lines-read : (xs : Content) (r : ℕ) (roid : Roid) → IsWhole xs → is_place r ≡ true → IsDomainRoid roid

@@ -1,6 +1,6 @@
 -- What a look at the store leaves.
 use Rattle.std.proofs.Common.{◌≡◌, true, sym, subst, ◌∙◌}
-use Rattle.transactions.specs.States.{Reads, StateOf}
+use Rattle.states.specs.States.{Reads, StateOf}
 use Rattle.sqlrows.specs.Meanings.{HasChanged}
 
 -- what was looked at stays as it is

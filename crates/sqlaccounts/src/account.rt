@@ -2,14 +2,14 @@
 ghost use Rattle.std.specs.Prelude.{◌≡◌, true, Some, IfOk};
 ghost use Rattle.sqlcolumns.specs.Numbers.{is_place, registrar_column};
 ghost use Rattle.sqlaccounts.specs.Accounts.{row_of};
-ghost use Rattle.transactions.specs.States.{Finds, FindsSome};
+ghost use Rattle.states.specs.States.{Finds, FindsSome};
 
 use basis::registrar::RegistrarNo;
 use sqlcolumns::registrar_column;
 use sqlite::Alter;
 use sqlrows::{Number, only};
 use sqltables::{AccountRow, RowStore};
-use transactions::BookFault;
+use states::BookFault;
 
 /// The number of a registrar's row; no registrar has the place 0.
 pub fn number_of(registrar: RegistrarNo) -> Result<Number, BookFault>

@@ -11,7 +11,7 @@ use basis::registrar::RegistrarNo;
 use sqlcolumns::{counter_column, counter_of_column};
 use sqlite::Alter;
 use sqltables::{AccountRow, RowStore};
-use transactions::BookFault;
+use states::BookFault;
 
 /// What a registrar's account counts: 0 where it was never opened.
 pub fn counts<S: Alter>(

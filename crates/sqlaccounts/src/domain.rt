@@ -1,4 +1,4 @@
-//! The lines of an account on one domain.
+//! The lines of an account, and those on one domain.
 ghost use Rattle.std.specs.Prelude.{◌≡◌, filter, IfOk};
 ghost use Rattle.std.specs.List.{filter_map, list_all};
 ghost use Rattle.accounts.specs.Lines as lines;
@@ -7,9 +7,9 @@ ghost use Rattle.accounts.specs.declared.line.LineSwap.{LineSwap};
 ghost use Rattle.basis.specs.Bag.{bag_of, remade};
 ghost use Rattle.sqlcolumns.specs.Lines.{line_in};
 ghost use Rattle.sqlaccounts.specs.Accounts.{account_of};
-ghost use Rattle.transactions.specs.States.{Finds, FindsSome};
+ghost use Rattle.states.specs.States.{Finds, FindsSome};
 
-use crate::finding::rows_on;
+use crate::finding::{rows_of, rows_on};
 use accounts::{LineChange, LineSwap, Lines};
 use basis::list::Seq;
 use basis::registrar::RegistrarNo;
@@ -17,8 +17,8 @@ use objects::Roid;
 use sqlcolumns::line_of_row;
 use sqlite::Alter;
 use sqltables::{LineRow, RowStore};
+use states::BookFault;
 use std::alloc::Global;
-use transactions::BookFault;
 
 /// The lines of a registrar's account on a domain: none where it was never opened. Another object than
 /// a domain is refused.
@@ -33,6 +33,20 @@ pub fn lines_on<S: Alter>(
         store.new }
 {
     let rows = rows_on(store, registrar, roid)?;
+    store.whole();
+    let lines = read(alloc, rows.as_slice())?;
+    Ok(lines)
+}
+
+/// The lines of a registrar's account: none where it was never opened.
+pub fn lines<S: Alter>(
+    store: &mut RowStore<S>,
+    alloc: Global,
+    registrar: RegistrarNo,
+) -> Result<Lines, BookFault>
+    ensures { Finds result (account_of registrar store.old.content).lines store.old store.new }
+{
+    let rows = rows_of(store, registrar)?;
     store.whole();
     let lines = read(alloc, rows.as_slice())?;
     Ok(lines)

@@ -4,7 +4,7 @@ ghost use Rattle.std.specs.Option.{option_copied};
 ghost use Rattle.sqlcolumns.specs.Numbers.{is_place};
 ghost use Rattle.sqlaccounts.specs.inner.Finding.{IsDomainRoid, is_row_about, is_row_on, reads_as};
 ghost use Rattle.sqltables.specs.Line.{Line as Row};
-ghost use Rattle.transactions.specs.States.{Finds};
+ghost use Rattle.states.specs.States.{Finds};
 
 use crate::account::number_of;
 use crate::writing::is_roid;
@@ -16,7 +16,7 @@ use sqlcolumns::{counter_column, line_of_row};
 use sqlite::Alter;
 use sqlrows::Number;
 use sqltables::{LineRow, RowStore};
-use transactions::BookFault;
+use states::BookFault;
 
 /// The rows of a registrar's lines on a domain. Another object than a domain is refused.
 pub(crate) fn rows_on<S: Alter>(
@@ -52,12 +52,12 @@ pub(crate) fn rows_about<S: Alter>(
 {
     match &line.roid {
         Some(roid) => rows_on(store, registrar, roid),
-        None => all_rows(store, registrar),
+        None => rows_of(store, registrar),
     }
 }
 
 /// The rows of a registrar's lines.
-fn all_rows<S: Alter>(
+pub(crate) fn rows_of<S: Alter>(
     store: &mut RowStore<S>,
     registrar: RegistrarNo,
 ) -> Result<Seq<LineRow>, BookFault>

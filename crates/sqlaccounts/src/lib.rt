@@ -5,8 +5,8 @@
 //! A question is answered where these sums are right, and each change keeps them right. A registrar's
 //! queue is in the order of its rows' columns.
 //!
-//! Each call is some statements by an index. The lines on a domain are found by its columns, and no
-//! call but the taking out of a deposit goes over all lines of an account.
+//! Each call is some statements by an index. The lines on a domain are found by its columns, and only the
+//! taking out of a deposit and the question for all lines go over all lines of an account.
 #![tactic(auto)]
 
 mod account;
@@ -24,7 +24,7 @@ mod writing;
 
 pub use account::{found_row, maybe_row, number_of};
 pub use counting::{counts, set_counters};
-pub use domain::{lines_on, swaps};
+pub use domain::{lines, lines_on, swaps};
 pub use line::{add_line, balance, take_line};
 pub use message::waiting;
 pub use opening::open_account;

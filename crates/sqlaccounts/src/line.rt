@@ -9,7 +9,7 @@ ghost use Rattle.basis.specs.Bag.{add, taken};
 ghost use Rattle.sqlaccounts.specs.Accounts.{account_of, balance_in, sums_are_right};
 ghost use Rattle.sqlaccounts.specs.inner.Changes.{IsChange, without_line};
 ghost use Rattle.sqlrows.specs.Meanings.{FindsIfRight, Changes};
-ghost use Rattle.transactions.specs.States.{Makes};
+ghost use Rattle.states.specs.States.{Makes};
 
 use crate::account::{found_row, maybe_row};
 use crate::finding::{number_of_line, rows_about};
@@ -22,7 +22,7 @@ use sqlcolumns::maybe_moment_column;
 use sqlite::Alter;
 use sqlrows::Number;
 use sqltables::{AccountRow, RowStore};
-use transactions::BookFault;
+use states::BookFault;
 
 /// What a registrar's account has, in whole cents: 0 where it was never opened.
 pub fn balance<S: Alter>(store: &mut RowStore<S>, registrar: RegistrarNo) -> Result<i128, BookFault>

@@ -10,7 +10,7 @@ use basis::registrar::RegistrarNo;
 use sqlcolumns::exact_of_column;
 use sqlite::Alter;
 use sqltables::{AccountRow, RowStore};
-use transactions::BookFault;
+use states::BookFault;
 
 /// How many messages wait for a registrar: none where its account was never opened.
 pub fn waiting<S: Alter>(store: &mut RowStore<S>, registrar: RegistrarNo) -> Result<u64, BookFault>

@@ -8,8 +8,8 @@ use basis::registrar::RegistrarNo;
 use sqlcolumns::registrar_column;
 use sqlite::Alter;
 use sqltables::{AccountRow, RowStore, bytes_of_balance};
+use states::BookFault;
 use std::alloc::{AllocError, Global};
-use transactions::BookFault;
 
 /// The registrar has an account. One that it has stays as it is.
 pub fn open_account<S: Alter>(

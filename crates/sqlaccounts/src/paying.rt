@@ -7,7 +7,7 @@ ghost use Rattle.sqlaccounts.specs.inner.Changes.{IsPaid};
 
 use accounts::Line;
 use sqltables::{AccountRow, bytes_of_balance};
-use transactions::BookFault;
+use states::BookFault;
 
 /// The row with so many cents more.
 pub(crate) fn paid(row: AccountRow, cents: i128) -> Result<AccountRow, BookFault>

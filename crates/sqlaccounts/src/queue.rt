@@ -16,7 +16,7 @@ ghost use Rattle.sqltables.specs.Account as account_table;
 ghost use Rattle.sqltables.specs.inner.Content.{accounts_to, messages_to};
 ghost use Rattle.sqltables.specs.Message as table;
 ghost use Rattle.sqltables.specs.inner.Message as inner_table;
-ghost use Rattle.transactions.specs.States.{Finds, Makes, FindsSome};
+ghost use Rattle.states.specs.States.{Finds, Makes, FindsSome};
 
 use crate::queue_account::{one_less, one_more};
 use crate::queue_message::written;
@@ -28,8 +28,8 @@ use sqlcolumns::message_of_row;
 use sqlite::Alter;
 use sqlrows::{Number, only, or_fault};
 use sqltables::{AccountRow, MessageRow, RowStore};
+use states::BookFault;
 use std::alloc::Global;
-use transactions::BookFault;
 
 /// The message that a poll shows: the oldest of a registrar's, if any waits.
 pub fn oldest<S: Alter>(

@@ -3,7 +3,7 @@ ghost use Rattle.std.specs.Prelude.{◌≡◌, ◌<ℤ◌, pos, negsuc, IfOk, On
 ghost use Rattle.sqlaccounts.specs.inner.QueueRows.{IsWaitingMore};
 
 use sqltables::AccountRow;
-use transactions::BookFault;
+use states::BookFault;
 
 /// The account, for which one message more waits.
 pub(crate) fn one_more(account: AccountRow) -> Result<AccountRow, BookFault>

@@ -7,8 +7,8 @@ use accounts::Message;
 use basis::registrar::RegistrarNo;
 use sqlcolumns::{message_row, registrar_column};
 use sqltables::MessageRow;
+use states::BookFault;
 use std::alloc::Global;
-use transactions::BookFault;
 
 /// The row of a message, under its registrar's number. A message whose number doesn't fit is refused.
 pub(crate) fn written(

@@ -11,7 +11,7 @@ use calendar::Moment;
 use objects::Roid;
 use sqlcolumns::{line_row, registrar_column};
 use sqltables::LineRow;
-use transactions::BookFault;
+use states::BookFault;
 
 /// The row of a line, which reads as that line, with the column for the end of its grace. It has no
 /// number of its own yet.

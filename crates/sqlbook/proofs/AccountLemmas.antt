@@ -8,7 +8,7 @@ use Rattle.sqlite_keyed.proofs.KeyedLemmas.{int_eq_apart, key-get_by, same_int}
 use Rattle.sqlite_rules.specs.Lists.{Has}
 use Rattle.accounts.specs.declared.account.Account.{Account}
 use Rattle.sqlcolumns.proofs.ReadLemmas.{same_some}
-use Rattle.store.specs.Tables.{posted_to}
+use Rattle.books.specs.Tables.{posted_to}
 use Rattle.sqltables.specs.Account as table
 use Rattle.sqltables.specs.Content.{Content}
 use Rattle.sqltables.specs.Readiness.{may_be_numbered}
@@ -17,7 +17,7 @@ use Rattle.sqltables.specs.inner.Whole.{IsWhole}
 use Rattle.sqltables.proofs.RowLemmas.{all_at}
 use Rattle.sqlaccounts.specs.Accounts.{ident_and_held, row_of}
 use Rattle.sqlaccounts.specs.inner.Changes.{IsChange}
-use Rattle.sqlsums.proofs.KeptLemmas.{change-kept}
+use Rattle.sqlderived.proofs.KeptLemmas.{change-kept}
 use Rattle.sqlobjects.proofs.PutLemmas.{has-get_by}
 use Rattle.sqlobjects.specs.Objects.{contacts_of, hosts_of}
 use Rattle.sqldomains.specs.Domains.{domains_of}
@@ -25,7 +25,7 @@ use Rattle.sqldomains.proofs.SponsorLemmas.{sponsors-kept}
 use Rattle.sqlterms.specs.Clock.{clock_of}
 use Rattle.sqlterms.specs.Meta.{meta_of}
 use Rattle.sqlterms.specs.Terms.{ids_behind, ids_in, is_unnamed, prices_in, reserved_in, schedule_in, terms_in, terms_made, terms_of}
-use Rattle.sqlsums.specs.Dues.{dues_are_right}
+use Rattle.sqlderived.specs.Dues.{dues_are_right}
 use Rattle.sqlbook.specs.Meaning.{are_right, stored_of}
 
 abbrev pub key : table.Account → ℤ

@@ -4,13 +4,13 @@ use Rattle.std.specs.FinMap.{insert}
 use Rattle.std.specs.Option.{unwrap_or}
 use Rattle.accounts.specs.declared.account.Account.{Account}
 use Rattle.accounts.specs.Account.{empty_account}
-use Rattle.store.specs.Book.{Stored}
-use Rattle.store.specs.Ledgers.{changed_if_there, put}
-use Rattle.store.specs.Tables.{with_accounts}
+use Rattle.books.specs.Book.{Stored}
+use Rattle.books.specs.Ledgers.{changed_if_there, put}
+use Rattle.books.specs.Tables.{with_accounts}
 use Rattle.sqltables.specs.Content.{Content}
 use Rattle.sqltables.specs.inner.Whole.{IsWhole}
-use Rattle.transactions.specs.declared.fault.BookFault.{BookFault}
-use Rattle.transactions.specs.States.{StateOf}
+use Rattle.states.specs.declared.fault.BookFault.{BookFault}
+use Rattle.states.specs.States.{StateOf}
 use Rattle.sqlrows.specs.Meanings.{Changes}
 use Rattle.sqlaccounts.specs.Accounts.{accounts_of}
 use Rattle.sqlaccounts.specs.inner.Changes.{IsChange}

@@ -5,17 +5,17 @@ use Rattle.sqlite.proofs.ListingLemmas.{empty_is_sound}
 use Rattle.sqlite_trees.specs.Objects.{catalog_tree}
 use Rattle.sqlite_trees.specs.Tree.{Trees}
 use Rattle.sqlrows.specs.Columns.{no_schema}
-use Rattle.store.specs.Book.{BookState, Stored, nothing}
-use Rattle.store.specs.Kept.{stands}
+use Rattle.books.specs.Book.{BookState, Stored, nothing}
+use Rattle.books.specs.Kept.{stands}
 use Rattle.sqltables.specs.Adoption.{IsAdopted, IsTakenAs}
 use Rattle.sqltables.specs.Content.{Content}
 use Rattle.sqltables.specs.Readiness.{IsKnownAs}
 use Rattle.sqltables.specs.Stored.{fresh}
 use Rattle.sqltables.specs.Tables.{registry}
 use Rattle.sqltables.proofs.AdoptedLemmas.{schema_once, some-tables}
-use Rattle.transactions.specs.declared.readiness.Ready.{Ready}
-use Rattle.transactions.specs.declared.readiness.Ready.TheVariants.{Empty, Used, Other}
-use Rattle.transactions.specs.States.{Remains, StateOf}
+use Rattle.states.specs.declared.readiness.Ready.{Ready}
+use Rattle.states.specs.declared.readiness.Ready.TheVariants.{Empty, Used, Other}
+use Rattle.states.specs.States.{Remains, StateOf}
 use Rattle.sqlbook.specs.Beginning.{IsAdoptedBook, IsFoundNew, IsTaken, IsTakenFrom}
 use Rattle.sqlbook.specs.Meaning.{are_right, stored_of}
 use Rattle.sqlbook.specs.AsBook.{are_all_right, meant, as_book}

@@ -10,8 +10,8 @@ use Rattle.lifecycle.specs.Lapse.{due_at}
 use Rattle.lifecycle.specs.Periods.{rules_with}
 use Rattle.objects.specs.declared.domain.Domain.{Domain}
 use Rattle.policy.specs.declared.schedule.Schedule.{Schedule}
-use Rattle.store.specs.Ledgers as store
-use Rattle.store.specs.Tables.{domain_put}
+use Rattle.books.specs.Ledgers as store
+use Rattle.books.specs.Tables.{domain_put}
 use Rattle.sqltables.specs.Account as account_table
 use Rattle.sqltables.specs.Content.{Content}
 use Rattle.sqltables.specs.Domain as table
@@ -21,14 +21,14 @@ use Rattle.sqlaccounts.specs.Accounts.{accounts_of, row_of, sums_are_right}
 use Rattle.sqldomains.specs.inner.Changes.{IsDomainPut}
 use Rattle.sqldomains.specs.Domains.{domain_of, domains_of}
 use Rattle.sqlobjects.proofs.VerdictLemmas.{same-verdict}
-use Rattle.sqlsums.specs.inner.Recounts.{AreAlike, IsRecounted}
-use Rattle.sqlsums.specs.Held.{helds_are_right}
-use Rattle.sqlsums.proofs.KeptLemmas.{held-kept}
+use Rattle.sqlderived.specs.inner.Recounts.{AreAlike, IsRecounted}
+use Rattle.sqlderived.specs.Held.{helds_are_right}
+use Rattle.sqlderived.proofs.KeptLemmas.{held-kept}
 use Rattle.sqlobjects.specs.Objects.{contacts_of, hosts_of}
 use Rattle.sqlterms.specs.Clock.{clock_of}
 use Rattle.sqlterms.specs.Meta.{meta_of}
 use Rattle.sqlterms.specs.Terms.{days_of, ids_in, prices_in, reserved_in, schedule_in, terms_in, terms_made, terms_of}
-use Rattle.sqlsums.specs.Dues.{dues_are_right, is_due_right}
+use Rattle.sqlderived.specs.Dues.{dues_are_right, is_due_right}
 use Rattle.sqlbook.specs.Meaning.{stored_of}
 use Rattle.sqlbook.proofs.AccountLemmas.{ident_in, same-ids}
 use Rattle.sqlbook.proofs.ObjectLemmas.{same-put}

@@ -12,8 +12,8 @@ use Rattle.lifecycle.specs.Periods.{rules_with}
 use Rattle.objects.specs.declared.contact.Contact.{Contact}
 use Rattle.objects.specs.declared.host.Host.{Host}
 use Rattle.policy.specs.declared.schedule.Schedule.{Schedule}
-use Rattle.store.specs.Ledgers as store
-use Rattle.store.specs.Tables.{contact_put, host_put}
+use Rattle.books.specs.Ledgers as store
+use Rattle.books.specs.Tables.{contact_put, host_put}
 use Rattle.sqltables.specs.Content.{Content}
 use Rattle.sqltables.specs.Readiness.{may_be_numbered}
 use Rattle.sqltables.specs.Domain as table
@@ -21,11 +21,11 @@ use Rattle.sqlaccounts.specs.Accounts.{accounts_of, sums_are_right}
 use Rattle.sqldomains.specs.Domains.{domain_of}
 use Rattle.sqldomains.proofs.FrameLemmas.{contact-leaves-domains, contact-leaves-reading, host-leaves-domains, host-leaves-reading}
 use Rattle.sqldomains.proofs.SponsorLemmas.{contact-sponsors, host-sponsors}
-use Rattle.sqlsums.proofs.KeptLemmas.{accounts-kept}
+use Rattle.sqlderived.proofs.KeptLemmas.{accounts-kept}
 use Rattle.sqlobjects.specs.inner.Changes.{IsContactPut, IsHostPut, put}
 use Rattle.sqlterms.specs.Clock.{clock_of}
 use Rattle.sqlterms.specs.Terms.{days_of, terms_of}
-use Rattle.sqlsums.specs.Dues.{dues_are_right, is_due_right}
+use Rattle.sqlderived.specs.Dues.{dues_are_right, is_due_right}
 use Rattle.sqlbook.specs.Meaning.{are_right, stored_of}
 
 -- a put over rows is a put of a map by name

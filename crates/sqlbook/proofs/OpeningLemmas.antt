@@ -4,7 +4,7 @@ use Rattle.std.specs.List.{AllByRecursion}
 use Rattle.std.specs.Option.{unwrap_or}
 use Rattle.sqlite_keyed.specs.Keyed.{IsKeyedBy, get_by}
 use Rattle.sqlite_keyed.proofs.KeyedLemmas.{same_int}
-use Rattle.store.specs.Tables.{account_opened}
+use Rattle.books.specs.Tables.{account_opened}
 use Rattle.sqltables.specs.Account as table
 use Rattle.sqltables.specs.Content.{Content}
 use Rattle.sqltables.specs.Readiness.{may_be_numbered}
@@ -14,12 +14,12 @@ use Rattle.sqlaccounts.specs.Accounts.{row_of}
 use Rattle.sqlaccounts.specs.inner.Changes.{IsOpened, opened_row}
 use Rattle.sqldomains.specs.Domains.{domains_of}
 use Rattle.sqldomains.proofs.SponsorLemmas.{sponsors-kept}
-use Rattle.sqlsums.proofs.KeptLemmas.{opening-kept}
+use Rattle.sqlderived.proofs.KeptLemmas.{opening-kept}
 use Rattle.sqlobjects.specs.Objects.{contacts_of, hosts_of}
 use Rattle.sqlterms.specs.Clock.{clock_of}
 use Rattle.sqlterms.specs.Meta.{meta_of}
 use Rattle.sqlterms.specs.Terms.{ids_behind, ids_in, is_unnamed, prices_in, reserved_in, schedule_in, terms_in, terms_made, terms_of}
-use Rattle.sqlsums.specs.Dues.{dues_are_right}
+use Rattle.sqlderived.specs.Dues.{dues_are_right}
 use Rattle.sqlbook.specs.Meaning.{are_right, stored_of}
 use Rattle.sqlbook.proofs.AccountLemmas.{ident_in, key, not-there, same-ids}
 

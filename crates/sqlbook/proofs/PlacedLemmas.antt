@@ -12,7 +12,7 @@ use Rattle.std.specs.Str.{bytes_eq}
 use Rattle.basis.specs.Bag.{IsLinear, add, bag_of, precedes}
 use Rattle.basis.proofs.BagLaws.{add-add, any-add, filter-bag_of}
 use Rattle.objects.specs.Links.{has_name}
-use Rattle.rules.specs.Changes.{renamed}
+use Rattle.decisions.specs.Changes.{renamed}
 use Rattle.sqldomains.specs.Domains.{placed}
 use Rattle.sqlobjects.specs.inner.Changes.{new_name}
 

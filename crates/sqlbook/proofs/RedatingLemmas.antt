@@ -8,9 +8,9 @@ use Rattle.lifecycle.specs.Lapse.{due_at}
 use Rattle.lifecycle.specs.Periods.{rules_with}
 use Rattle.objects.specs.declared.domain.Domain.{Domain}
 use Rattle.policy.specs.declared.schedule.Schedule.{Schedule}
-use Rattle.store.specs.Ledgers.{put}
-use Rattle.store.specs.Tables.{with_domains}
-use Rattle.store.proofs.PutLemmas.{put-back, put-put}
+use Rattle.books.specs.Ledgers.{put}
+use Rattle.books.specs.Tables.{with_domains}
+use Rattle.books.proofs.PutLemmas.{put-back, put-put}
 use Rattle.sqltables.specs.Content.{Content}
 use Rattle.sqldomains.specs.Domains.{domains_of}
 use Rattle.sqlbook.specs.Meaning.{stored_of}

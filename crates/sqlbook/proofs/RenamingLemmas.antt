@@ -19,10 +19,10 @@ use Rattle.objects.specs.declared.domain.Domain.{Domain}
 use Rattle.objects.specs.declared.host.Host.{Host}
 use Rattle.objects.specs.Sight.{is_party}
 use Rattle.policy.specs.declared.schedule.Schedule.{Schedule}
-use Rattle.rules.specs.Changes.{renamed, with_host_renamed}
-use Rattle.store.specs.Book.{Stored}
-use Rattle.store.specs.Ledgers as store
-use Rattle.store.specs.Tables.{host_moved, host_put, with_domains}
+use Rattle.decisions.specs.Changes.{renamed, with_host_renamed}
+use Rattle.books.specs.Book.{Stored}
+use Rattle.books.specs.Ledgers as store
+use Rattle.books.specs.Tables.{host_moved, host_put, with_domains}
 use Rattle.sqltables.specs.Account as account_table
 use Rattle.sqltables.specs.Content.{Content}
 use Rattle.sqltables.specs.Domain as table
@@ -30,8 +30,8 @@ use Rattle.sqltables.specs.Readiness.{may_be_numbered}
 use Rattle.sqlaccounts.specs.Accounts.{accounts_of, row_of, sums_are_right}
 use Rattle.sqldomains.specs.Domains.{domain_of, domains_of}
 use Rattle.sqldomains.proofs.RenamedLemmas.{domains-after, reading-after}
-use Rattle.sqlsums.specs.Dues.{dues_are_right, is_due_right}
-use Rattle.sqlsums.specs.Held.{held_of, helds_are_right}
+use Rattle.sqlderived.specs.Dues.{dues_are_right, is_due_right}
+use Rattle.sqlderived.specs.Held.{held_of, helds_are_right}
 use Rattle.sqlobjects.specs.inner.Changes.{IsRowRenamed}
 use Rattle.sqlobjects.specs.Objects.{hosts_of}
 use Rattle.sqlobjects.proofs.PutLemmas.{bytes_is}

@@ -12,7 +12,7 @@ use Rattle.sqlite.specs.Held.{AreDatabases}
 use Rattle.sqlite.proofs.Theorems.{opens_again}
 use Rattle.std.specs.Bool.{IsTrue}
 use Rattle.policy.specs.declared.terms.Terms.{Terms}
-use Rattle.store.specs.Kept.{stands}
+use Rattle.books.specs.Kept.{stands}
 use Rattle.sqltables.specs.Adoption.{IsAdopted}
 use Rattle.sqltables.specs.Content.{Content}
 use Rattle.sqltables.specs.Meta.{Meta}
@@ -20,13 +20,13 @@ use Rattle.sqltables.specs.Readiness.{is_numbered, may_be_numbered}
 use Rattle.sqltables.specs.inner.Reopening as rows
 use Rattle.sqltables.specs.Stored.{Covers}
 use Rattle.sqltables.proofs.ReopeningLemmas.{reopened}
-use Rattle.transactions.specs.declared.readiness.Ready.{Ready}
-use Rattle.transactions.specs.declared.readiness.Ready.TheVariants.{Empty, Used, Other}
-use Rattle.transactions.specs.States.{Has, Remains, StateOf}
+use Rattle.states.specs.declared.readiness.Ready.{Ready}
+use Rattle.states.specs.declared.readiness.Ready.TheVariants.{Empty, Used, Other}
+use Rattle.states.specs.States.{Has, Remains, StateOf}
 use Rattle.sqlterms.specs.Terms.{terms_of}
 use Rattle.sqlbook.specs.Files.{IsFoundIn}
 use Rattle.sqlbook.specs.Meaning.{are_right, stored_of}
-use Rattle.store.specs.Reopening.{IsFoundAgain, IsReopened}
+use Rattle.books.specs.Reopening.{IsFoundAgain, IsReopened}
 use Rattle.sqlbook.specs.AsBook.{are_all_right, meant, as_book}
 
 one-right : (leaves : List (Remains Content)) (left : Remains Content) → Has leaves left → are_all_right are_right leaves ≡ true → are_right left.content ≡ true

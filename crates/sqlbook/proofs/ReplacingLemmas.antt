@@ -13,7 +13,7 @@ use Rattle.lifecycle.specs.Lapse.{due_at}
 use Rattle.lifecycle.specs.Periods.{rules_with}
 use Rattle.objects.specs.declared.domain.Domain.{Domain}
 use Rattle.policy.specs.declared.schedule.Schedule.{Schedule}
-use Rattle.store.specs.Tables.{domain_put}
+use Rattle.books.specs.Tables.{domain_put}
 use Rattle.sqltables.specs.Content.{Content}
 use Rattle.sqltables.specs.Readiness.{may_be_numbered}
 use Rattle.sqltables.specs.Domain as table
@@ -27,14 +27,14 @@ use Rattle.sqldomains.proofs.FoundLemmas.{domain-named}
 use Rattle.sqldomains.proofs.FrameLemmas.{sponsors-leave-domains, sponsors-leave-reading}
 use Rattle.sqldomains.proofs.SponsorLemmas.{domain-sponsors}
 use Rattle.sqlaccounts.specs.Accounts.{accounts_of, sums_are_right}
-use Rattle.sqlsums.specs.Held.{helds_are_right}
-use Rattle.sqlsums.proofs.KeptLemmas.{accounts-kept}
+use Rattle.sqlderived.specs.Held.{helds_are_right}
+use Rattle.sqlderived.proofs.KeptLemmas.{accounts-kept}
 use Rattle.sqlobjects.proofs.PutLemmas.{only_named}
 use Rattle.sqlobjects.specs.inner.Changes.{put}
 use Rattle.sqlobjects.specs.Objects.{contacts_of}
 use Rattle.sqlobjects.specs.Sponsors.{sponsors_are_right}
 use Rattle.sqlterms.specs.Clock.{clock_of}
-use Rattle.sqlsums.specs.Dues.{dues_are_right, is_due_right}
+use Rattle.sqlderived.specs.Dues.{dues_are_right, is_due_right}
 use Rattle.sqlterms.specs.Terms.{days_of, terms_of}
 use Rattle.sqlbook.specs.Meaning.{are_right, stored_of}
 use Rattle.sqlbook.specs.inner.Replacing.{IsExchangedThere, IsReplaced, due_with}

@@ -1,9 +1,9 @@
 -- What a commit of rows is to a book.
 use Rattle.std.proofs.Common.{◌≡◌, ◌⊎◌, ◌&&◌, inl, inr, Bool, true, false, List, [], ◌∷◌, ◌++◌, map, Result, Ok, Err, refl, sym, ap, subst, ◌∙◌}
 use Rattle.std.proofs.lemmas.Bool.{and_parts}
-use Rattle.transactions.specs.declared.fault.BookFault.{BookFault}
-use Rattle.transactions.specs.States.{Closes, Ends, Fails, Has, IsIdle, Keeps, Notes, Remains, StateOf, holding}
-use Rattle.transactions.proofs.LeavingLemmas.{has-alone, has-either}
+use Rattle.states.specs.declared.fault.BookFault.{BookFault}
+use Rattle.states.specs.States.{Closes, Ends, Fails, Has, IsIdle, Keeps, Notes, Remains, StateOf, holding}
+use Rattle.states.proofs.LeavingLemmas.{has-alone, has-either}
 use Rattle.sqlbook.specs.AsBook.{are_all_right, meant, as_book}
 use Rattle.sqlbook.specs.BetweenCalls.{UndoneIfFault, IsBetweenCalls}
 

@@ -5,28 +5,28 @@ use Rattle.std.specs.Option.{option_map_or}
 use Rattle.sqlite_keyed.specs.Keyed.{get_by}
 use Rattle.policy.specs.declared.schedule.Schedule.{Schedule}
 use Rattle.policy.specs.declared.terms.Terms.{Terms}
-use Rattle.store.specs.Book.{with_terms}
-use Rattle.store.specs.Tables.{clock_set}
+use Rattle.books.specs.Book.{with_terms}
+use Rattle.books.specs.Tables.{clock_set}
 use Rattle.sqltables.specs.Account as table
 use Rattle.sqltables.specs.Content.{Content}
 use Rattle.sqlaccounts.specs.Accounts.{accounts_of, sums_are_right}
 use Rattle.sqldomains.specs.Domains.{domains_of}
-use Rattle.sqlsums.specs.Held.{helds_are_right}
-use Rattle.sqlsums.proofs.KeptLemmas.{columns-kept}
+use Rattle.sqlderived.specs.Held.{helds_are_right}
+use Rattle.sqlderived.proofs.KeptLemmas.{columns-kept}
 use Rattle.sqlobjects.specs.Objects.{contacts_of, hosts_of}
 use Rattle.sqlobjects.specs.Sponsors.{sponsors_are_right}
 use Rattle.sqlterms.specs.inner.Changes.{IsClockSet, IsTermsSet, nameless}
 use Rattle.sqlterms.specs.Terms.{days_of}
-use Rattle.sqlsums.specs.Dues.{dues_are_right, is_due_right}
+use Rattle.sqlderived.specs.Dues.{dues_are_right, is_due_right}
 use Rattle.sqlbook.specs.Meaning.{are_right, stored_of}
-use Rattle.sqlsums.proofs.RedateLemmas.{dues-by-both}
-use Rattle.sqlsums.specs.Redates.{ends_are, ends_are_right}
+use Rattle.sqlderived.proofs.RedateLemmas.{dues-by-both}
+use Rattle.sqlderived.specs.Redates.{ends_are, ends_are_right}
 use Rattle.sqlobjects.proofs.StepLemmas.{asked-then, asked-turns}
 use Rattle.sqlrows.specs.Meanings.{HasChanged, Changes}
 use Rattle.sqlrows.proofs.StateLemmas.{reads-on}
-use Rattle.transactions.specs.declared.fault.BookFault.{BookFault}
-use Rattle.transactions.specs.States.{Reads, StateOf}
-use Rattle.transactions.proofs.LeavingLemmas.{leaves-on}
+use Rattle.states.specs.declared.fault.BookFault.{BookFault}
+use Rattle.states.specs.States.{Reads, StateOf}
+use Rattle.states.proofs.LeavingLemmas.{leaves-on}
 use Rattle.sqlbook.specs.Suiting.{AreRedated}
 use Rattle.sqlbook.specs.inner.Suiting.{IsSetDown, IsSetOver, MeansSame, SuitDomains}
 use Rattle.sqlbook.proofs.AccountLemmas.{key}

@@ -2,8 +2,8 @@
 -- them were right when the transaction began, and are wherever a crash may leave them.
 use Rattle.std.specs.Prelude.{◌≡◌, Bool, true, ◌&&◌, List, map, Result, Ok, Err}
 use Rattle.std.specs.List.{list_all}
-use Rattle.transactions.specs.declared.fault.BookFault.{BookFault}
-use Rattle.transactions.specs.States.{Answers, LeavesSame, Remains, StateOf, Stays}
+use Rattle.states.specs.declared.fault.BookFault.{BookFault}
+use Rattle.states.specs.States.{Answers, LeavesSame, Remains, StateOf, Stays}
 
 -- what rows that a crash leaves mean
 abbrev pub meant : {C X : Type 0} → (C → X) → Remains C → Remains X

@@ -1,7 +1,7 @@
 -- How rows stand between the calls of a book.
 use Rattle.std.specs.Prelude.{◌≡◌, Bool, true, Result, Ok, Err}
-use Rattle.transactions.specs.declared.fault.BookFault.{BookFault}
-use Rattle.transactions.specs.States.{Closes, IsIdle, StateOf}
+use Rattle.states.specs.declared.fault.BookFault.{BookFault}
+use Rattle.states.specs.States.{Closes, IsIdle, StateOf}
 use Rattle.sqlbook.specs.AsBook.{AreKept, are_all_right}
 
 -- The sums are as right as they were when the transaction began; where none is open going back leads

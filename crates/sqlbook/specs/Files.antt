@@ -7,15 +7,15 @@ use Rattle.sqlite_wal.specs.Recovery.{Image}
 use Rattle.sqlite_trees.specs.Objects.{catalog_tree}
 use Rattle.sqlite_trees.specs.Tree.{Trees}
 use Rattle.sqlite.specs.Files.{AreFoundIn, HoldsDatabase}
-use Rattle.store.specs.Book.{BookState}
-use Rattle.store.specs.Kept.{stands}
+use Rattle.books.specs.Book.{BookState}
+use Rattle.books.specs.Kept.{stands}
 use Rattle.sqltables.specs.Adoption.{IsAdopted}
 use Rattle.sqltables.specs.Content.{Content}
 use Rattle.sqltables.specs.Stored.{fresh}
-use Rattle.transactions.specs.declared.readiness.Ready.TheVariants.{Empty}
-use Rattle.transactions.specs.States.{StateOf}
+use Rattle.states.specs.declared.readiness.Ready.TheVariants.{Empty}
+use Rattle.states.specs.States.{StateOf}
 use Rattle.sqlbook.specs.Meaning.{are_right, stored_of}
-use Rattle.store.specs.Reopening.{IsReopened}
+use Rattle.books.specs.Reopening.{IsReopened}
 use Rattle.sqlbook.specs.AsBook.{as_book}
 
 -- what an opening finds that finds the database which the files hold, if they hold one

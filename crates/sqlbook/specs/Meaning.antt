@@ -1,13 +1,13 @@
 -- What rows mean to a book, and when the sums that are stored beside them are right.
 use Rattle.std.specs.Prelude.{Bool, ◌&&◌}
 use Rattle.model.specs.Registry.{Registry}
-use Rattle.store.specs.Book.{Stored}
+use Rattle.books.specs.Book.{Stored}
 use Rattle.sqltables.specs.Content.{Content}
 use Rattle.sqltables.specs.Readiness.{may_be_numbered}
 use Rattle.sqlaccounts.specs.Accounts.{accounts_of, sums_are_right}
 use Rattle.sqldomains.specs.Domains.{domains_of}
-use Rattle.sqlsums.specs.Dues.{dues_are_right}
-use Rattle.sqlsums.specs.Held.{helds_are_right}
+use Rattle.sqlderived.specs.Dues.{dues_are_right}
+use Rattle.sqlderived.specs.Held.{helds_are_right}
 use Rattle.sqlobjects.specs.Objects.{contacts_of, hosts_of}
 use Rattle.sqlobjects.specs.Sponsors.{sponsors_are_right}
 use Rattle.sqlterms.specs.Clock.{clock_of}

@@ -1,7 +1,7 @@
 //! Books in the rows of a database.
 ghost use Rattle.std.specs.Prelude.{◌≡◌, true, IfErr, IfOk};
 ghost use Rattle.sqlite.specs.Held.{state};
-ghost use Rattle.store.specs.Kept.{stands};
+ghost use Rattle.books.specs.Kept.{stands};
 ghost use Rattle.sqlite.specs.State.{HasCleanDisk};
 ghost use Rattle.sqlite_trees.specs.Tree.{Trees};
 ghost use Rattle.sqlite_trees.specs.View.{IsClean};
@@ -14,11 +14,11 @@ ghost use Rattle.sqlbook.specs.AsBook.{as_book};
 
 use crate::provenance::{InMemory, OnDisk, Provenance};
 use crate::records::SqlRecords;
+use books::{Book, Kept};
 use sqlite::{Alter, Connection, MemStore};
 use sqltables::{RowStore, Unadopted};
+use states::{BookFault, Ready};
 use std::alloc::Global;
-use store::{Book, Kept};
-use transactions::{BookFault, Ready};
 
 /// A book in the tables of a database.
 pub type SqlBook<S, O> = Kept<SqlRecords<S, O>>;

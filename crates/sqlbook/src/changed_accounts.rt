@@ -1,6 +1,6 @@
 //! Accounts, changed in a book over rows. One that has no row is refused.
 ghost use Rattle.std.specs.Prelude.{◌≡◌, true};
-ghost use Rattle.store.specs.Tables as tables;
+ghost use Rattle.books.specs.Tables as tables;
 ghost use Rattle.sqlbook.specs.Meaning.{are_right, stored_of};
 ghost use Rattle.sqlbook.specs.AsBook.{MakesAs};
 
@@ -9,8 +9,8 @@ use accounts::{Counters, Line, Message};
 use basis::registrar::RegistrarNo;
 use sqlite::Alter;
 use sqltables::RowStore;
+use states::BookFault;
 use std::alloc::Global;
-use transactions::BookFault;
 
 /// The registrar has an account. One that it has stays as it is.
 pub fn open_account<S: Alter>(

@@ -1,8 +1,8 @@
 //! Domains, put and dropped in a book over rows.
 ghost use Rattle.std.specs.Prelude.{◌≡◌, true, Some, None};
-ghost use Rattle.store.specs.Tables as tables;
+ghost use Rattle.books.specs.Tables as tables;
 ghost use Rattle.sqlrows.specs.Meanings.{Changes};
-ghost use Rattle.transactions.specs.States.{FindsSome};
+ghost use Rattle.states.specs.States.{FindsSome};
 ghost use Rattle.sqlbook.specs.Meaning.{are_right, stored_of};
 ghost use Rattle.sqlbook.specs.inner.Replacing.{IsCheckedDomain, IsExchanged, IsExchangedThere, IsReplaced, due_with};
 ghost use Rattle.sqlbook.specs.AsBook.{MakesAs};
@@ -13,12 +13,12 @@ use basis::text::Text;
 use calendar::Moment;
 use objects::Domain;
 use policy::Policy;
+use sqlderived::{checked_domain, due_of_domain, recount, same_days};
 use sqlite::Alter;
 use sqlobjects::set_sponsor_below;
-use sqlsums::{checked_domain, due_of_domain, recount, same_days};
 use sqltables::RowStore;
+use states::BookFault;
 use std::alloc::Global;
-use transactions::BookFault;
 
 /// The domain stands under this name, which has to be its own. Refused is a policy with other days than
 /// those that were put down.

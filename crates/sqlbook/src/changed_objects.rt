@@ -1,6 +1,6 @@
 //! Contacts and hosts, put and dropped in a book over rows.
 ghost use Rattle.std.specs.Prelude.{◌≡◌, true, Some, None};
-ghost use Rattle.store.specs.Tables as tables;
+ghost use Rattle.books.specs.Tables as tables;
 ghost use Rattle.sqlbook.specs.Meaning.{are_right, stored_of};
 ghost use Rattle.sqlbook.specs.AsBook.{MakesAs};
 
@@ -8,8 +8,8 @@ use basis::text::Text;
 use objects::{Contact, Host};
 use sqlite::Alter;
 use sqltables::RowStore;
+use states::BookFault;
 use std::alloc::Global;
-use transactions::BookFault;
 
 /// The contact stands under this name, which has to be its own.
 pub fn put_contact<S: Alter>(

@@ -1,9 +1,9 @@
 //! The clock and the terms, set in a book over rows.
 ghost use Rattle.std.specs.Prelude.{◌≡◌, true, [], IfOk, Some};
-ghost use Rattle.store.specs.Book.{with_terms};
-ghost use Rattle.store.specs.Tables as tables;
+ghost use Rattle.books.specs.Book.{with_terms};
+ghost use Rattle.books.specs.Tables as tables;
 ghost use Rattle.sqlrows.specs.Meanings.{Changes};
-ghost use Rattle.transactions.specs.States.{FindsSome};
+ghost use Rattle.states.specs.States.{FindsSome};
 ghost use Rattle.sqlbook.specs.Meaning.{are_right, stored_of};
 ghost use Rattle.sqlbook.specs.AsBook.{MakesAs};
 ghost use Rattle.sqlbook.specs.Suiting.{AreRedated};
@@ -13,11 +13,11 @@ ghost use Rattle.sqlterms.specs.Terms.{days_of};
 use crate::redating::redate;
 use calendar::Moment;
 use policy::{Schedule, Terms};
+use sqlderived::{ends_are, ends_come};
 use sqlite::Alter;
-use sqlsums::{ends_are, ends_come};
 use sqltables::RowStore;
+use states::BookFault;
 use std::alloc::Global;
-use transactions::BookFault;
 
 pub fn set_clock<S: Alter>(
     store: &mut RowStore<S>,

@@ -1,7 +1,7 @@
 //! The files under a book, given back.
 ghost use Rattle.std.specs.Prelude.{◌≡◌, true};
 ghost use Rattle.sqlite_wal.specs.Reads.{AreClean};
-ghost use Rattle.store.specs.Kept.{stands};
+ghost use Rattle.books.specs.Kept.{stands};
 ghost use Rattle.sqlbook.specs.Meaning.{are_right, stored_of};
 ghost use Rattle.sqlbook.specs.Files.{IsLeftIn};
 ghost use Rattle.sqlbook.specs.AsBook.{as_book};

@@ -5,7 +5,7 @@ ghost use Rattle.facts.specs.Facts.{superordinate_of_domain};
 ghost use Rattle.sqlrows.specs.Meanings.{FindsIfRight};
 ghost use Rattle.model.specs.Registry.{account_of};
 ghost use Rattle.accounts.specs.Counters.{counters_of};
-ghost use Rattle.transactions.specs.States.{Finds};
+ghost use Rattle.states.specs.States.{Finds};
 ghost use Rattle.sqlaccounts.specs.Accounts.{sums_are_right};
 ghost use Rattle.sqlbook.specs.Meaning.{registry_of};
 
@@ -16,8 +16,8 @@ use facts::Superordinate;
 use objects::Domain;
 use sqlite::Alter;
 use sqltables::RowStore;
+use states::BookFault;
 use std::alloc::Global;
-use transactions::BookFault;
 
 /// What a registrar's account counts: 0 where it was never opened.
 pub fn counters<S: Alter>(

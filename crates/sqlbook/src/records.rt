@@ -1,6 +1,6 @@
 //! The records of a registry in the rows of a database.
 ghost use Rattle.std.specs.Prelude.{◌≡◌, true};
-ghost use Rattle.transactions.specs.States.{Closes, IsIdle};
+ghost use Rattle.states.specs.States.{Closes, IsIdle};
 ghost use Rattle.sqlbook.specs.Meaning.{are_right};
 ghost use Rattle.sqlbook.specs.BetweenCalls.{UndoneIfFault, IsBetweenCalls};
 
@@ -12,6 +12,7 @@ use accounts::{Counters, Line, LineChange, LineSwap, Lines, Message};
 use basis::list::Seq;
 use basis::registrar::RegistrarNo;
 use basis::text::Text;
+use books::Records;
 use calendar::Moment;
 use concerns::Names;
 use facts::{HOLDING_LIMIT, Superordinate};
@@ -20,9 +21,8 @@ use objects::{Contact, Domain, Host, Roid};
 use policy::{Policy, Terms};
 use sqlite::Alter;
 use sqltables::RowStore;
+use states::{BookFault, Ready};
 use std::alloc::Global;
-use store::Records;
-use transactions::{BookFault, Ready};
 
 /// The records of a registry in the tables of a database. After a fault no transaction is open:
 /// what was begun is undone at once.
@@ -126,6 +126,11 @@ impl<S: Alter, O: Provenance<S>> Records for SqlRecords<S, O> {
         rollback_on_fault::<S, O, _>(&mut self.store, said)
     }
 
+    fn lines(&mut self, registrar: RegistrarNo) -> Result<Lines, BookFault> {
+        let said = sqlaccounts::lines(&mut self.store, self.alloc, registrar);
+        rollback_on_fault::<S, O, _>(&mut self.store, said)
+    }
+
     fn swaps<C: LineChange>(
         &mut self,
         registrar: RegistrarNo,
@@ -201,12 +206,12 @@ impl<S: Alter, O: Provenance<S>> Records for SqlRecords<S, O> {
     }
 
     fn is_at_holding_limit(&mut self, registrar: RegistrarNo) -> Result<bool, BookFault> {
-        let said = sqlsums::is_at_holding_limit(&mut self.store, registrar, HOLDING_LIMIT);
+        let said = sqlderived::is_at_holding_limit(&mut self.store, registrar, HOLDING_LIMIT);
         rollback_on_fault::<S, O, _>(&mut self.store, said)
     }
 
     fn due(&mut self, moment: Moment, policy: &Policy) -> Result<Seq<Due>, BookFault> {
-        let said = sqlsums::due(&mut self.store, self.alloc, moment, policy);
+        let said = sqlderived::due(&mut self.store, self.alloc, moment, policy);
         rollback_on_fault::<S, O, _>(&mut self.store, said)
     }
 
@@ -217,7 +222,7 @@ impl<S: Alter, O: Provenance<S>> Records for SqlRecords<S, O> {
         moment: Moment,
         policy: &Policy,
     ) -> Result<Seq<Due>, BookFault> {
-        let said = sqlsums::due_near(&mut self.store, self.alloc, caller, names, moment, policy);
+        let said = sqlderived::due_near(&mut self.store, self.alloc, caller, names, moment, policy);
         rollback_on_fault::<S, O, _>(&mut self.store, said)
     }
 

@@ -4,7 +4,7 @@ ghost use Rattle.sqlcolumns.specs.Numbers as numbers;
 ghost use Rattle.lifecycle.specs.Lapse as lapse;
 ghost use Rattle.lifecycle.specs.Periods.{rules_with};
 ghost use Rattle.sqlrows.specs.Meanings.{Changes};
-ghost use Rattle.transactions.specs.States.{FindsSome};
+ghost use Rattle.states.specs.States.{FindsSome};
 ghost use Rattle.sqlbook.specs.inner.Replacing.{IsCheckedDomain, IsExchangedThere, IsReplaced};
 ghost use Rattle.sqlbook.specs.inner.Suiting.{MeansSame};
 
@@ -13,12 +13,12 @@ use basis::text::Text;
 use calendar::Moment;
 use objects::Domain;
 use policy::Schedule;
+use sqlderived::{deleted, deleted_names, end_of_deletion, same_days};
 use sqlite::Alter;
 use sqlobjects::set_sponsor_below;
-use sqlsums::{deleted, deleted_names, end_of_deletion, same_days};
 use sqltables::RowStore;
+use states::BookFault;
 use std::alloc::Global;
-use transactions::BookFault;
 
 /// Gives the row of each deleted domain the moment when it is purged, by the lengths that were put down or
 /// by these others, whichever is earlier.

@@ -1,9 +1,9 @@
 //! A host's new name, over rows. What a domain names is a number of a row, so the host's row gets the name,
 //! and no row of a domain is written, however many name the host.
 ghost use Rattle.std.specs.Prelude.{◌≡◌, true};
-ghost use Rattle.rules.specs.Changes.{may_rename};
-ghost use Rattle.store.specs.Tables.{host_moved, host_renamed};
-ghost use Rattle.transactions.specs.States.{Finds};
+ghost use Rattle.decisions.specs.Changes.{may_rename};
+ghost use Rattle.books.specs.Tables.{host_moved, host_renamed};
+ghost use Rattle.states.specs.States.{Finds};
 ghost use Rattle.sqlbook.specs.Meaning.{are_right, stored_of};
 ghost use Rattle.sqlbook.specs.AsBook.{MakesAs};
 
@@ -11,8 +11,8 @@ use basis::text::Text;
 use objects::Host;
 use sqlite::Alter;
 use sqltables::RowStore;
+use states::BookFault;
 use std::alloc::Global;
-use transactions::BookFault;
 
 /// A host goes from one name to that of its own, and each domain that named it names it by that. Where there is no
 /// host of the one name, or one of the other, nothing is changed.

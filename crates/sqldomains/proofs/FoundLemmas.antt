@@ -5,8 +5,8 @@ use Rattle.std.specs.FinMap.{get}
 use Rattle.objects.specs.declared.domain.Domain.{Domain}
 use Rattle.sqltables.specs.Content.{Content}
 use Rattle.sqltables.specs.Domain as table
-use Rattle.transactions.specs.declared.fault.BookFault.{BookFault}
-use Rattle.transactions.specs.States.{Finds, StateOf}
+use Rattle.states.specs.declared.fault.BookFault.{BookFault}
+use Rattle.states.specs.States.{Finds, StateOf}
 use Rattle.sqlrows.specs.Read.{first_read}
 use Rattle.sqlrows.proofs.NameLemmas.{stands}
 use Rattle.sqlrows.proofs.StateLemmas.{finds-on}

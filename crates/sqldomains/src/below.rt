@@ -3,7 +3,7 @@ ghost use Rattle.std.specs.Prelude.{◌≡◌, Some, IfOk, filter, map};
 ghost use Rattle.std.specs.FinMap.{empty};
 ghost use Rattle.objects.specs.Hosts as hosts;
 ghost use Rattle.sqltables.specs.Host.{Host};
-ghost use Rattle.transactions.specs.States.{Finds, FindsSome};
+ghost use Rattle.states.specs.States.{Finds, FindsSome};
 ghost use Rattle.sqldomains.specs.inner.Names as spec;
 
 use crate::names_in_order::{listed, with_name};
@@ -15,8 +15,8 @@ use sqlcolumns::above_column;
 use sqlite::Alter;
 use sqlobjects::has_host;
 use sqltables::{HostRow, RowStore};
+use states::BookFault;
 use std::alloc::{AllocError, Global};
-use transactions::BookFault;
 
 /// The names of the hosts below a domain, in the order of their bytes.
 pub fn hosts_below<S: Alter>(

@@ -1,7 +1,7 @@
 //! What a domain's rows of links lead to, beside what it is to name.
 ghost use Rattle.std.specs.Prelude.{◌≡◌, true, filter};
 ghost use Rattle.sqltables.specs.Link.{link_with_domain};
-ghost use Rattle.transactions.specs.States.{FindsSome};
+ghost use Rattle.states.specs.States.{FindsSome};
 ghost use Rattle.sqldomains.specs.inner.Stages as spec;
 
 use crate::links::{are_dated, number_of, registrant_alone, with_links};
@@ -10,8 +10,8 @@ use basis::list::Seq;
 use objects::Links;
 use sqlite::Alter;
 use sqltables::{DomainRow, LinkRow, RowStore};
+use states::BookFault;
 use std::alloc::Global;
-use transactions::BookFault;
 
 /// What the rows that lead from a domain lead to, beside what it is to name.
 #[derive(Clone, Copy, Drop)]

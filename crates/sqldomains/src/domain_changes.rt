@@ -1,7 +1,7 @@
 //! Domains put under their names and dropped.
 ghost use Rattle.std.specs.Prelude.{◌≡◌, true, Some, None};
 ghost use Rattle.sqlrows.specs.Meanings.{Changes};
-ghost use Rattle.transactions.specs.States.{FindsSome};
+ghost use Rattle.states.specs.States.{FindsSome};
 ghost use Rattle.sqlobjects.specs.Changes.{contact_name};
 ghost use Rattle.sqldomains.specs.inner.Changes.{IsDomainPut};
 
@@ -15,8 +15,8 @@ use sqlcolumns::is_domain;
 use sqlite::Alter;
 use sqlobjects::{Transferable, put_transfer, row_named};
 use sqltables::{DomainRow, RowStore};
+use states::BookFault;
 use std::alloc::Global;
-use transactions::BookFault;
 
 /// The domain stands under this name, which has to be its own, and its row is due at this moment. What
 /// it names has to be there.

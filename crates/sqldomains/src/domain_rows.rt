@@ -14,8 +14,8 @@ use sqlite::Alter;
 use sqlobjects::{Transferable, clear_transfer, place_row, row_named};
 use sqlrows::or_fault;
 use sqltables::{DomainRow, RowStore};
+use states::BookFault;
 use std::alloc::Global;
-use transactions::BookFault;
 
 /// What a domain's row has that the domain hasn't: the number of its registrant, and when it is due.
 #[derive(Clone, Copy, Drop)]

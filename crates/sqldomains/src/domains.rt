@@ -7,7 +7,7 @@ ghost use Rattle.sqldomains.specs.Domains as spec;
 ghost use Rattle.sqlobjects.specs.Objects as objects_spec;
 ghost use Rattle.sqltables.specs.Domain.{domain_with_name};
 ghost use Rattle.sqltables.specs.Transfer.{transfer_with_domain};
-ghost use Rattle.transactions.specs.States.{Finds, FindsSome};
+ghost use Rattle.states.specs.States.{Finds, FindsSome};
 
 use crate::links::{links_of, number_of};
 use basis::list::Seq;
@@ -17,8 +17,8 @@ use sqlcolumns::{domain_of_row, transfer_of_row};
 use sqlite::Alter;
 use sqlrows::{only, or_fault};
 use sqltables::{DomainRow, RowStore, TransferRow};
+use states::BookFault;
 use std::alloc::Global;
-use transactions::BookFault;
 
 /// The domain of this name.
 pub fn domain<S: Alter>(

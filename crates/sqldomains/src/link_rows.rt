@@ -1,6 +1,6 @@
 //! The rows that lead from a domain to what it names.
 ghost use Rattle.std.specs.Prelude.{◌≡◌, true, ◌∷◌, [], Some};
-ghost use Rattle.transactions.specs.States.{FindsSome};
+ghost use Rattle.states.specs.States.{FindsSome};
 ghost use Rattle.sqlrows.specs.Meanings.{Changes};
 ghost use Rattle.sqlobjects.specs.Changes as changes;
 ghost use Rattle.sqldomains.specs.declared.comparison.LinkComparison.TheVariants as comparisons;
@@ -16,8 +16,8 @@ use sqlcolumns::{Coded, Role};
 use sqlite::Alter;
 use sqlrows::Number;
 use sqltables::{DomainRow, LinkRow, RowStore};
+use states::BookFault;
 use std::alloc::Global;
-use transactions::BookFault;
 
 /// The domain that lies in this row names this, in place of what it named. Its registrant is in its row.
 /// Hosts in another order than that of their names wouldn't be read back and are refused. Rows that

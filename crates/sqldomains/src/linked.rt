@@ -6,7 +6,7 @@ ghost use Rattle.sqltables.specs.Contact.{Contact};
 ghost use Rattle.sqltables.specs.inner.Domain.{domain_with_registrant};
 ghost use Rattle.sqltables.specs.Host.{Host};
 ghost use Rattle.sqltables.specs.Link.{link_with_contact, link_with_host};
-ghost use Rattle.transactions.specs.States.{Finds, FindsSome};
+ghost use Rattle.states.specs.States.{Finds, FindsSome};
 ghost use Rattle.objects.specs.Links as links;
 ghost use Rattle.sqldomains.specs.inner.Links as spec;
 
@@ -16,8 +16,8 @@ use basis::text::Text;
 use sqlite::Alter;
 use sqlrows::only;
 use sqltables::{ContactRow, DomainRow, HostRow, LinkRow, RowStore};
+use states::BookFault;
 use std::alloc::Global;
-use transactions::BookFault;
 
 /// Whether a domain names the contact of this name.
 pub fn is_linked_contact<S: Alter>(

@@ -1,6 +1,6 @@
 //! What domains name.
 ghost use Rattle.std.specs.Prelude.{◌≡◌, Some, IfOk};
-ghost use Rattle.transactions.specs.States.{FindsSome};
+ghost use Rattle.states.specs.States.{FindsSome};
 ghost use Rattle.sqldomains.specs.Domains as spec;
 
 use crate::names::{contact_name, host_name};
@@ -12,8 +12,8 @@ use sqlcolumns::{Coded, Role};
 use sqlite::Alter;
 use sqlrows::{Number, or_fault};
 use sqltables::{DomainRow, LinkRow, RowStore};
+use states::BookFault;
 use std::alloc::{AllocError, Global};
-use transactions::BookFault;
 
 /// What the domain of a row names.
 pub(crate) fn links_of<S: Alter>(

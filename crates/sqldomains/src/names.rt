@@ -1,6 +1,6 @@
 //! Names of contacts and hosts, by the numbers of their rows.
 ghost use Rattle.std.specs.Prelude.{◌≡◌, Some, IfOk, option_map};
-ghost use Rattle.transactions.specs.States.{Finds, FindsSome};
+ghost use Rattle.states.specs.States.{Finds, FindsSome};
 ghost use Rattle.sqlite_keyed.specs.Keyed.{get_by};
 ghost use Rattle.sqltables.specs.Contact.{Contact, contacts};
 ghost use Rattle.sqltables.specs.Host.{Host, hosts};
@@ -10,7 +10,7 @@ use basis::text::Text;
 use sqlite::Alter;
 use sqlrows::{Number, only};
 use sqltables::{ContactRow, HostRow, RowStore};
-use transactions::BookFault;
+use states::BookFault;
 
 /// The name of the contact with this number, to which something leads.
 pub(crate) fn contact_name<S: Alter>(store: &mut RowStore<S>, id: i64) -> Result<Text, BookFault>

@@ -1,7 +1,7 @@
 //! Names of domains, in the order of their bytes.
 ghost use Rattle.std.specs.Prelude.{◌≡◌, Some, IfOk};
 ghost use Rattle.std.specs.FinMap.{empty, insert, keys};
-ghost use Rattle.transactions.specs.States.{Finds, FindsSome};
+ghost use Rattle.states.specs.States.{Finds, FindsSome};
 ghost use Rattle.sqldomains.specs.inner.Names as spec;
 
 use crate::domains::domain_of;
@@ -10,8 +10,8 @@ use basis::maps::NameMap;
 use basis::text::Text;
 use sqlite::Alter;
 use sqltables::{DomainRow, RowStore};
+use states::BookFault;
 use std::alloc::{AllocError, Global};
-use transactions::BookFault;
 
 /// The names of all domains. Each is read for it, so this is for a zone and not for a command.
 pub fn domain_names<S: Alter>(

@@ -9,8 +9,8 @@ use Rattle.sqltables.specs.Address as address_table
 use Rattle.sqltables.specs.Contact as contact_table
 use Rattle.sqltables.specs.Content.{Content}
 use Rattle.sqltables.specs.Host as host_table
-use Rattle.transactions.specs.declared.fault.BookFault.{BookFault}
-use Rattle.transactions.specs.States.{Finds, FindsSome, StateOf}
+use Rattle.states.specs.declared.fault.BookFault.{BookFault}
+use Rattle.states.specs.States.{Finds, FindsSome, StateOf}
 use Rattle.sqlobjects.specs.Objects.{contact_of, contacts_of, host_of, hosts_of, texts_of}
 use Rattle.sqlrows.specs.Read.{first_read}
 use Rattle.sqlobjects.proofs.NameLemmas.{contact-named, host-named}

@@ -1,8 +1,8 @@
 -- One step of a change after another.
 use Rattle.std.proofs.Common.{◌≡◌, true, Result, Ok, Err, refl, sym, subst, ◌∙◌}
-use Rattle.transactions.specs.declared.fault.BookFault.{BookFault}
-use Rattle.transactions.specs.States.{FindsSome, Reads, StateOf, Writes}
-use Rattle.transactions.proofs.LeavingLemmas.{leaves-on, leaves-refl}
+use Rattle.states.specs.declared.fault.BookFault.{BookFault}
+use Rattle.states.specs.States.{FindsSome, Reads, StateOf, Writes}
+use Rattle.states.proofs.LeavingLemmas.{leaves-on, leaves-refl}
 use Rattle.sqlrows.specs.Meanings.{HasChanged, Changes}
 use Rattle.sqlobjects.specs.inner.Stages.{ChangesGiving}
 

@@ -8,8 +8,8 @@ use basis::text::Text;
 use sqlite::Alter;
 use sqlrows::Number;
 use sqltables::{AddressRow, HostRow, RowStore};
+use states::BookFault;
 use std::alloc::{AllocError, Global};
-use transactions::BookFault;
 
 /// Removes the addresses of the host with this number.
 pub(crate) fn clear_addresses<S: Alter>(

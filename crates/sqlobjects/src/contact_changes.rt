@@ -11,8 +11,8 @@ use objects::Contact;
 use sqlcolumns::is_contact;
 use sqlite::Alter;
 use sqltables::RowStore;
+use states::BookFault;
 use std::alloc::Global;
-use transactions::BookFault;
 
 /// The contact stands under this name, which has to be its own.
 pub fn put_contact<S: Alter>(

@@ -12,8 +12,8 @@ use sqlcolumns::contact_row;
 use sqlite::Alter;
 use sqlrows::{Number, or_fault};
 use sqltables::{ContactRow, RowStore};
+use states::BookFault;
 use std::alloc::Global;
-use transactions::BookFault;
 
 pub(crate) fn number_of(row: &ContactRow) -> Number
     ensures { result ≡ row.now.id }

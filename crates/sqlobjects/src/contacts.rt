@@ -4,7 +4,7 @@ ghost use Rattle.std.specs.FinMap.{get};
 ghost use Rattle.sqlcolumns.specs.Contacts.{contact_in};
 ghost use Rattle.sqltables.specs.Contact.{contact_with_name};
 ghost use Rattle.sqltables.specs.Transfer.{transfer_with_contact};
-ghost use Rattle.transactions.specs.States.{Finds, FindsSome};
+ghost use Rattle.states.specs.States.{Finds, FindsSome};
 ghost use Rattle.sqlobjects.specs.Objects as spec;
 ghost use Rattle.sqlrows.specs.Read.{IsRead, first_read};
 
@@ -15,8 +15,8 @@ use sqlcolumns::{contact_of_row, transfer_of_row};
 use sqlite::Alter;
 use sqlrows::{Number, only, or_fault};
 use sqltables::{ContactRow, RowStore, TransferRow};
+use states::BookFault;
 use std::alloc::Global;
-use transactions::BookFault;
 
 /// The contact of this name.
 pub fn contact<S: Alter>(

@@ -10,8 +10,8 @@ use objects::Host;
 use sqlcolumns::is_host;
 use sqlite::Alter;
 use sqltables::RowStore;
+use states::BookFault;
 use std::alloc::Global;
-use transactions::BookFault;
 
 /// The host stands under its name. Refused is what replaces a row with a wrong sponsor.
 pub fn put_host<S: Alter>(

@@ -1,7 +1,7 @@
 //! The row of one host made another's.
 ghost use Rattle.std.specs.Prelude.{◌≡◌, true, [], filter, Some};
 ghost use Rattle.sqltables.specs.Host.{host_with_name};
-ghost use Rattle.transactions.specs.States.{FindsSome};
+ghost use Rattle.states.specs.States.{FindsSome};
 ghost use Rattle.sqlrows.specs.Meanings.{Changes};
 ghost use Rattle.sqlobjects.specs.inner.Changes.{IsRowRenamed};
 ghost use Rattle.sqlobjects.specs.inner.Stages.{ChangesGiving, IsHostFound, IsRowTaken};
@@ -14,8 +14,8 @@ use objects::Host;
 use sqlcolumns::is_host;
 use sqlite::Alter;
 use sqltables::{HostRow, RowStore};
+use states::BookFault;
 use std::alloc::Global;
-use transactions::BookFault;
 
 /// The row of the host of this name is that of another host, under whose name none stands, and keeps its
 /// number. So what leads to the one leads to the other. Refused is what replaces a row with a wrong

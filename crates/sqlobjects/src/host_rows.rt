@@ -1,7 +1,7 @@
 //! Rows of hosts: written, and removed with their addresses.
 ghost use Rattle.std.specs.Prelude.{◌≡◌, true, Some, None, IfOk};
 ghost use Rattle.sqlcolumns.specs.inner.Hosts as inner_hosts;
-ghost use Rattle.transactions.specs.States.{FindsSome};
+ghost use Rattle.states.specs.States.{FindsSome};
 ghost use Rattle.sqlrows.specs.Meanings.{Changes};
 ghost use Rattle.sqlobjects.specs.inner.Stages.{ChangesGiving, IsHostDropped, IsHostFound, IsHostPlacedRight, IsHostRemoved, IsHostRow};
 
@@ -15,8 +15,8 @@ use sqlcolumns::host_row;
 use sqlite::Alter;
 use sqlrows::or_fault;
 use sqltables::{HostRow, RowStore};
+use states::BookFault;
 use std::alloc::Global;
-use transactions::BookFault;
 
 /// The row of the host of this name, if there is one, where it is to be changed. One that has another
 /// sponsor than it has to have is refused.

@@ -12,7 +12,7 @@ use basis::text::Text;
 use sqlcolumns::{is_same, maybe_registrar_column};
 use sqlite::Alter;
 use sqltables::{HostRow, RowStore};
-use transactions::BookFault;
+use states::BookFault;
 
 /// The accounts that sponsor hosts before and after, if there are such.
 #[derive(Clone, Copy, Drop)]

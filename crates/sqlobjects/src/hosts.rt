@@ -3,7 +3,7 @@ ghost use Rattle.std.specs.Prelude.{◌≡◌, true, filter, IfOk, Some, is_some
 ghost use Rattle.std.specs.FinMap.{get};
 ghost use Rattle.sqlcolumns.specs.Hosts.{host_in};
 ghost use Rattle.sqltables.specs.Host.{host_with_name};
-ghost use Rattle.transactions.specs.States.{Finds, FindsSome};
+ghost use Rattle.states.specs.States.{Finds, FindsSome};
 ghost use Rattle.sqlobjects.specs.Objects as spec;
 ghost use Rattle.sqlrows.specs.Read.{IsRead, first_read};
 
@@ -14,8 +14,8 @@ use sqlcolumns::host_of_row;
 use sqlite::Alter;
 use sqlrows::{Number, only, or_fault};
 use sqltables::{AddressRow, HostRow, RowStore};
+use states::BookFault;
 use std::alloc::{AllocError, Global};
-use transactions::BookFault;
 
 /// The host of this name.
 pub fn host<S: Alter>(

@@ -1,7 +1,7 @@
 //! Rows of the tables in which each row has a name, and no name comes twice: found by name, and put under
 //! the number that a row of the name has, or else added.
 ghost use Rattle.std.specs.Prelude.{◌≡◌, true, [], ◌∷◌, Some, None};
-ghost use Rattle.transactions.specs.States.{FindsSome};
+ghost use Rattle.states.specs.States.{FindsSome};
 ghost use Rattle.sqlrows.specs.Read.{rows_of};
 ghost use Rattle.sqlobjects.specs.inner.Stages.{ChangesGiving, IsPlacedAt, rows_named};
 
@@ -10,12 +10,12 @@ use basis::text::Text;
 use sqlite::Alter;
 use sqlrows::only;
 use sqltables::{ContactRow, DomainRow, HostRow, RowStore};
-use transactions::BookFault;
+use states::BookFault;
 
 /// A row of such a table.
 pub trait NamedRow: Sized + Drop {
     ghost use Rattle.std.specs.Prelude.{◌≡◌, true};
-    ghost use Rattle.transactions.specs.States.{Finds, Makes};
+    ghost use Rattle.states.specs.States.{Finds, Makes};
     ghost use Rattle.sqlobjects.specs.inner.Stages.{NamedTable, rows_named, with_last, with_row};
 
     /// Its table.

@@ -3,13 +3,13 @@ ghost use Rattle.std.specs.Prelude.{◌≡◌, IfSome};
 ghost use Rattle.sqlrows.specs.Read.{rows_of};
 ghost use Rattle.sqlobjects.specs.Sponsors as spec;
 ghost use Rattle.sqlobjects.specs.inner.Stages.{HasRightSponsor};
-ghost use Rattle.transactions.specs.States.{FindsSome};
+ghost use Rattle.states.specs.States.{FindsSome};
 
 use sqlcolumns::is_same;
 use sqlite::Alter;
 use sqlrows::only;
 use sqltables::{DomainRow, HostRow, RowStore};
-use transactions::BookFault;
+use states::BookFault;
 
 /// The account that sponsors the domain of this name, if there is one.
 pub(crate) fn domain_sponsor<S: Alter>(

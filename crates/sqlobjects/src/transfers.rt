@@ -3,7 +3,7 @@ ghost use Rattle.std.specs.Prelude.{◌≡◌, true, filter, IfOk, IfSome};
 ghost use Rattle.std.specs.List.{list_any};
 ghost use Rattle.sqlite_keyed.specs.Lists.{delete_where};
 ghost use Rattle.sqlcolumns.specs.Transfers.{IsTransfer};
-ghost use Rattle.transactions.specs.States.{Finds, Makes};
+ghost use Rattle.states.specs.States.{Finds, Makes};
 ghost use Rattle.sqlrows.specs.Meanings.{Changes};
 ghost use Rattle.sqltables.specs.inner.Content.{transfers_to};
 ghost use Rattle.sqlobjects.specs.inner.Transfers as spec;
@@ -14,7 +14,7 @@ use sqlcolumns::{is_transfer, transfer_row};
 use sqlite::Alter;
 use sqlrows::Number;
 use sqltables::{ContactRow, DomainRow, RowStore, TransferRow};
-use transactions::BookFault;
+use states::BookFault;
 
 /// What can be transferred, by the number of its row.
 #[derive(Clone, Copy, Drop)]

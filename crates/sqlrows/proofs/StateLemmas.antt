@@ -1,9 +1,9 @@
 -- One call after another.
 use Rattle.std.proofs.Common.{◌≡◌, Bool, true, List, filter, find, Option, Result, Ok, Err, IfOk, refl, sym, ap, subst, ◌∙◌}
-use Rattle.transactions.specs.declared.fault.BookFault.{BookFault}
+use Rattle.states.specs.declared.fault.BookFault.{BookFault}
 use Rattle.std.specs.Result.{IsErr}
-use Rattle.transactions.specs.States.{Finds, FindsSome, Reads, StateOf, Stays, Writes}
-use Rattle.transactions.proofs.LeavingLemmas.{leaves-on, leaves-refl}
+use Rattle.states.specs.States.{Finds, FindsSome, Reads, StateOf, Stays, Writes}
+use Rattle.states.proofs.LeavingLemmas.{leaves-on, leaves-refl}
 use Rattle.sqlrows.specs.Meanings.{HasChanged}
 use Rattle.sqlrows.specs.Read.{rows_of}
 use Rattle.sqlrows.proofs.RowLemmas.{find_one}

@@ -1,7 +1,7 @@
 -- What a call on rows leaves, said of what the rows mean.
 use Rattle.std.specs.Prelude.{◌≡◌, Bool, true, Result, Ok, Err}
-use Rattle.transactions.specs.declared.fault.BookFault.{BookFault}
-use Rattle.transactions.specs.States.{Answers, LeavesSame, StateOf, Reads, Stays}
+use Rattle.states.specs.declared.fault.BookFault.{BookFault}
+use Rattle.states.specs.States.{Answers, LeavesSame, StateOf, Reads, Stays}
 
 -- a question: this is the answer where the sums that rows keep are right, and nothing is changed
 abbrev pub FindsIfRight : {A C : Type 0} → Result A BookFault → Bool → A → StateOf C → StateOf C → Type 0

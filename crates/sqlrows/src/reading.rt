@@ -3,7 +3,7 @@ ghost use Rattle.std.specs.Prelude.{◌≡◌, IfOk, Some};
 ghost use Rattle.sqlrows.specs.Read.{rows_of};
 
 use basis::list::Seq;
-use transactions::BookFault;
+use states::BookFault;
 
 /// The row that these are, if there is one; more are refused.
 pub fn only<R: Drop>(rows: Seq<R>) -> Result<Option<R>, BookFault>

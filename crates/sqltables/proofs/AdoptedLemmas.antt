@@ -12,15 +12,15 @@ use Rattle.sqlite.specs.Effect.{Database}
 use Rattle.sqlite.specs.State.{State, HasCleanDisk}
 use Rattle.sqltables.specs.declared.form.Form.{Form}
 use Rattle.sqltables.specs.declared.form.Form.TheVariants.{Unused, Making, Made, Other}
-use Rattle.transactions.specs.declared.readiness.Ready.{Ready}
-use Rattle.transactions.specs.declared.readiness.Ready.TheVariants.{Used}
-use Rattle.transactions.specs.declared.readiness.Ready.TheVariants as readiness
+use Rattle.states.specs.declared.readiness.Ready.{Ready}
+use Rattle.states.specs.declared.readiness.Ready.TheVariants.{Used}
+use Rattle.states.specs.declared.readiness.Ready.TheVariants as readiness
 use Rattle.sqltables.specs.Adoption.{IsFound}
 use Rattle.sqltables.specs.inner.Adoption.{IsSeenBy, IsShapedAs, IsShown, LeavesSameRegistry}
 use Rattle.sqltables.specs.Decoding.{contents}
 use Rattle.sqltables.specs.Readiness.{IsFormOf, IsKnownAs, is_numbered}
-use Rattle.transactions.specs.States.{Has, LeavesSame, Remains, StateOf}
-use Rattle.transactions.proofs.LeavingLemmas.{has-alone}
+use Rattle.states.specs.States.{Has, LeavesSame, Remains, StateOf}
+use Rattle.states.proofs.LeavingLemmas.{has-alone}
 use Rattle.sqltables.specs.Content.{Content}
 use Rattle.sqltables.specs.inner.Stored.{Bears, Fits, Guards, HoldsRows, left_in, readiness_of, rows_in, stands, undone}
 use Rattle.sqltables.specs.Stored.{Covers, IsLeftAs}

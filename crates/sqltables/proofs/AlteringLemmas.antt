@@ -24,7 +24,7 @@ use Rattle.sqltables.specs.Decoding.{contents}
 use Rattle.sqltables.specs.Tables.{registry}
 use Rattle.sqltables.specs.declared.form.Form.{Form}
 use Rattle.sqltables.specs.declared.form.Form.TheVariants.{Unused, Making, Made, Other}
-use Rattle.transactions.specs.States.{Remains, Writes}
+use Rattle.states.specs.States.{Remains, Writes}
 use Rattle.sqltables.specs.declared.answers.Answers.{Answers}
 use Rattle.sqltables.specs.inner.Answers.{AreRight, Recalls}
 use Rattle.sqltables.specs.inner.Statements.{Alters, AreOthersSame}

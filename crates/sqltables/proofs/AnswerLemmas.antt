@@ -24,11 +24,11 @@ use Rattle.sqltables.specs.Content.{Content}
 use Rattle.sqltables.specs.inner.Content.{IsContent}
 use Rattle.sqltables.specs.Decoding.{contents}
 use Rattle.sqltables.specs.Tables.{registry}
-use Rattle.transactions.specs.declared.fault.BookFault.{BookFault}
+use Rattle.states.specs.declared.fault.BookFault.{BookFault}
 use Rattle.sqltables.specs.declared.answers.Answer.{Answer}
 use Rattle.sqltables.specs.declared.answers.Answers.{Answers}
 use Rattle.sqltables.specs.declared.form.Form.{Form}
-use Rattle.transactions.specs.States.{Finds, Reads, Remains, StateOf}
+use Rattle.states.specs.States.{Finds, Reads, Remains, StateOf}
 use Rattle.sqltables.specs.inner.Statements.{AreOthersSame, Asks, IsOfTable}
 use Rattle.sqltables.specs.inner.Stored.{Fits, HoldsRows, has_rows, rows_in, stands}
 use Rattle.sqltables.proofs.AskingLemmas.{finds-by, holds-now, in-registry, rows-are, shows}

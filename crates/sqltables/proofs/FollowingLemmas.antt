@@ -1,8 +1,8 @@
 -- One call on a store of rows after another.
 use Rattle.std.proofs.Common.{Result, Ok, Err, ap, ◌∙◌}
-use Rattle.transactions.specs.declared.fault.BookFault.{BookFault}
-use Rattle.transactions.specs.States.{Finds, Reads, StateOf}
-use Rattle.transactions.proofs.LeavingLemmas.{leaves-on}
+use Rattle.states.specs.declared.fault.BookFault.{BookFault}
+use Rattle.states.specs.States.{Finds, Reads, StateOf}
+use Rattle.states.proofs.LeavingLemmas.{leaves-on}
 
 -- a question behind a look
 pub finds-after : {A X : Type 0} (r : Result A BookFault) (s m t : StateOf X) (f : X → A) → Reads s m → Finds r (f m.content) m t → Finds r (f s.content) s t

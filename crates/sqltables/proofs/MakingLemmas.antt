@@ -8,10 +8,10 @@ use Rattle.sqlrows.specs.inner.Calls as calls
 use Rattle.sqlrows.specs.inner.Definitions.{IsUndone}
 use Rattle.sqltables.specs.Content.{Content, no_content}
 use Rattle.sqltables.specs.inner.Content.{IsContent}
-use Rattle.transactions.specs.declared.fault.BookFault.{BookFault}
+use Rattle.states.specs.declared.fault.BookFault.{BookFault}
 use Rattle.sqltables.specs.declared.form.Form.TheVariants.{Unused, Making}
-use Rattle.transactions.proofs.LeavingLemmas.{leaves-on}
-use Rattle.transactions.specs.States.{Begins, Makes, Remains, Starts, StateOf, Stays, Writes}
+use Rattle.states.proofs.LeavingLemmas.{leaves-on}
+use Rattle.states.specs.States.{Begins, Makes, Remains, Starts, StateOf, Stays, Writes}
 use Rattle.sqltables.specs.inner.Stored.{Agrees, Fits, Guards, stands}
 use Rattle.sqltables.proofs.DecodingLemmas.{decoded}
 use Rattle.sqltables.proofs.StandingLemmas.{answered-open, clean-of, guards-on, honest, leaves-same, was-honest}

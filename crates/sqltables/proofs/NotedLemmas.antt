@@ -1,9 +1,9 @@
 -- What a crash may leave of a store, as it was noted.
 use Rattle.std.proofs.Common.{◌≡◌, inl, inr, Bool, true, false, List, [], ◌∷◌, ◌++◌, Result, Ok, Err, if◌then◌else◌, refl, sym, ap, ◌∙◌, subst}
-use Rattle.transactions.specs.declared.fault.BookFault.{BookFault}
-use Rattle.transactions.specs.declared.readiness.Ready.TheVariants.{Used}
-use Rattle.transactions.specs.States.{Fails, Finds, Has, LeavesSame, Makes, Reads, Remains, StateOf, Stays, holding}
-use Rattle.transactions.proofs.LeavingLemmas.{has-either, has-front, has-last}
+use Rattle.states.specs.declared.fault.BookFault.{BookFault}
+use Rattle.states.specs.declared.readiness.Ready.TheVariants.{Used}
+use Rattle.states.specs.States.{Fails, Finds, Has, LeavesSame, Makes, Reads, Remains, StateOf, Stays, holding}
+use Rattle.states.proofs.LeavingLemmas.{has-either, has-front, has-last}
 use Rattle.sqltables.specs.declared.hand.Hand.{Hand}
 use Rattle.sqltables.specs.Content.{Content}
 use Rattle.sqltables.specs.inner.Hand.{AreNoted, left_by, noted_of, noting, seen_with, with_owed}

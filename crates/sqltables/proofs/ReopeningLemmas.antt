@@ -2,9 +2,9 @@
 use Rattle.std.proofs.Common.{◌≡◌, true, List, refl, sym, ap, ◌∙◌, true≢false}
 use Rattle.sqlite_trees.specs.Tree.{Trees}
 use Rattle.sqlrows.specs.Columns.{no_schema}
-use Rattle.transactions.specs.declared.readiness.Ready.{Ready}
-use Rattle.transactions.specs.declared.readiness.Ready.TheVariants.{Empty, Used, Other}
-use Rattle.transactions.specs.States.{Remains, StateOf}
+use Rattle.states.specs.declared.readiness.Ready.{Ready}
+use Rattle.states.specs.declared.readiness.Ready.TheVariants.{Empty, Used, Other}
+use Rattle.states.specs.States.{Remains, StateOf}
 use Rattle.sqltables.specs.Adoption.{IsAdopted, IsTakenAs}
 use Rattle.sqltables.specs.Content.{Content}
 use Rattle.sqltables.specs.Readiness.{IsKnownAs, is_numbered}

@@ -2,9 +2,9 @@
 use Rattle.std.proofs.Common.{◌≡◌, inl, inr, ℤ, Bool, true, false, List, [], ◌∷◌, Option, Some, None, Result, Ok, Err, IfSome, filter, refl, sym, ap, ap₂, ◌∙◌, subst, true≢false}
 use Rattle.sqlite_keyed.specs.Keyed.{insert_by}
 use Rattle.sqlite_rules.specs.Lists.{Has}
-use Rattle.transactions.specs.declared.fault.BookFault.{BookFault}
-use Rattle.transactions.specs.States.{Finds, LeavesSame, Makes, Reads, StateOf, Stays, Writes}
-use Rattle.transactions.proofs.LeavingLemmas.{leaves-refl}
+use Rattle.states.specs.declared.fault.BookFault.{BookFault}
+use Rattle.states.specs.States.{Finds, LeavesSame, Makes, Reads, StateOf, Stays, Writes}
+use Rattle.states.proofs.LeavingLemmas.{leaves-refl}
 use Rattle.sqltables.specs.declared.hand.Hand.{Hand}
 use Rattle.sqltables.specs.Account.{Account, accounts, account_with_id}
 use Rattle.sqltables.specs.Content.{Content}

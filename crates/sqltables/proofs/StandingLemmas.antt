@@ -12,7 +12,7 @@ use Rattle.sqlrows.proofs.SoundLemmas.{was_open}
 use Rattle.sqlrows.proofs.StandLemmas.{not_run}
 use Rattle.sqltables.specs.declared.form.Form.{Form}
 use Rattle.sqltables.specs.declared.form.Form.TheVariants.{Unused, Making, Made, Other}
-use Rattle.transactions.specs.States.{LeavesSame, Reads, Remains, Stays}
+use Rattle.states.specs.States.{LeavesSame, Reads, Remains, Stays}
 use Rattle.sqltables.specs.Content.{Content}
 use Rattle.sqltables.specs.inner.Stored.{Agrees, Bears, Fits, Guards, readiness_of, rows_in, stands, undone}
 

@@ -17,8 +17,8 @@ use Rattle.sqlrows.proofs.SwitchLemmas.{begin_is, commit_is}
 use Rattle.sqlrows.proofs.TransactionLemmas.{began, ended}
 use Rattle.sqltables.specs.declared.form.Form.{Form}
 use Rattle.sqltables.specs.declared.form.Form.TheVariants.{Unused, Making, Made, Other}
-use Rattle.transactions.proofs.LeavingLemmas.{has-alone, has-either, has-front, has-last}
-use Rattle.transactions.specs.States.{Closes, Fails, Keeps, Remains, Starts, Stays, holding}
+use Rattle.states.proofs.LeavingLemmas.{has-alone, has-either, has-front, has-last}
+use Rattle.states.specs.States.{Closes, Fails, Keeps, Remains, Starts, Stays, holding}
 use Rattle.sqltables.specs.Content.{Content}
 use Rattle.sqltables.specs.inner.Stored.{Agrees, Bears, Fits, Guards, committed, has_rows, leaves_of, left_in, readiness_of, rows_in, stands, undone}
 use Rattle.sqltables.specs.Stored.{IsLeftAs}

@@ -7,9 +7,9 @@ use Rattle.sqltables.specs.Content.{Content, no_content}
 use Rattle.sqltables.specs.Decoding.{contents}
 use Rattle.sqltables.specs.Readiness.{IsKnownAs}
 use Rattle.sqltables.specs.Tables.{registry}
-use Rattle.transactions.specs.States.{Has, Remains}
-use Rattle.transactions.specs.declared.readiness.Ready.{Ready}
-use Rattle.transactions.specs.declared.readiness.Ready.TheVariants as readiness
+use Rattle.states.specs.States.{Has, Remains}
+use Rattle.states.specs.declared.readiness.Ready.{Ready}
+use Rattle.states.specs.declared.readiness.Ready.TheVariants as readiness
 
 -- what is held where nothing was made yet
 abbrev pub fresh : Content

@@ -2,7 +2,7 @@
 ghost use Rattle.std.specs.Prelude.{◌≡◌, true, false, filter, IfOk};
 ghost use Rattle.sqlite_keyed.specs.Keyed.{insert_by};
 ghost use Rattle.sqltables.specs.inner.Content.{accounts_to};
-ghost use Rattle.transactions.specs.States.{Finds, Makes};
+ghost use Rattle.states.specs.States.{Finds, Makes};
 ghost use Rattle.sqltables.specs.inner.Hand.{IsAtHand, seen_with};
 ghost use Rattle.sqltables.specs.Account.{Account, accounts, account_with_id};
 
@@ -13,9 +13,9 @@ use basis::list::Seq;
 use sqlite::types::{ToSql, Type, ValueRef};
 use sqlite::{Alter, Error, Row, params};
 use sqlrows::{Number, Record};
+use states::BookFault;
 use std::alloc::{AllocError, Global};
 use std::marker::Model;
-use transactions::BookFault;
 
 /// The tree of the table `account`.
 const TREE: u64 = 1;

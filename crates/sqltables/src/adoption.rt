@@ -6,8 +6,8 @@ ghost use Rattle.sqltables.specs.inner.Adoption.{IsReread, LeavesNoMore};
 
 use crate::base::fault_of;
 use sqlite::{Alter, Connection};
+use states::BookFault;
 use std::alloc::Global;
-use transactions::BookFault;
 
 /// Why a database isn't taken up.
 #[derive(Clone, Copy, Debug, PartialEq, Eq, Drop)]

@@ -16,8 +16,8 @@ use sqlite::types::ValueRef;
 use sqlite_value::order::is_same;
 use sqlite_value::row::Row as Values;
 use sqlrows::Record;
+use states::BookFault;
 use std::alloc::{AllocError, Global};
-use transactions::BookFault;
 
 /// How many answers are kept.
 const MOST_ANSWERS: usize = 32;

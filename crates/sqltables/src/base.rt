@@ -12,9 +12,9 @@ use http_server::Log;
 use sqlite::types::ValueRef;
 use sqlite::{Alter, Connection, Error, ErrorCode, MemStore, Row};
 use sqlrows::{Record, rollback};
+use states::{BookFault, Ready};
 use std::alloc::Global;
 use std::marker::Model;
-use transactions::{BookFault, Ready};
 
 /// The eleven tables in a database, as rows. Each call is its statement.
 #[derive(Drop)]
@@ -34,7 +34,7 @@ impl<S: Alter> Model for Base<S> {
     ghost use Rattle.sqlite.specs.Held.{state};
     ghost use Rattle.sqltables.specs.inner.Answers.{Recalls};
     ghost use Rattle.sqltables.specs.Content.{Content};
-    ghost use Rattle.transactions.specs.States.{StateOf};
+    ghost use Rattle.states.specs.States.{StateOf};
     ghost use Rattle.sqltables.specs.inner.Stored.{Fits, Guards, leaves_of, stands};
 
     ghost Value = { StateOf Content };
@@ -75,7 +75,7 @@ impl<S: Alter> Base<S> {
     ghost use Rattle.sqlite.specs.State.{HasCleanDisk};
     ghost use Rattle.sqlite.specs.Values.{bound};
     ghost use Rattle.sqltables.specs.Content.{Content};
-    ghost use Rattle.transactions.specs.States.{Begins, Closes, Ends, Finds, IsIdle, Makes, FindsSome, Notes};
+    ghost use Rattle.states.specs.States.{Begins, Closes, Ends, Finds, IsIdle, Makes, FindsSome, Notes};
     ghost use Rattle.sqltables.specs.inner.Answers.{IsQueryOf};
     ghost use Rattle.sqltables.specs.inner.Statements.{Alters, Asks};
     ghost use Rattle.sqltables.specs.Stored.{Covers, fresh};

@@ -3,7 +3,7 @@ ghost use Rattle.std.specs.Prelude.{◌≡◌, true, filter, take, IfOk};
 ghost use Rattle.sqlite_keyed.specs.Keyed.{insert_by};
 ghost use Rattle.sqlite_keyed.specs.Lists.{delete_where};
 ghost use Rattle.sqltables.specs.inner.Content.{contacts_to};
-ghost use Rattle.transactions.specs.States.{Finds, Makes};
+ghost use Rattle.states.specs.States.{Finds, Makes};
 ghost use Rattle.sqlrows.specs.inner.Layouts.{appended};
 ghost use Rattle.sqltables.specs.Contact.{Contact, contact_shown, contacts, contact_with_id, contact_with_name, contact_within_due, contact_of_sponsor_within, contacts_by_due};
 
@@ -12,8 +12,8 @@ use basis::list::Seq;
 use sqlite::types::{ToSql, ValueRef};
 use sqlite::{Alter, Error, Row, params};
 use sqlrows::{Number, Record, maybe_number, maybe_text};
+use states::BookFault;
 use std::marker::Model;
-use transactions::BookFault;
 
 /// The tree of the table `contact`.
 const TREE: u64 = 3;

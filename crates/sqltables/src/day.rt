@@ -1,7 +1,7 @@
 //! Lengths of periods that are in force from a moment on.
 ghost use Rattle.std.specs.Prelude.{◌≡◌, true, IfOk};
 ghost use Rattle.sqltables.specs.inner.Content.{days_to};
-ghost use Rattle.transactions.specs.States.{Finds, Makes};
+ghost use Rattle.states.specs.States.{Finds, Makes};
 ghost use Rattle.sqlrows.specs.inner.Layouts.{appended};
 ghost use Rattle.sqltables.specs.Day.{Day, days};
 ghost use Rattle.sqltables.specs.inner.Hand.{IsAtHand, seen_with};
@@ -13,9 +13,9 @@ use basis::list::Seq;
 use sqlite::types::{ToSql, ValueRef};
 use sqlite::{Alter, Error, Row};
 use sqlrows::Record;
+use states::BookFault;
 use std::alloc::{AllocError, Global};
 use std::marker::Model;
-use transactions::BookFault;
 
 /// The tree of the table `day`.
 const TREE: u64 = 34;

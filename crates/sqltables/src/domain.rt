@@ -3,7 +3,7 @@ ghost use Rattle.std.specs.Prelude.{◌≡◌, true, filter, take};
 ghost use Rattle.sqlite_keyed.specs.Keyed.{insert_by};
 ghost use Rattle.sqlite_keyed.specs.Lists.{delete_where};
 ghost use Rattle.sqltables.specs.inner.Content.{domains_to};
-ghost use Rattle.transactions.specs.States.{Finds, Makes};
+ghost use Rattle.states.specs.States.{Finds, Makes};
 ghost use Rattle.sqlrows.specs.inner.Layouts.{appended};
 ghost use Rattle.sqltables.specs.Domain.{Domain, domain_with_name};
 ghost use Rattle.sqltables.specs.inner.Domain.{domains, domain_with_id, domain_with_registrant, domain_within_due, domain_of_sponsor_within, domain_of_registrant_within, domain_with_roid, domains_by_due};
@@ -13,8 +13,8 @@ use basis::list::Seq;
 use sqlite::types::{ToSql, ValueRef};
 use sqlite::{Alter, Error, Row, params};
 use sqlrows::{Number, Record, maybe_number};
+use states::BookFault;
 use std::marker::Model;
-use transactions::BookFault;
 
 /// The tree of the table `domain`.
 const TREE: u64 = 5;

@@ -1,6 +1,6 @@
 //! What a database is to a store of rows.
 
-use transactions::Ready;
+use states::Ready;
 
 /// What a database is to a store of rows.
 #[derive(Clone, Copy, Debug, PartialEq, Eq, Drop)]

@@ -8,8 +8,8 @@ use crate::meta::MetaRow;
 use basis::list::Seq;
 use sqlite::types::{ToSql, ValueRef};
 use sqlrows::Number;
+use states::BookFault;
 use std::alloc::{AllocError, Global};
-use transactions::BookFault;
 
 /// Rows that are kept at hand: that of the account that was read or put last, that of `meta`, and all of `days`.
 #[derive(Drop)]

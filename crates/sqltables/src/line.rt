@@ -3,7 +3,7 @@ ghost use Rattle.std.specs.Prelude.{◌≡◌, true, filter, IfOk};
 ghost use Rattle.sqlite_keyed.specs.Lists.{delete_where};
 ghost use Rattle.sqlite_keyed.specs.Keyed.{insert_by};
 ghost use Rattle.sqltables.specs.inner.Content.{lines_to};
-ghost use Rattle.transactions.specs.States.{Finds, Makes};
+ghost use Rattle.states.specs.States.{Finds, Makes};
 ghost use Rattle.sqlrows.specs.inner.Layouts.{appended};
 ghost use Rattle.sqltables.specs.Line.{Line, lines, line_with_account, line_with_id, line_of_object, line_shown};
 
@@ -12,8 +12,8 @@ use basis::list::Seq;
 use sqlite::types::{ToSql, ValueRef};
 use sqlite::{Alter, Error, Row, params};
 use sqlrows::{Number, Record, maybe_number};
+use states::BookFault;
 use std::marker::Model;
-use transactions::BookFault;
 
 /// The tree of the table `line`.
 const TREE: u64 = 11;

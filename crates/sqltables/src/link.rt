@@ -3,7 +3,7 @@ ghost use Rattle.std.specs.Prelude.{◌≡◌, true, filter, take};
 ghost use Rattle.sqlite_keyed.specs.Lists.{delete_where, update_where};
 ghost use Rattle.sqlite_keyed.specs.Keyed.{insert_by};
 ghost use Rattle.sqltables.specs.inner.Content.{links_to};
-ghost use Rattle.transactions.specs.States.{Finds, Makes};
+ghost use Rattle.states.specs.States.{Finds, Makes};
 ghost use Rattle.sqlrows.specs.inner.Layouts.{appended};
 ghost use Rattle.sqltables.specs.Link.{Link, links, link_with_domain, link_with_contact, link_with_host, link_of_contact_within, link_of_host_within};
 
@@ -12,8 +12,8 @@ use basis::list::Seq;
 use sqlite::types::{ToSql, ValueRef};
 use sqlite::{Alter, Error, Row, params};
 use sqlrows::{Number, Record, maybe_number};
+use states::BookFault;
 use std::marker::Model;
-use transactions::BookFault;
 
 /// The tree of the table `link`.
 const TREE: u64 = 10;

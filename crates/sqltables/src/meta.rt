@@ -2,7 +2,7 @@
 ghost use Rattle.std.specs.Prelude.{◌≡◌, true, IfOk};
 ghost use Rattle.sqlite_keyed.specs.Keyed.{insert_by};
 ghost use Rattle.sqltables.specs.inner.Content.{metas_to};
-ghost use Rattle.transactions.specs.States.{Finds, Makes};
+ghost use Rattle.states.specs.States.{Finds, Makes};
 ghost use Rattle.sqltables.specs.inner.Hand.{IsAtHand, seen_with};
 ghost use Rattle.sqltables.specs.Meta.{Meta, metas};
 
@@ -13,9 +13,9 @@ use basis::list::Seq;
 use sqlite::types::{ToSql, ValueRef};
 use sqlite::{Alter, Error, Row};
 use sqlrows::Record;
+use states::BookFault;
 use std::alloc::{AllocError, Global};
 use std::marker::Model;
-use transactions::BookFault;
 
 /// The tree of the table `meta`.
 const TREE: u64 = 0;

@@ -10,9 +10,9 @@ use http_server::Log;
 use sqlite::types::ValueRef;
 use sqlite::{Alter, Connection, MemStore};
 use sqlrows::Record;
+use states::{BookFault, Ready};
 use std::alloc::Global;
 use std::marker::Model;
-use transactions::{BookFault, Ready};
 
 /// The eleven tables in a database, as rows. The row of the account that was read or put last, that of `meta`
 /// and all of `days` are kept at hand within a transaction: they are read again without a statement, and an
@@ -29,7 +29,7 @@ pub struct RowStore<S: Alter> {
 impl<S: Alter> Model for RowStore<S> {
     ghost use Rattle.sqltables.specs.Content.{Content};
     ghost use Rattle.sqltables.specs.inner.Hand.{AreNoted, IsAtHand, noted_of, noting, seen_with};
-    ghost use Rattle.transactions.specs.States.{StateOf};
+    ghost use Rattle.states.specs.States.{StateOf};
 
     ghost Value = { StateOf Content };
 
@@ -63,7 +63,7 @@ impl<S: Alter> RowStore<S> {
     ghost use Rattle.sqlite.specs.State.{HasCleanDisk};
     ghost use Rattle.sqlite.specs.Values.{bound};
     ghost use Rattle.sqltables.specs.Content.{Content};
-    ghost use Rattle.transactions.specs.States.{Begins, Closes, Ends, Finds, IsIdle, Makes, Notes};
+    ghost use Rattle.states.specs.States.{Begins, Closes, Ends, Finds, IsIdle, Makes, Notes};
     ghost use Rattle.sqltables.specs.Adoption.{LeavesIt};
     ghost use Rattle.sqltables.specs.inner.Hand.{IsApart, IsBlind, left_by, no_row, noting};
     ghost use Rattle.sqltables.specs.inner.Statements.{Alters, Asks};

@@ -11,8 +11,8 @@ use policy::{DatedDays, Days};
 use sqlcolumns::{moment_column, moment_of_column};
 use sqlite::Alter;
 use sqltables::{DayRow, RowStore};
+use states::BookFault;
 use std::alloc::{AllocError, Global};
-use transactions::BookFault;
 
 /// The days of a row, if each column is a count.
 fn dated_days_of(row: &DayRow) -> Option<Days>

@@ -5,8 +5,8 @@ ghost use Rattle.sqlterms.specs.Terms as spec;
 use basis::list::Seq;
 use basis::text::Text;
 use sqltables::AccountRow;
+use states::BookFault;
 use std::alloc::Global;
-use transactions::BookFault;
 
 /// Whether it is the ident of an account that has no id; no id begins with #.
 fn is_unnamed(ident: &str) -> bool

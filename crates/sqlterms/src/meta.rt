@@ -4,15 +4,15 @@ ghost use Rattle.calendar.specs.Moment.{IsMoment};
 ghost use Rattle.sqlrows.specs.Read.{rows_of};
 ghost use Rattle.sqlterms.specs.Meta as spec;
 ghost use Rattle.sqlterms.specs.inner.Meta as inner_spec;
-ghost use Rattle.transactions.specs.States.{FindsSome};
+ghost use Rattle.states.specs.States.{FindsSome};
 
 use calendar::Moment;
 use policy::Terms;
 use sqlite::Alter;
 use sqlrows::only;
 use sqltables::{MetaRow, RowStore};
+use states::BookFault;
 use std::alloc::{AllocError, Global};
-use transactions::BookFault;
 
 /// The row, if there is one; more are refused.
 pub(crate) fn maybe_meta<S: Alter>(store: &mut RowStore<S>) -> Result<Option<MetaRow>, BookFault>

@@ -7,8 +7,8 @@ use basis::text::Text;
 use sqlite::Alter;
 use sqlrows::{Number, only};
 use sqltables::{AccountRow, RowStore};
+use states::BookFault;
 use std::alloc::{AllocError, Global};
-use transactions::BookFault;
 
 /// Gives the accounts with the numbers from 1 on these ids. An account that isn't there is refused.
 pub(crate) fn name_accounts<S: Alter>(

@@ -2,7 +2,7 @@
 ghost use Rattle.std.specs.Prelude.{◌≡◌, true, is_some, Some, IfOk};
 ghost use Rattle.sqlterms.specs.Clock.{clock_of};
 ghost use Rattle.sqlterms.specs.Terms as spec;
-ghost use Rattle.transactions.specs.States.{Finds, FindsSome};
+ghost use Rattle.states.specs.States.{Finds, FindsSome};
 
 use crate::counts::{days_of, prices_of};
 use crate::dated::all_dated;
@@ -18,8 +18,8 @@ use sqlcolumns::moment_of_column;
 use sqlite::Alter;
 use sqlrows::or_fault;
 use sqltables::{DayRow, MetaRow, RowStore};
+use states::BookFault;
 use std::alloc::{AllocError, Global};
-use transactions::BookFault;
 
 /// The latest moment that was seen; the first moment in a registry that was never opened.
 pub fn clock<S: Alter>(store: &mut RowStore<S>) -> Result<Moment, BookFault>

@@ -13,8 +13,8 @@ use policy::Terms;
 use sqlite::Alter;
 use sqlrows::or_fault;
 use sqltables::RowStore;
+use states::BookFault;
 use std::alloc::Global;
-use transactions::BookFault;
 
 /// Sets the clock. Nothing is written where it stands there already.
 pub fn set_clock<S: Alter>(

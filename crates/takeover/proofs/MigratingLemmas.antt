@@ -26,10 +26,10 @@ use Rattle.sqltables.specs.inner.Message.{messages}
 use Rattle.sqltables.specs.Meta.{Meta, metas}
 use Rattle.sqltables.specs.Readiness.{may_be_numbered}
 use Rattle.sqltables.specs.Transfer.{transfers}
-use Rattle.transactions.specs.declared.fault.BookFault.{BookFault}
-use Rattle.transactions.specs.declared.fault.BookFault.TheVariants as faults
-use Rattle.transactions.specs.States.{Closes, Fails, Has, Keeps, LeavesSame, Reads, Remains, Starts, StateOf, Stays}
-use Rattle.transactions.proofs.LeavingLemmas.{leaves-on}
+use Rattle.states.specs.declared.fault.BookFault.{BookFault}
+use Rattle.states.specs.declared.fault.BookFault.TheVariants as faults
+use Rattle.states.specs.States.{Closes, Fails, Has, Keeps, LeavesSame, Reads, Remains, Starts, StateOf, Stays}
+use Rattle.states.proofs.LeavingLemmas.{leaves-on}
 use Rattle.oldrows.specs.inner.Copies.{Copies, IsCopied, IsLeft, put_of_all}
 use Rattle.oldrows.specs.Copies.{renumbered}
 use Rattle.oldrows.specs.inner.Stored.{IsOldContent}
@@ -37,8 +37,8 @@ use Rattle.oldrows.specs.Stored.{IsRead, OldState}
 use Rattle.oldrows.proofs.CopyLemmas.{put-keyed, read-on}
 use Rattle.sqlaccounts.specs.Accounts.{account_in, accounts_of, balance_in, entries_of, has_right_sums, is_right, lines_of, queue_of, row_of, sums_are_right}
 use Rattle.sqldomains.specs.Domains.{domains_of}
-use Rattle.sqlsums.specs.Dues.{dues_are_right}
-use Rattle.sqlsums.specs.Held.{helds_are_right}
+use Rattle.sqlderived.specs.Dues.{dues_are_right}
+use Rattle.sqlderived.specs.Held.{helds_are_right}
 use Rattle.sqlobjects.specs.Objects.{contacts_of, hosts_of}
 use Rattle.sqlobjects.specs.Sponsors.{sponsors_are_right}
 use Rattle.sqlterms.specs.Clock.{clock_in}

@@ -6,14 +6,14 @@ use Rattle.policy.specs.declared.schedule.Schedule.{Schedule}
 use Rattle.policy.specs.declared.terms.Terms.{Terms}
 use Rattle.policy.specs.Rules.{PolicyRules}
 use Rattle.policy.specs.Terms.{continues, terms_of}
-use Rattle.store.specs.Book.{Stored}
+use Rattle.books.specs.Book.{Stored}
 use Rattle.sqltables.specs.Content.{Content}
 use Rattle.sqltables.specs.Line.{Line}
 use Rattle.takeover.specs.Graces.{with_grace_end}
-use Rattle.transactions.specs.declared.fault.BookFault.{BookFault}
-use Rattle.transactions.specs.declared.fault.BookFault.TheVariants as faults
-use Rattle.transactions.specs.declared.readiness.Ready.TheVariants.{Empty, Used}
-use Rattle.transactions.specs.States.{Closes, Has, Reads, Remains, StateOf}
+use Rattle.states.specs.declared.fault.BookFault.{BookFault}
+use Rattle.states.specs.declared.fault.BookFault.TheVariants as faults
+use Rattle.states.specs.declared.readiness.Ready.TheVariants.{Empty, Used}
+use Rattle.states.specs.States.{Closes, Has, Reads, Remains, StateOf}
 use Rattle.takeover.specs.declared.migrating.MigrateFault.{MigrateFault}
 use Rattle.takeover.specs.declared.migrating.MigrateFault.TheVariants.{Policy, Schema, Memory, Store}
 use Rattle.sqlbook.specs.Meaning.{are_right, stored_of}

@@ -3,7 +3,7 @@ ghost use Rattle.std.specs.Prelude.{◌≡◌, true, false, IfOk, Ok};
 ghost use Rattle.oldrows.specs.inner.Copies.{Copies, put_of_all};
 ghost use Rattle.policy.specs.Terms.{terms_of};
 ghost use Rattle.sqltables.specs.Content.{no_content};
-ghost use Rattle.transactions.specs.States.{Finds};
+ghost use Rattle.states.specs.States.{Finds};
 ghost use Rattle.sqlbook.specs.Meaning.{are_right, stored_of};
 ghost use Rattle.takeover.specs.inner.Migrating.{AreReady, EndsAs, TakesOver, heads, others, put_lines};
 ghost use Rattle.takeover.specs.Migrating.{Migrates, fault_of, redated, suits};
@@ -15,8 +15,8 @@ use policy::{Policy, Schedule, Terms};
 use sqlbook::set_terms;
 use sqlite::Alter;
 use sqltables::{LineRow, RowStore};
+use states::{BookFault, Ready};
 use std::alloc::{AllocError, Global};
-use transactions::{BookFault, Ready};
 
 /// Why a registry isn't taken over.
 #[derive(Clone, Copy, PartialEq, Eq, Drop)]

@@ -1,5 +1,6 @@
 //! A registry of the schema before this one, taken over.
 use crate::migrating::{MigrateFault, migrate};
+use books::BookFault;
 use oldrows::OldRows;
 use policy::Policy;
 use registry::OpenFault;
@@ -7,7 +8,6 @@ use script::Exit;
 use sqlite::{Alter, Connection};
 use sqltables::{RowStore, Unadopted};
 use std::alloc::Global;
-use store::BookFault;
 
 /// Takes the registry of a database of the schema before this one over into another database, which is
 /// empty, under a policy that continues the one it was used under.

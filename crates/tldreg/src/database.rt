@@ -2,13 +2,13 @@
 ghost use Rattle.std.specs.Prelude.{◌≡◌, false, IfOk, bytes_eq, codes};
 ghost use Rattle.tldreg.specs.inner.Ends as spec;
 
+use books::{Book, BookFault};
 use policy::Policy;
 use registry::{OpenFault, Registry};
 use script::Exit;
 use std::alloc::Global;
 use std::fs;
 use std::rt::Files;
-use store::{Book, BookFault};
 
 /// Whether it is the name of a database in memory, which is new in each run.
 pub fn is_in_memory(database: &str) -> bool

@@ -11,6 +11,7 @@ mod settings;
 mod texts;
 mod token;
 
+use books::{Book, BookFault};
 use calendar::Moment;
 use command_line::{Asked, Job, Task, read_task};
 use database::{is_in_memory, open, policy_in};
@@ -29,7 +30,6 @@ use std::net::{Ipv4Addr, TcpListener};
 use std::process::ExitCode;
 use std::rt::Files;
 use std::{fs, io, time};
-use store::{Book, BookFault};
 use takeover::migrate_on;
 use texts::{HELP, VERSION};
 use token::{End, credentials_of, ended};
@@ -81,7 +81,7 @@ fn work_in_file(
 ) -> Result<(), Exit> {
     work_with(
         rt,
-        restarts::registry_in(rt, path, Unknown, policy),
+        bookfiles::registry_in(rt, path, Unknown, policy),
         job,
         means,
     )
@@ -280,7 +280,7 @@ fn end_of(code: Code) -> Result<(), Exit>
 fn migrate(rt: &HostRuntime, policy: &str, from: &str, to: &str) -> Result<(), Exit> {
     let policy = policy_in(rt, policy)?;
     drop(fs::open(rt, from)?);
-    migrate_from(rt, &policy, restarts::connection_in(rt, from, Unknown), to)
+    migrate_from(rt, &policy, bookfiles::connection_in(rt, from, Unknown), to)
 }
 
 /// The same from a connection, if it was opened.
@@ -291,7 +291,7 @@ fn migrate_from<S: Alter + Drop>(
     to: &str,
 ) -> Result<(), Exit> {
     match from {
-        Ok(from) => migrate_to(rt, policy, from, restarts::connection_in(rt, to, Unknown)),
+        Ok(from) => migrate_to(rt, policy, from, bookfiles::connection_in(rt, to, Unknown)),
         Err(fault) => Err(Exit::Open(fault)),
     }
 }

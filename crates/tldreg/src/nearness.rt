@@ -2,10 +2,10 @@
 ghost use Rattle.std.specs.Prelude.{◌≡◌, true, OnOk};
 ghost use Rattle.tldreg.specs.inner.Nearness as spec;
 
+use books::Book;
 use calendar::Moment;
 use registry::{Fault, Registry};
 use script::Exit;
-use store::Book;
 
 /// The seconds of a day.
 const DAY: u64 = 86_400;

@@ -5,6 +5,7 @@ use crate::exchange::{Exchange, Kind};
 use crate::moments::{sums_of, texts_of};
 use crate::pieces::{Narrow, Pieces, Way};
 use anyhow::{Result, bail};
+use books::Book;
 use eppwire::Connection;
 use frames::{ListClock, SessionEnd, serve_session};
 use rdap::Routes;
@@ -13,7 +14,6 @@ use script::{Exit, deposit_on, order_on, run_on};
 use server::{ConnectionEnd, HttpEnd, serve_one, zone_on};
 use std::alloc::Global;
 use std::str;
-use store::Book;
 
 /// What a block moves: its bytes, its moments, and the routes of HTTP.
 #[derive(Drop)]

@@ -6,11 +6,11 @@ use crate::escaped::range_of;
 use crate::exchange::{Exchange, Kind};
 use crate::pieces::{WHOLE, Way};
 use anyhow::{Context, Result, bail};
+use books::Book;
 use policy::Policy;
 use registry::Registry;
 use std::alloc::Global;
 use std::str;
-use store::Book;
 
 /// A block, and how it must end.
 #[derive(Drop)]

@@ -1,6 +1,6 @@
 //! The cases of a file.
 
-use crate::books::{Done, Job, Kind, over};
+use crate::both_books::{Done, Job, Kind, over};
 use crate::case::Case;
 use anyhow::{Context, Result, bail};
 use std::alloc::Global;

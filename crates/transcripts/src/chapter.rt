@@ -1,11 +1,11 @@
 //! Scripts over one book, which is opened again for each.
 ghost use Rattle.std.specs.Prelude.{◌≡◌, false, IfOk};
 
+use books::Book;
 use policy::Policy;
 use registry::Registry;
 use script::{Exit, run_on};
 use std::alloc::Global;
-use store::Book;
 
 /// A script, and the policy under which the book is opened for it.
 #[derive(Drop)]

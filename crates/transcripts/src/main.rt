@@ -8,7 +8,7 @@
 #![tactic(auto)]
 
 mod bars;
-mod books;
+mod both_books;
 mod carried;
 mod case;
 mod cases;
@@ -24,7 +24,7 @@ mod refused;
 mod transcript;
 
 use anyhow::{Context, Result, bail};
-use books::Kind;
+use both_books::Kind;
 use case::Case;
 use cases::{cases_of, run_over_both};
 use line::{Mark, lines_of};

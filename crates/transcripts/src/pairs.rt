@@ -1,7 +1,7 @@
 //! Pairs of scripts that differ in nothing but what others than alfa hide: alfa is told the same by both, byte for
 //! byte, and each other line begins with the same code.
 
-use crate::books::{Done, Job, Kind, over};
+use crate::both_books::{Done, Job, Kind, over};
 use crate::cases::cut;
 use crate::chapter::Chapter;
 use anyhow::{Result, bail};

@@ -2,7 +2,7 @@
 //! refused: sent again it is answered as if nothing had been refused, to the byte, and so is everything that is
 //! looked at behind it.
 
-use crate::books::{Done, Job, Kind, over};
+use crate::both_books::{Done, Job, Kind, over};
 use crate::cases::cut;
 use crate::refused::{Found, Refusal, Tried};
 use anyhow::{Context, Result, bail};

@@ -2,11 +2,11 @@
 ghost use Rattle.std.specs.Prelude.{◌≡◌, false};
 
 use anyhow::{Result, bail};
+use books::{Book, OnceBook};
 use policy::Policy;
 use registry::Registry;
 use script::{Exit, run_on};
 use std::alloc::Global;
-use store::{Book, OnceBook};
 
 /// What is sent: lines before, a line so many times, and what is looked at then.
 #[derive(Clone, Copy)]

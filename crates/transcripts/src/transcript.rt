@@ -3,7 +3,7 @@ ghost use Rattle.std.specs.Prelude.{◌≡◌, ◌==◌};
 ghost use Rattle.std.specs.List.{before_first, after_first, position};
 ghost use Rattle.transcripts.specs.declared.transcript.TheConstants.{LINE_FEED};
 
-use crate::books::{Done, Job, Kind, over};
+use crate::both_books::{Done, Job, Kind, over};
 use crate::chapter::Chapter;
 use crate::line::{Line, Mark};
 use anyhow::{Context, Result, bail};

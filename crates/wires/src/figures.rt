@@ -1,7 +1,8 @@
 //! What was counted, as a text for Prometheus.
 
 use crate::counts::Tally;
-use crate::log::{Log, plain};
+use crate::line::plain;
+use crate::log::Log;
 use crate::rooms::Rooms;
 use std::alloc::{AllocError, Global};
 use std::time::{self, Duration};

@@ -13,6 +13,7 @@ mod counts;
 mod door;
 mod figures;
 mod limits;
+mod line;
 mod log;
 mod progress;
 mod replies;

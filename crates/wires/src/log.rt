@@ -2,6 +2,7 @@
 
 use crate::asks::{Members, members_of, target_of};
 use crate::counts::{Tally, count};
+use crate::line::Line;
 use crate::replies::{code_of, http_code_of, sv_trid_of};
 use crate::turn::Port;
 use calendar::Moment;
@@ -9,9 +10,6 @@ use std::alloc::{AllocError, Global};
 use std::cell::Cell;
 use std::io::{self, Write};
 use std::time::{self, Duration};
-
-/// The most bytes of a name.
-const MOST_NAME: usize = 255;
 
 /// Commands, objects and operations that there are.
 const COMMANDS: &[&str] = &[
@@ -52,6 +50,9 @@ pub struct Log<'l, M: time::Clock + Print> {
     is_office: Cell<bool>,
     commands: Cell<u64>,
     began: Cell<Duration>,
+    /// The second of the last line, and the text of its moment.
+    second: Cell<u64>,
+    at: Cell<Vec<u8>>,
     /// The frame or the head that came last, and who is logged in.
     asked: Cell<Vec<u8>>,
     registrar: Cell<Vec<u8>>,
@@ -74,6 +75,8 @@ impl<'l, M: time::Clock + Print> Log<'l, M> {
             is_office: Cell::new(false),
             commands: Cell::new(0),
             began: Cell::new(Duration::ZERO),
+            second: Cell::new(u64::MAX),
+            at: Cell::new(Vec::new(alloc)),
             asked: Cell::new(Vec::new(alloc)),
             registrar: Cell::new(Vec::new(alloc)),
             counts: Cell::new(Vec::new(alloc)),
@@ -134,7 +137,7 @@ impl<'l, M: time::Clock + Print> Log<'l, M> {
             return;
         }
         let asked = self.asked.replace(Vec::new(self.alloc));
-        let line = Line {
+        let told = Told {
             command: self.service(),
             operation: "-",
             object: "-",
@@ -142,7 +145,7 @@ impl<'l, M: time::Clock + Print> Log<'l, M> {
             code: http_code_of(answer),
             sv_trid: b"",
         };
-        let _ = self.note_line(&line, took);
+        let _ = self.note_line(&told, took);
         self.asked.set(asked);
     }
 
@@ -183,7 +186,7 @@ impl<'l, M: time::Clock + Print> Log<'l, M> {
         let sv_trid = sv_trid_of(reply);
         let command = word_of(members.cmd, COMMANDS);
         self.log_in(&members, command, code)?;
-        let line = Line {
+        let told = Told {
             command,
             operation: word_of(members.op, OPERATIONS),
             object: word_of(members.obj, OBJECTS),
@@ -195,24 +198,24 @@ impl<'l, M: time::Clock + Print> Log<'l, M> {
             code,
             sv_trid,
         };
-        self.note_line(&line, took)
+        self.note_line(&told, took)
     }
 
     /// Counts what a line says, and prints it unless the log is quiet.
-    fn note_line(&self, line: &Line<'_>, took: Duration) -> io::Result<()> {
+    fn note_line(&self, told: &Told<'_>, took: Duration) -> io::Result<()> {
         if self.is_counting {
-            self.count(line)?;
+            self.count(told)?;
         }
         if self.is_quiet {
             return Ok(());
         }
-        self.print_line(line, took)
+        self.print_line(told, took)
     }
 
-    fn count(&self, line: &Line<'_>) -> Result<(), AllocError> {
+    fn count(&self, told: &Told<'_>) -> Result<(), AllocError> {
         let registrar = self.registrar.replace(Vec::new(self.alloc));
         let mut counts = self.take_counts();
-        let (command, code) = (line.command, line.code.unwrap_or(0));
+        let (command, code) = (told.command, told.code.unwrap_or(0));
         let counted = count(self.alloc, &mut counts, &registrar, command, code);
         self.keep_counts(counts);
         self.registrar.set(registrar);
@@ -227,45 +230,58 @@ impl<'l, M: time::Clock + Print> Log<'l, M> {
         Ok(())
     }
 
-    fn print_line(&self, line: &Line<'_>, took: Duration) -> io::Result<()> {
-        let (name, sv_trid) = (
-            plain(self.alloc, line.name)?,
-            plain(self.alloc, line.sv_trid)?,
-        );
-        let (connection, registrar) = (self.connection.get(), self.registrar()?);
-        let (at, code) = (self.moment()?, line.code.unwrap_or(0));
-        let Line {
-            command,
-            operation,
-            object,
-            ..
-        } = line;
-        let micros = took.as_micros();
-        let text = format!(in self.alloc;
-            "at={at} connection={connection} registrar={registrar} command={command} operation={operation} object={object} name={name} code={code} svTRID={sv_trid} us={micros}\n"
-        )?;
-        self.print(text.as_bytes())
+    fn print_line(&self, told: &Told<'_>, took: Duration) -> io::Result<()> {
+        let mut line = self.begin_line()?;
+        line.word(" command=", told.command)?;
+        line.word(" operation=", told.operation)?;
+        line.word(" object=", told.object)?;
+        line.told(" name=", told.name)?;
+        line.number(" code=", told.code.unwrap_or(0))?;
+        line.told(" svTRID=", told.sv_trid)?;
+        line.number(" us=", took.as_micros())?;
+        self.print(line.ended()?)
     }
 
     fn print_end(&self, how: &str, took: Duration) -> io::Result<()> {
-        let (connection, registrar) = (self.connection.get(), self.registrar()?);
-        let (at, commands) = (self.moment()?, self.commands.get());
-        let micros = took.as_micros();
-        let text = format!(in self.alloc;
-            "at={at} connection={connection} registrar={registrar} commands={commands} end={how} us={micros}\n"
-        )?;
-        self.print(text.as_bytes())
+        let mut line = self.begin_line()?;
+        line.number(" commands=", self.commands.get())?;
+        line.word(" end=", how)?;
+        line.number(" us=", took.as_micros())?;
+        self.print(line.ended()?)
     }
 
     fn print(&self, text: &[u8]) -> io::Result<()> {
         io::writer(self.machine).write_all(text)
     }
 
-    fn registrar(&self) -> io::Result<String> {
+    /// A line with the clock's moment, the connection and its registrar.
+    fn begin_line(&self) -> io::Result<Line> {
+        let at = self.moment()?;
+        let begun = Line::at(self.alloc, &at);
+        self.at.set(at);
+        let mut line = begun?;
+        line.number(" connection=", self.connection.get())?;
         let registrar = self.registrar.replace(Vec::new(self.alloc));
-        let text = plain(self.alloc, &registrar);
+        let told = line.told(" registrar=", &registrar);
         self.registrar.set(registrar);
-        Ok(text?)
+        told?;
+        Ok(line)
+    }
+
+    /// The text of the clock's moment, which is made once a second.
+    fn moment(&self) -> io::Result<Vec<u8>> {
+        let secs = self.machine.since_1970()?.as_secs().min(LAST);
+        if secs == self.second.get() {
+            return Ok(self.at.replace(Vec::new(self.alloc)));
+        }
+        let moment = match Moment::of_secs(secs as i64) {
+            Ok(moment) => moment,
+            Err(_) => Moment::first(),
+        };
+        let text = moment.text(self.alloc)?;
+        let at = Vec::from_slice(self.alloc, text.as_bytes())?;
+        self.second.set(secs);
+        Ok(at)
     }
 
     /// What was counted, until it is given back.
@@ -294,32 +310,11 @@ impl<'l, M: time::Clock + Print> Log<'l, M> {
     pub(crate) fn sent_bytes(&self) -> u64 {
         self.sent.get()
     }
-
-    /// The clock's moment.
-    fn moment(&self) -> io::Result<String> {
-        let secs = self.machine.since_1970()?.as_secs().min(LAST);
-        match Moment::of_secs(secs as i64) {
-            Ok(moment) => Ok(moment.text(self.alloc)?),
-            Err(_) => Ok(Moment::first().text(self.alloc)?),
-        }
-    }
-}
-
-/// A text of bytes that a client sent: of letters, digits and few signs, with a question mark for others.
-pub(crate) fn plain(alloc: Global, bytes: &[u8]) -> Result<String, AllocError> {
-    let mut text = String::new(alloc);
-    for byte in bytes.iter().take(MOST_NAME) {
-        text.push(plain_of(*byte))?;
-    }
-    if bytes.is_empty() {
-        text.push('-')?;
-    }
-    Ok(text)
 }
 
 /// What a line says of a command.
 #[derive(Clone, Copy)]
-struct Line<'p> {
+struct Told<'p> {
     command: &'static str,
     operation: &'static str,
     object: &'static str,
@@ -351,12 +346,4 @@ fn word_of(text: &[u8], words: &'static [&'static str]) -> &'static str {
         }
     }
     "-"
-}
-
-fn plain_of(byte: u8) -> char {
-    match byte {
-        b'-' | b'.' | b'/' | b':' | b'_' => char::from(byte),
-        _ if byte.is_ascii_alphanumeric() => char::from(byte),
-        _ => '?',
-    }
 }

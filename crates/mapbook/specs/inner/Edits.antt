@@ -7,9 +7,9 @@ use Rattle.accounts.specs.declared.message.Message.{Message}
 use Rattle.mapbook.specs.declared.edit.Edit.{Edit}
 use Rattle.mapbook.specs.declared.edit.Edit.TheVariants as edit
 use Rattle.accounts.specs.declared.counters.Counters.{Counters}
-use Rattle.store.specs.Book.{Stored}
+use Rattle.books.specs.Book.{Stored}
 use Rattle.accounts.specs.Counters.{counters_of}
-use Rattle.store.specs.Ledgers.{lacks}
+use Rattle.books.specs.Ledgers.{lacks}
 
 -- what gives an account its counters back, or takes away one that wasn't there
 abbrev pub counters_back : ℕ → Option Counters → Edit

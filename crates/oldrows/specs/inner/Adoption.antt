@@ -3,8 +3,8 @@ use Rattle.std.specs.Prelude.{◌≡◌, Bool, true, false, List, [], ◌∷◌}
 use Rattle.std.specs.Ordering.{int_eq}
 use Rattle.sqlite_catalog.specs.Listing.{IsSound}
 use Rattle.sqlite_trees.specs.Tree.{Trees}
-use Rattle.transactions.specs.declared.readiness.Ready.{Ready}
-use Rattle.transactions.specs.declared.readiness.Ready.TheVariants.{Empty, Used, Other}
+use Rattle.states.specs.declared.readiness.Ready.{Ready}
+use Rattle.states.specs.declared.readiness.Ready.TheVariants.{Empty, Used, Other}
 use Rattle.sqltables.specs.Content.{Content, no_content}
 use Rattle.sqltables.specs.Meta.{Meta}
 use Rattle.sqltables.specs.inner.FirstTables.{first_number, first_registry}

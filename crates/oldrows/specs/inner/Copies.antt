@@ -1,8 +1,8 @@
 -- Rows that are copied.
 use Rattle.std.specs.Prelude.{◌≡◌, ℤ, true, List, map, Result, Ok, Err, fold}
 use Rattle.sqlite_keyed.specs.Keyed.{insert_by}
-use Rattle.transactions.specs.declared.fault.BookFault.{BookFault}
-use Rattle.transactions.specs.States.{LeavesSame, StateOf, Stays}
+use Rattle.states.specs.declared.fault.BookFault.{BookFault}
+use Rattle.states.specs.States.{LeavesSame, StateOf, Stays}
 use Rattle.sqltables.specs.Content.{Content}
 use Rattle.sqltables.specs.inner.Content.{metas_to, accounts_to, contacts_to, domains_to, hosts_to, addresses_to, links_to, lines_to, messages_to, transfers_to}
 use Rattle.oldrows.specs.Stored.{IsRead, OldState}

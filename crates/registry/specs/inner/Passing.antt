@@ -8,11 +8,14 @@ use Rattle.model.specs.Objects.{object_at}
 use Rattle.model.specs.Registry.{Registry}
 use Rattle.objects.specs.declared.roid.ObjectKind.{ObjectKind}
 use Rattle.policy.specs.Rules.{PolicyRules}
+use Rattle.protocol.specs.declared.command.Command.{Command}
+use Rattle.protocol.specs.declared.command.Command.TheVariants.{Asked}
+use Rattle.protocol.specs.declared.command.Request.TheVariants.{Balance}
 use Rattle.protocol.specs.declared.order.StatusOrder.{StatusOrder}
-use Rattle.rules.specs.declared.order.OrderDecision.{OrderDecision}
-use Rattle.rules.specs.Orders.{decided_order}
-use Rattle.store.specs.Book.{BookState, NoRefusal}
-use Rattle.verdict.specs.Orders.{order_code}
+use Rattle.decisions.specs.declared.order.OrderDecision.{OrderDecision}
+use Rattle.decisions.specs.Orders.{decided_order}
+use Rattle.books.specs.Book.{BookState, NoRefusal}
+use Rattle.rules.specs.Orders.{order_code}
 
 -- The clock stands at the moment, nothing is due that concerns the registrar and the names, and what the
 -- registry is now is its lapse.
@@ -28,6 +31,10 @@ pub record Passes (p : PolicyRules) (r : Option ℕ) (g : Names) (moment : ℕ) 
   pub passed : new.is_clean ≡ true → IsPassed p r g moment old.content.registry new.content.registry
   pub terms : new.is_clean ≡ true → new.content.terms ≡ old.content.terms
   pub before : new.is_clean ≡ true → new.before ≡ old.before
+
+-- a registrar's question for its balance, which concerns what bears on its account
+abbrev pub balance_command : Command
+balance_command = Asked None Balance
 
 -- what an order names, if its name reads
 abbrev pub names_at : ObjectKind → Option (List ℕ) → Names

@@ -6,7 +6,7 @@ use Rattle.registry.specs.Execution.{IsUnchanged}
 use Rattle.script.specs.declared.exit.Exit.{Exit}
 use Rattle.script.specs.declared.exit.Exit.TheVariants as exits
 use Rattle.script.specs.declared.line.Sender.{Sender}
-use Rattle.store.specs.Book.{BookState}
+use Rattle.books.specs.Book.{BookState}
 use Rattle.protocol.specs.declared.command.Command.{Command}
 use Rattle.protocol.specs.declared.order.OperatorRequest.{OperatorRequest}
 use Rattle.protocol.specs.declared.order.Order.{Order}

@@ -9,8 +9,8 @@ use Rattle.sqltables.specs.Domain as table
 use Rattle.sqltables.specs.inner.Whole.{IsWhole}
 use Rattle.sqldomains.specs.inner.Changes.{IsDomainPut, sponsor_in}
 use Rattle.sqldomains.specs.Domains.{domains_of}
-use Rattle.sqlsums.specs.Dues.{is_due_right}
-use Rattle.sqlsums.specs.inner.Recounts.{IsRecounted}
+use Rattle.sqlderived.specs.Dues.{is_due_right}
+use Rattle.sqlderived.specs.inner.Recounts.{IsRecounted}
 use Rattle.sqlobjects.specs.Sponsors.{IsSponsorSetBelow}
 use Rattle.sqlterms.specs.Terms.{days_of}
 

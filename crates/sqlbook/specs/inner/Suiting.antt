@@ -2,9 +2,9 @@
 use Rattle.std.specs.Prelude.{◌≡◌, ◌⊎◌, true, [], Option, Some}
 use Rattle.policy.specs.declared.schedule.Schedule.{Schedule}
 use Rattle.policy.specs.declared.terms.Terms.{Terms}
-use Rattle.store.specs.Book.{with_terms}
+use Rattle.books.specs.Book.{with_terms}
 use Rattle.sqltables.specs.Content.{Content}
-use Rattle.sqlsums.specs.Redates.{ends_are_right}
+use Rattle.sqlderived.specs.Redates.{ends_are_right}
 use Rattle.sqlterms.specs.Terms.{days_of}
 use Rattle.sqlbook.specs.Meaning.{are_right, stored_of}
 use Rattle.sqlbook.specs.Suiting.{AreRedated}

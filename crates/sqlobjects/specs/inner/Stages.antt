@@ -17,8 +17,8 @@ use Rattle.sqltables.specs.inner.Content.{hosts_to}
 use Rattle.sqltables.specs.Domain as domain_table
 use Rattle.sqltables.specs.Host as host_table
 use Rattle.sqltables.specs.inner.Whole.{IsWhole}
-use Rattle.transactions.specs.declared.fault.BookFault.{BookFault}
-use Rattle.transactions.specs.States.{StateOf, Stays}
+use Rattle.states.specs.declared.fault.BookFault.{BookFault}
+use Rattle.states.specs.States.{StateOf, Stays}
 use Rattle.sqlrows.specs.Meanings.{HasChanged}
 use Rattle.sqlrows.specs.Read.{rows_of}
 use Rattle.sqlobjects.specs.declared.host_sponsors.Sponsors.{Sponsors}

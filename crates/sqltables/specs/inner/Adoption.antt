@@ -5,9 +5,9 @@ use Rattle.sqlite_catalog.specs.Listing.{IsSound}
 use Rattle.sqlite.specs.Effect.{IsDatabase}
 use Rattle.sqlite.specs.State.{State, Opens}
 use Rattle.sqlrows.specs.Columns.{no_schema}
-use Rattle.transactions.specs.States.{StateOf}
-use Rattle.transactions.specs.declared.readiness.Ready.{Ready}
-use Rattle.transactions.specs.declared.readiness.Ready.TheVariants.{Empty, Used, Other}
+use Rattle.states.specs.States.{StateOf}
+use Rattle.states.specs.declared.readiness.Ready.{Ready}
+use Rattle.states.specs.declared.readiness.Ready.TheVariants.{Empty, Used, Other}
 use Rattle.sqltables.specs.Content.{Content}
 use Rattle.sqltables.specs.Decoding.{contents}
 use Rattle.sqltables.specs.Stored.{fresh}

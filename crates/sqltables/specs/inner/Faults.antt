@@ -2,8 +2,8 @@
 use Rattle.sqlite.specs.declared.error.Error.{Error}
 use Rattle.sqlite.specs.declared.error.Error.TheVariants.{SqliteFailure}
 use Rattle.sqlite.specs.declared.error.ErrorCode.TheVariants.{OutOfMemory}
-use Rattle.transactions.specs.declared.fault.BookFault.{BookFault}
-use Rattle.transactions.specs.declared.fault.BookFault.TheVariants.{Memory, Store}
+use Rattle.states.specs.declared.fault.BookFault.{BookFault}
+use Rattle.states.specs.declared.fault.BookFault.TheVariants.{Memory, Store}
 
 -- Want of memory is told as that, and all else is a refusal.
 abbrev pub fault_of : Error → BookFault

@@ -3,10 +3,10 @@ use Rattle.std.specs.Prelude.{◌≡◌, Bool, true, false, if◌then◌else◌,
 use Rattle.std.specs.Ordering.{int_eq}
 use Rattle.sqlite_keyed.specs.Keyed.{insert_by}
 use Rattle.sqlite_rules.specs.Lists.{Has}
-use Rattle.transactions.specs.States.{Reads, Remains, StateOf, Stays}
-use Rattle.transactions.specs.States as states
-use Rattle.transactions.specs.declared.readiness.Ready.TheVariants.{Used}
-use Rattle.transactions.specs.declared.fault.BookFault.{BookFault}
+use Rattle.states.specs.States.{Reads, Remains, StateOf, Stays}
+use Rattle.states.specs.States as states
+use Rattle.states.specs.declared.readiness.Ready.TheVariants.{Used}
+use Rattle.states.specs.declared.fault.BookFault.{BookFault}
 use Rattle.sqltables.specs.Account.{Account, accounts}
 use Rattle.sqltables.specs.Meta.{Meta}
 use Rattle.sqltables.specs.Day.{Day}

@@ -1,8 +1,8 @@
 -- A store of rows that is opened where a crash left another.
 use Rattle.std.specs.Prelude.{◌≡◌, true, List, ⊤}
-use Rattle.transactions.specs.declared.readiness.Ready.{Ready}
-use Rattle.transactions.specs.declared.readiness.Ready.TheVariants.{Empty, Used, Other}
-use Rattle.transactions.specs.States.{Has, Remains, StateOf}
+use Rattle.states.specs.declared.readiness.Ready.{Ready}
+use Rattle.states.specs.declared.readiness.Ready.TheVariants.{Empty, Used, Other}
+use Rattle.states.specs.States.{Has, Remains, StateOf}
 use Rattle.sqltables.specs.Content.{Content}
 use Rattle.sqltables.specs.Readiness.{is_numbered}
 

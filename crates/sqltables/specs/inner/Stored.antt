@@ -7,11 +7,11 @@ use Rattle.sqlrows.specs.Columns.{no_schema}
 use Rattle.sqltables.specs.Content.{Content}
 use Rattle.sqltables.specs.inner.Content.{IsContent}
 use Rattle.sqltables.specs.Decoding.{contents}
-use Rattle.transactions.specs.States.{Remains, StateOf}
+use Rattle.states.specs.States.{Remains, StateOf}
 use Rattle.sqltables.specs.declared.form.Form.{Form}
 use Rattle.sqltables.specs.declared.form.Form.TheVariants.{Unused, Making, Made, Other}
-use Rattle.transactions.specs.declared.readiness.Ready.{Ready}
-use Rattle.transactions.specs.declared.readiness.Ready.TheVariants as readiness
+use Rattle.states.specs.declared.readiness.Ready.{Ready}
+use Rattle.states.specs.declared.readiness.Ready.TheVariants as readiness
 use Rattle.sqltables.specs.Stored.{fresh, Covers}
 
 abbrev pub readiness_of : Form → Ready

@@ -10,9 +10,9 @@ use Rattle.policy.specs.Rules.{PolicyRules}
 use Rattle.sqltables.specs.Content.{Content}
 use Rattle.sqltables.specs.inner.Content.{lines_to}
 use Rattle.sqltables.specs.Line.{lines}
-use Rattle.transactions.specs.declared.fault.BookFault.{BookFault}
-use Rattle.transactions.specs.declared.readiness.Ready.TheVariants.{Empty, Used}
-use Rattle.transactions.specs.States.{Closes, Fails, Keeps, LeavesSame, Reads, StateOf}
+use Rattle.states.specs.declared.fault.BookFault.{BookFault}
+use Rattle.states.specs.declared.readiness.Ready.TheVariants.{Empty, Used}
+use Rattle.states.specs.States.{Closes, Fails, Keeps, LeavesSame, Reads, StateOf}
 use Rattle.takeover.specs.declared.migrating.MigrateFault.{MigrateFault}
 use Rattle.takeover.specs.declared.migrating.MigrateFault.TheVariants.{Policy, Schema, Memory, Store}
 use Rattle.sqlbook.specs.Meaning.{are_right, stored_of}

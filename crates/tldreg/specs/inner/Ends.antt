@@ -5,8 +5,8 @@ use Rattle.protocol.specs.declared.code.Code.TheVariants.{Completed}
 use Rattle.registry.specs.declared.fault.OpenFault.TheVariants as opening
 use Rattle.script.specs.declared.exit.Exit.{Exit}
 use Rattle.script.specs.declared.exit.Exit.TheVariants as exits
-use Rattle.transactions.specs.declared.fault.BookFault.{BookFault}
-use Rattle.transactions.specs.declared.fault.BookFault.TheVariants as faults
+use Rattle.states.specs.declared.fault.BookFault.{BookFault}
+use Rattle.states.specs.declared.fault.BookFault.TheVariants as faults
 
 abbrev pub exit_of : BookFault → Exit
 exit_of faults.Memory = exits.Memory

@@ -1,7 +1,7 @@
 use Rattle.std.proofs.Common.{◌∙◌}
 use Rattle.eppwire.proofs.FollowLemmas.{follows_on}
 use Rattle.policy.specs.Rules.{PolicyRules}
-use Rattle.store.specs.Book.{BookState}
+use Rattle.books.specs.Book.{BookState}
 use Rattle.server.proofs.ListeningLemmas.{one_more}
 use Rattle.listening.proofs.listener.serve_port.Goals as goal
 

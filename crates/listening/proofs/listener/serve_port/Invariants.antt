@@ -1,6 +1,6 @@
 use Rattle.std.proofs.Common.{◌≡◌}
 use Rattle.server.specs.Listening.{ServesInTurn}
-use Rattle.store.specs.Book.{Follows}
+use Rattle.books.specs.Book.{Follows}
 use Rattle.listening.proofs.listener.serve_port.Given as goal
 
 abbrev pub invariant-turns : goal.invariant-turns

@@ -1,7 +1,7 @@
 use Rattle.std.proofs.Common.{◌∙◌, List, ℕ}
 use Rattle.eppwire.proofs.FollowLemmas.{follows_on}
 use Rattle.policy.specs.Rules.{PolicyRules}
-use Rattle.store.specs.Book.{BookState}
+use Rattle.books.specs.Book.{BookState}
 use Rattle.listening.proofs.PortLemmas.{one_more_turn}
 use Rattle.listening.proofs.ports.serve_ports.Goals as goal
 

@@ -1,6 +1,6 @@
 use Rattle.std.proofs.Common.{◌≡◌}
 use Rattle.listening.specs.Ports.{ServesPorts}
-use Rattle.store.specs.Book.{Follows}
+use Rattle.books.specs.Book.{Follows}
 use Rattle.listening.proofs.ports.serve_ports.Given as goal
 
 abbrev pub invariant-turns : goal.invariant-turns

@@ -1,7 +1,7 @@
 use Rattle.concerns.specs.Names.{named_of}
 use Rattle.model.specs.Registry.{Registry}
 use Rattle.objects.specs.declared.roid.ObjectKind.TheVariants as kinds
-use Rattle.store.specs.Faces.{domain_face_at}
+use Rattle.books.specs.Faces.{domain_face_at}
 use Rattle.registry.proofs.FaceLemmas.{domain-face-now}
 use Rattle.registry.proofs.PassingSteps.{looks-up, reached-by}
 use Rattle.registry.proofs.faces.domain_at.Goals as goal

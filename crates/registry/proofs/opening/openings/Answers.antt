@@ -1,6 +1,6 @@
 use Rattle.std.proofs.Common.{sym, ap, ◌∙◌, ◌++◌, ◌∷◌, [], List, ℕ}
-use Rattle.rules.specs.declared.change.Change.{Change}
-use Rattle.rules.specs.declared.change.Change.TheVariants.{OpenAccount}
+use Rattle.decisions.specs.declared.change.Change.{Change}
+use Rattle.decisions.specs.declared.change.Change.TheVariants.{OpenAccount}
 use Rattle.registry.specs.Opening.{openings}
 use Rattle.registry.proofs.OpeningLemmas.{openings-zero, openings-next}
 use Rattle.registry.proofs.opening.openings.Goals as goal

@@ -2,8 +2,8 @@ use Rattle.std.proofs.Common.{◌≡◌, ℤ, IfOk, OnOk, subst, arith, to_z, of
 use Rattle.std.specs.Int.{w64}
 use Rattle.std.proofs.lemmas.Int.{ints}
 use Rattle.registry.proofs.PassingSteps.{orders-paid}
-use Rattle.rules.specs.Orders.{deposit_decision}
-use Rattle.store.specs.Book.{BookWrites, with_changes}
+use Rattle.decisions.specs.Orders.{deposit_decision}
+use Rattle.books.specs.Book.{BookWrites, with_changes}
 use Rattle.registry.proofs.order.deposit_at.Goals as goal
 
 pub returns-clause-step : goal.returns-clause-step

@@ -2,7 +2,7 @@ use Rattle.std.proofs.Common.{ap}
 use Rattle.registry.specs.Crashes.{Makes}
 use Rattle.registry.specs.Execution.{IsGreetingStep, IsOrderStep, IsSettlement, IsStep}
 use Rattle.runs.specs.Crashes.{asking, settling}
-use Rattle.privacy.specs.Runs.{code, command, date, dated, order, reply}
+use Rattle.isolation.specs.Runs.{code, command, date, dated, order, reply}
 use Rattle.runs.proofs.CrashLemmas.{carried-out, refused-opening, stepped, taken-leave-found}
 use Rattle.runs.proofs.crashes.calls_are_events.Goals as goal
 

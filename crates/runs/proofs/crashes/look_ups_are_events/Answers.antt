@@ -3,7 +3,7 @@ use Rattle.model.specs.Lapse.{lapsed}
 use Rattle.registry.specs.Crashes.{Makes}
 use Rattle.registry.specs.Faces.{IsLookUp}
 use Rattle.runs.specs.Crashes.{asking}
-use Rattle.privacy.specs.Runs.{look_up, shown}
+use Rattle.isolation.specs.Runs.{look_up, shown}
 use Rattle.runs.proofs.CrashLemmas.{carried-out, stepped}
 use Rattle.runs.proofs.crashes.look_ups_are_events.Goals as goal
 

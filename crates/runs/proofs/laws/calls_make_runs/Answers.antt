@@ -1,5 +1,5 @@
 use Rattle.std.proofs.Common.{refl, ap}
-use Rattle.privacy.specs.Runs.{code, dated, reply}
+use Rattle.isolation.specs.Runs.{code, dated, reply}
 use Rattle.runs.proofs.laws.calls_make_runs.Goals as goal
 
 pub returns : goal.returns

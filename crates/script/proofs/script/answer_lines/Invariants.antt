@@ -2,7 +2,7 @@ use Rattle.std.proofs.Common.{◌≡◌, ◌+◌, true, List, ℕ, length}
 use Rattle.std.specs.Io.KnownBytes.{Appends, append_known}
 use Rattle.script.specs.Runs.{kept}
 use Rattle.script.proofs.RunLemmas.{AreTold, Reads}
-use Rattle.store.specs.Book.{Follows}
+use Rattle.books.specs.Book.{Follows}
 use Rattle.script.proofs.script.answer_lines.Given as goal
 
 abbrev pub invariant-loop-number : goal.invariant-loop-number

@@ -4,7 +4,7 @@ use Rattle.policy.specs.Rules.{PolicyRules}
 use Rattle.server.specs.HandOver.{zone_faces_at}
 use Rattle.server.specs.Http.{Passes}
 use Rattle.server.proofs.LentLemmas.{passed, shown_then}
-use Rattle.store.specs.Book.{BookState}
+use Rattle.books.specs.Book.{BookState}
 use Rattle.server.proofs.zone.write_at.Goals as goal
 
 pub returns-clause-written : goal.returns-clause-written

@@ -4,7 +4,7 @@ use Rattle.std.specs.Io.KnownBytes.{Appends}
 use Rattle.policy.specs.Rules.{PolicyRules}
 use Rattle.server.specs.HandOver.{zone_with}
 use Rattle.server.specs.Http.{Passes}
-use Rattle.store.specs.Book.{BookState}
+use Rattle.books.specs.Book.{BookState}
 use Rattle.zonefile.specs.ZoneText.{AppendsBeginning}
 use Rattle.server.proofs.LentLemmas.{greeted, passes_on, zone_then}
 use Rattle.server.proofs.zone.zone_on.Goals as goal

@@ -1,7 +1,7 @@
 use Rattle.std.proofs.Common.{subst, filter, Ok}
 use Rattle.sqlcolumns.specs.Numbers.{registrar_column}
 use Rattle.sqltables.specs.Account.{account_with_id}
-use Rattle.transactions.specs.States.{Finds}
+use Rattle.states.specs.States.{Finds}
 use Rattle.sqlrows.proofs.StateLemmas.{one-asked}
 use Rattle.sqlaccounts.proofs.account.maybe_row.Goals as goal
 

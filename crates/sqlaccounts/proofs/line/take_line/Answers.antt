@@ -2,7 +2,7 @@ use Rattle.std.proofs.Common.{◌≡◌, filter, subst, ap, sym, ◌∙◌, true
 use Rattle.sqlrows.proofs.StateLemmas.{reads-on, then-made}
 use Rattle.sqltables.specs.Content.{Content}
 use Rattle.sqltables.specs.inner.Whole.{IsWhole}
-use Rattle.transactions.specs.States.{Reads}
+use Rattle.states.specs.States.{Reads}
 use Rattle.sqlaccounts.specs.inner.Changes.{without_line}
 use Rattle.sqlaccounts.specs.inner.Finding.{is_row_about}
 use Rattle.sqlaccounts.proofs.TakingLemmas.{left-there, taken-out}

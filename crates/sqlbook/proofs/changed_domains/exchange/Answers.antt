@@ -1,6 +1,6 @@
 use Rattle.sqlrows.proofs.StateLemmas.{then-became}
 use Rattle.sqldomains.specs.inner.Changes.{IsDomainPut}
-use Rattle.sqlsums.specs.inner.Recounts.{IsRecounted}
+use Rattle.sqlderived.specs.inner.Recounts.{IsRecounted}
 use Rattle.sqlbook.specs.inner.Replacing.{IsExchanged, due_with}
 use Rattle.sqlbook.proofs.changed_domains.exchange.Goals as goal
 

@@ -1,7 +1,7 @@
 use Rattle.std.proofs.Common.{◌∙◌, ap, sym}
-use Rattle.store.proofs.RenameLemmas.{renamed-nowhere, renamed-there}
-use Rattle.store.specs.Tables.{host_moved}
-use Rattle.transactions.proofs.LeavingLemmas.{leaves-on}
+use Rattle.books.proofs.RenameLemmas.{renamed-nowhere, renamed-there}
+use Rattle.books.specs.Tables.{host_moved}
+use Rattle.states.proofs.LeavingLemmas.{leaves-on}
 use Rattle.sqltables.specs.Content.{Content}
 use Rattle.sqlbook.specs.Meaning.{are_right, stored_of}
 use Rattle.sqlbook.proofs.renaming.rename_host.Goals as goal

@@ -1,6 +1,6 @@
 use Rattle.std.proofs.Common.{◌≡◌, true}
 use Rattle.std.specs.FinMap.{empty}
-use Rattle.transactions.specs.States.{Reads}
+use Rattle.states.specs.States.{Reads}
 use Rattle.sqldomains.specs.inner.Names as spec
 use Rattle.sqldomains.proofs.below.with_hosts.Given as goal
 

@@ -1,5 +1,5 @@
 use Rattle.std.proofs.Common.{◌≡◌, true}
-use Rattle.transactions.specs.States.{Reads}
+use Rattle.states.specs.States.{Reads}
 use Rattle.sqldomains.specs.Domains as spec
 use Rattle.sqldomains.proofs.links.with_links.Given as goal
 

@@ -3,7 +3,7 @@ use Rattle.sqlite_rules.specs.Lists.{Has}
 use Rattle.sqltables.specs.Account.{account_with_id}
 use Rattle.sqltables.specs.Content.{Content}
 use Rattle.sqltables.specs.inner.Hand.{KeepsAccount, after}
-use Rattle.transactions.specs.States.{Finds}
+use Rattle.states.specs.States.{Finds}
 use Rattle.sqltables.proofs.SeenLemmas.{has-found, kept-found}
 use Rattle.sqltables.proofs.account.fetch.Goals as goal
 

@@ -5,7 +5,7 @@ use Rattle.sqltables.specs.Account.{accounts}
 use Rattle.sqltables.specs.Content.{Content}
 use Rattle.sqltables.specs.inner.Content.{accounts_to}
 use Rattle.sqltables.specs.inner.Hand.{after}
-use Rattle.transactions.specs.States.{Makes, Writes}
+use Rattle.states.specs.States.{Makes, Writes}
 use Rattle.sqltables.proofs.SeenLemmas.{has-made, kept-found}
 use Rattle.sqltables.proofs.account.put_there.Goals as goal
 

@@ -1,5 +1,5 @@
 use Rattle.std.proofs.Common.{◌≡◌, ◌++◌}
-use Rattle.store.specs.Faces.{domain_names}
+use Rattle.books.specs.Faces.{domain_names}
 use Rattle.mapbook.specs.Plain.{registry_in}
 use Rattle.mapbook.proofs.content.Content.domain_names.Given as goal
 

@@ -6,7 +6,7 @@ use Rattle.accounts.specs.declared.line.Line.{Line}
 use Rattle.accounts.specs.Entries.{with_lines}
 use Rattle.accounts.specs.Lines.{in_order}
 use Rattle.basis.specs.Bag.{add}
-use Rattle.store.specs.Ledgers.{accounts_of}
+use Rattle.books.specs.Ledgers.{accounts_of}
 use Rattle.mapbook.proofs.LedgerLemmas.{changed-found, changed-kept, has-not-found, on-err, on-ok, opened-changed, relined, where-found}
 use Rattle.mapbook.proofs.ledgers.Ledgers.add_line.Goals as goal
 

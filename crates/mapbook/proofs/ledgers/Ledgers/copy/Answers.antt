@@ -2,7 +2,7 @@ use Rattle.std.proofs.Common.{◌∙◌, Option, Some, None, sym, ap}
 use Rattle.std.specs.Option.{option_copied}
 use Rattle.accounts.specs.declared.account.Account.{Account}
 use Rattle.accounts.specs.declared.counters.Counters.{Counters}
-use Rattle.store.specs.Ledgers.{counted}
+use Rattle.books.specs.Ledgers.{counted}
 use Rattle.accounts.specs.Counters.{with_counters}
 use Rattle.mapbook.proofs.LedgerLemmas.{found, given-counters}
 use Rattle.mapbook.proofs.ledgers.Ledgers.copy.Goals as goal

@@ -4,7 +4,7 @@ use Rattle.std.specs.Option.{option_copied}
 use Rattle.accounts.specs.declared.account.Account.{Account}
 use Rattle.accounts.specs.Account.{empty_account}
 use Rattle.accounts.specs.declared.counters.Counters.{Counters}
-use Rattle.store.specs.Ledgers.{counted}
+use Rattle.books.specs.Ledgers.{counted}
 use Rattle.accounts.specs.Counters.{counters_of}
 use Rattle.mapbook.proofs.LedgerLemmas.{found}
 use Rattle.mapbook.proofs.ledgers.Ledgers.counters.Goals as goal

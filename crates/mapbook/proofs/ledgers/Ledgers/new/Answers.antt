@@ -1,5 +1,5 @@
 use Rattle.std.proofs.Common.{◌∙◌}
-use Rattle.store.specs.Ledgers.{accounts_of}
+use Rattle.books.specs.Ledgers.{accounts_of}
 use Rattle.mapbook.proofs.LedgerLemmas.{accounts-none}
 use Rattle.mapbook.proofs.ledgers.Ledgers.new.Goals as goal
 

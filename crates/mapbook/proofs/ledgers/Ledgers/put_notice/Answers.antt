@@ -5,7 +5,7 @@ use Rattle.accounts.specs.declared.account.Account.{Account}
 use Rattle.accounts.specs.declared.message.Message.{Message}
 use Rattle.accounts.specs.Entries.{with_queue}
 use Rattle.accounts.specs.Queue.{put}
-use Rattle.store.specs.Ledgers.{accounts_of}
+use Rattle.books.specs.Ledgers.{accounts_of}
 use Rattle.mapbook.proofs.LedgerLemmas.{changed-found, changed-kept, has-not-found, on-err, on-ok, opened-changed, requeued, where-found}
 use Rattle.mapbook.proofs.ledgers.Ledgers.put_notice.Goals as goal
 

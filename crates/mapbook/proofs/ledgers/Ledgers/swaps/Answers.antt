@@ -5,7 +5,7 @@ use Rattle.accounts.specs.declared.line.Line.{Line}
 use Rattle.accounts.specs.declared.line.LineSwap.{LineSwap}
 use Rattle.accounts.specs.Lines.{in_order, swapped_all}
 use Rattle.basis.specs.Bag.{bag_of, remade}
-use Rattle.store.specs.Ledgers.{lines_of}
+use Rattle.books.specs.Ledgers.{lines_of}
 use Rattle.mapbook.proofs.LedgerLemmas.{if-ok, lines-found}
 use Rattle.mapbook.proofs.ledgers.Ledgers.swaps.Goals as goal
 

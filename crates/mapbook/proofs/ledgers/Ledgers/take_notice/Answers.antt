@@ -5,7 +5,7 @@ use Rattle.accounts.specs.declared.account.Account.{Account}
 use Rattle.accounts.specs.declared.message.Message.{Message}
 use Rattle.accounts.specs.Entries.{with_queue}
 use Rattle.accounts.specs.Queue.{dropped}
-use Rattle.store.specs.Ledgers.{accounts_of}
+use Rattle.books.specs.Ledgers.{accounts_of}
 use Rattle.mapbook.proofs.LedgerLemmas.{changed-none, changed-there, requeued, where-found}
 use Rattle.mapbook.proofs.ledgers.Ledgers.take_notice.Goals as goal
 

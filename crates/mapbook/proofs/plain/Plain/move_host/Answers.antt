@@ -1,7 +1,7 @@
 use Rattle.std.proofs.Common.{◌≡◌, ◌∙◌, Some, None, ap, sym}
-use Rattle.store.specs.Tables.{host_moved, host_put}
-use Rattle.store.proofs.RecordsLemmas.{makes-on}
-use Rattle.transactions.proofs.LeavingLemmas.{leaves-on}
+use Rattle.books.specs.Tables.{host_moved, host_put}
+use Rattle.books.proofs.RecordsLemmas.{makes-on}
+use Rattle.states.proofs.LeavingLemmas.{leaves-on}
 use Rattle.mapbook.specs.declared.edit.Edit.TheVariants as edit
 use Rattle.mapbook.specs.Edits.{edited}
 use Rattle.mapbook.specs.Plain.{plain_records}

@@ -1,8 +1,8 @@
 use Rattle.std.proofs.Common.{◌≡◌, ◌∙◌, ap, cond, refl, subst, sym}
-use Rattle.store.proofs.RenameLemmas.{renamed-nowhere, renamed-there}
-use Rattle.store.specs.Book.{Stored}
-use Rattle.transactions.proofs.LeavingLemmas.{leaves-refl}
-use Rattle.transactions.specs.States.{Makes}
+use Rattle.books.proofs.RenameLemmas.{renamed-nowhere, renamed-there}
+use Rattle.books.specs.Book.{Stored}
+use Rattle.states.proofs.LeavingLemmas.{leaves-refl}
+use Rattle.states.specs.States.{Makes}
 use Rattle.mapbook.specs.Plain.{plain_records}
 use Rattle.mapbook.proofs.RenameLemmas.{held-open}
 use Rattle.mapbook.proofs.plain.Plain.rename.Goals as goal

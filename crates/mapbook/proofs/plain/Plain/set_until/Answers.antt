@@ -1,5 +1,5 @@
 use Rattle.std.proofs.Common.{sym, subst}
-use Rattle.store.specs.Book.{Stored}
+use Rattle.books.specs.Book.{Stored}
 use Rattle.mapbook.specs.Quiet.{IsQuiet}
 use Rattle.mapbook.proofs.plain.Plain.set_until.Goals as goal
 

@@ -1,7 +1,7 @@
 use Rattle.concerns.specs.Names.{named_of}
 use Rattle.model.specs.Registry.{Registry}
 use Rattle.objects.specs.declared.roid.ObjectKind.TheVariants as kinds
-use Rattle.store.specs.Faces.{contact_face_at}
+use Rattle.books.specs.Faces.{contact_face_at}
 use Rattle.registry.proofs.FaceLemmas.{contact-face-now}
 use Rattle.registry.proofs.PassingSteps.{reached-by}
 use Rattle.registry.proofs.faces.ContactAtLookUp.reach.Goals as goal

@@ -1,4 +1,4 @@
-use Rattle.store.specs.Faces.{domain_names}
+use Rattle.books.specs.Faces.{domain_names}
 use Rattle.registry.proofs.PassingSteps.{reached-all}
 use Rattle.registry.proofs.faces.DomainNamesLookUp.reach.Goals as goal
 

@@ -1,4 +1,4 @@
-use Rattle.privacy.specs.Runs.{command, reply}
+use Rattle.isolation.specs.Runs.{command, reply}
 use Rattle.registry.specs.Crashes.{Makes}
 use Rattle.registry.specs.Execution.{IsStep}
 use Rattle.registry.proofs.Answering.{command_answered}

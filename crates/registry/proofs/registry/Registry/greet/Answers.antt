@@ -1,4 +1,4 @@
-use Rattle.privacy.specs.Runs.{date, dated}
+use Rattle.isolation.specs.Runs.{date, dated}
 use Rattle.registry.specs.Crashes.{Makes}
 use Rattle.registry.specs.Execution.{IsGreetingStep}
 use Rattle.registry.proofs.Answering.{greeting_answered}

@@ -2,7 +2,7 @@ use Rattle.std.proofs.Common.{List, ℕ, subst}
 use Rattle.registry.specs.Calls.{LooksUpKeeping}
 use Rattle.registry.specs.Crashes.{Makes}
 use Rattle.registry.specs.Faces.{IsLookUp}
-use Rattle.store.specs.Faces.{host_face_at}
+use Rattle.books.specs.Faces.{host_face_at}
 use Rattle.registry.proofs.registry.Registry.host_face.Goals as goal
 
 pub returns-clause-keeps : goal.returns-clause-keeps

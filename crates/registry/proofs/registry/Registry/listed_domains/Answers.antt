@@ -1,12 +1,12 @@
 use Rattle.std.specs.Prelude.{map}
 use Rattle.model.specs.Lapse.{lapsed}
-use Rattle.privacy.specs.Runs.{look_up, shown}
+use Rattle.isolation.specs.Runs.{look_up, shown}
 use Rattle.registry.specs.Crashes.{Makes}
 use Rattle.registry.specs.Faces.{IsLookUp}
 use Rattle.registry.proofs.Answering.{look_up_answered}
 use Rattle.registry.proofs.CallLemmas.{taken}
 use Rattle.registry.proofs.CallsKept.{call_kept}
-use Rattle.store.specs.Faces.{domain_face_at}
+use Rattle.books.specs.Faces.{domain_face_at}
 use Rattle.registry.proofs.registry.Registry.listed_domains.Goals as goal
 
 pub returns-clause-keeps : goal.returns-clause-keeps

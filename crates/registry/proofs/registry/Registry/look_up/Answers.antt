@@ -1,5 +1,5 @@
 use Rattle.model.specs.Lapse.{lapsed}
-use Rattle.privacy.specs.Runs.{look_up, shown}
+use Rattle.isolation.specs.Runs.{look_up, shown}
 use Rattle.registry.specs.Crashes.{Makes}
 use Rattle.registry.specs.Faces.{IsLookUp}
 use Rattle.registry.proofs.Answering.{look_up_answered}

@@ -1,8 +1,8 @@
 use Rattle.std.proofs.Common.{ap, refl}
-use Rattle.store.specs.Book.{Stored}
+use Rattle.books.specs.Book.{Stored}
 use Rattle.registry.proofs.CallsKept.{reopened}
 use Rattle.registry.proofs.OpenedLemmas.{opens-kept, opens-lengths, opens-same}
-use Rattle.privacy.proofs.RunLemmas.{alike-lists-tell-the-same}
+use Rattle.isolation.proofs.RunLemmas.{alike-lists-tell-the-same}
 use Rattle.registry.proofs.registry.Registry.open.Goals as goal
 
 pub returns-in-Ok-clause-opened : goal.returns-in-Ok-clause-opened

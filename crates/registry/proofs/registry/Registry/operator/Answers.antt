@@ -1,4 +1,4 @@
-use Rattle.privacy.specs.Runs.{code, order}
+use Rattle.isolation.specs.Runs.{code, order}
 use Rattle.registry.specs.Crashes.{Makes}
 use Rattle.registry.specs.Execution.{IsOrderStep}
 use Rattle.registry.proofs.Answering.{order_answered}

@@ -3,8 +3,8 @@ use Rattle.zonefile.specs.ZoneText.{addresses_of}
 use Rattle.policy.specs.Rules.{PolicyRules}
 use Rattle.server.proofs.HttpLemmas.{passes_by}
 use Rattle.server.proofs.LentLemmas.{addresses_shown, found_there, lent_by}
-use Rattle.store.specs.Book.{BookState}
-use Rattle.store.specs.Faces.{host_addresses_at}
+use Rattle.books.specs.Book.{BookState}
+use Rattle.books.specs.Faces.{host_addresses_at}
 use Rattle.server.proofs.lent.LentAtMomentZoneSource.addresses.Goals as goal
 
 pub returns-clause-found : goal.returns-clause-found

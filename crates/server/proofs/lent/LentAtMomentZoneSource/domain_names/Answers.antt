@@ -3,8 +3,8 @@ use Rattle.std.specs.FinMap.{keys}
 use Rattle.policy.specs.Rules.{PolicyRules}
 use Rattle.server.proofs.HttpLemmas.{passes_by}
 use Rattle.server.proofs.LentLemmas.{found_there, lent_by, names_shown}
-use Rattle.store.specs.Book.{BookState}
-use Rattle.store.specs.Faces.{domain_names}
+use Rattle.books.specs.Book.{BookState}
+use Rattle.books.specs.Faces.{domain_names}
 use Rattle.server.proofs.lent.LentAtMomentZoneSource.domain_names.Goals as goal
 
 pub returns-clause-found : goal.returns-clause-found

@@ -3,8 +3,8 @@ use Rattle.std.specs.FinMap.{get}
 use Rattle.policy.specs.Rules.{PolicyRules}
 use Rattle.server.proofs.HttpLemmas.{passes_by}
 use Rattle.server.proofs.LentLemmas.{domains_shown, found_there, lent_by}
-use Rattle.store.specs.Book.{BookState}
-use Rattle.store.specs.Faces.{domain_face_at}
+use Rattle.books.specs.Book.{BookState}
+use Rattle.books.specs.Faces.{domain_face_at}
 use Rattle.server.proofs.lent.LentAtMomentZoneSource.domains.Goals as goal
 
 pub returns-clause-found : goal.returns-clause-found

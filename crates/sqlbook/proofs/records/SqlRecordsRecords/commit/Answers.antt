@@ -1,6 +1,6 @@
 use Rattle.std.proofs.Common.{Result, sym, subst}
-use Rattle.transactions.specs.declared.fault.BookFault.{BookFault}
-use Rattle.transactions.specs.States.{Ends}
+use Rattle.states.specs.declared.fault.BookFault.{BookFault}
+use Rattle.states.specs.States.{Ends}
 use Rattle.sqlbook.specs.Meaning.{are_right, stored_of}
 use Rattle.sqlbook.specs.AsBook.{as_book}
 use Rattle.sqlbook.proofs.SteadyLemmas.{ends-seen, steady-ended}

@@ -6,7 +6,7 @@ use Rattle.sqlite_schema.specs.declared.schema.Schema.{Schema}
 use Rattle.sqlite_schema.specs.declared.schema.Table.{Table}
 use Rattle.sqlite.specs.Held.{state}
 use Rattle.sqlite.specs.Steps.{over_memory}
-use Rattle.transactions.specs.States.{Remains}
+use Rattle.states.specs.States.{Remains}
 use Rattle.sqltables.specs.Adoption.{IsFound}
 use Rattle.sqltables.specs.Content.{Content}
 use Rattle.sqltables.specs.inner.Stored.{Guards}

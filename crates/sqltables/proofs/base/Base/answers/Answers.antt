@@ -1,7 +1,7 @@
 use Rattle.std.proofs.Common.{◌≡◌, ◌&&◌, Bool, true, ap, subst, ◌∙◌}
 use Rattle.sqlite.specs.Held.{state}
 use Rattle.sqltables.specs.Content.{Content}
-use Rattle.transactions.specs.States.{StateOf}
+use Rattle.states.specs.States.{StateOf}
 use Rattle.sqltables.proofs.StandingLemmas.{honest}
 use Rattle.sqltables.proofs.base.Base.answers.Goals as goal
 

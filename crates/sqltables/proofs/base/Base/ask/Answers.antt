@@ -3,7 +3,7 @@ use Rattle.sqlite.specs.Held.{state}
 use Rattle.sqlite.specs.State.{HasCleanDisk}
 use Rattle.sqlite.specs.Values.{bound}
 use Rattle.sqltables.specs.Content.{Content}
-use Rattle.transactions.specs.States.{Finds, Stays, StateOf}
+use Rattle.states.specs.States.{Finds, Stays, StateOf}
 use Rattle.sqltables.specs.inner.Stored.{Fits, leaves_of, stands}
 use Rattle.sqltables.specs.declared.form.Form.{Form}
 use Rattle.sqltables.proofs.AnswerLemmas.{recalled}

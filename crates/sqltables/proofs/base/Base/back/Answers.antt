@@ -1,7 +1,7 @@
 use Rattle.std.proofs.Common.{false, sym, subst, true≢false}
 use Rattle.sqlite.specs.Held.{state}
 use Rattle.sqltables.specs.Content.{Content}
-use Rattle.transactions.specs.States.{Closes, StateOf}
+use Rattle.states.specs.States.{Closes, StateOf}
 use Rattle.sqltables.specs.inner.Stored.{Fits, leaves_of, stands}
 use Rattle.sqltables.specs.declared.form.Form.{Form}
 use Rattle.sqltables.proofs.StandingLemmas.{guards-on, leaves-no-more}

@@ -1,7 +1,7 @@
 use Rattle.std.proofs.Common.{Bool, false, true, sym, ap, subst, ◌∙◌, true≢false}
 use Rattle.sqlite.specs.Held.{state}
 use Rattle.sqltables.specs.Content.{Content}
-use Rattle.transactions.specs.States.{Starts, Stays, StateOf}
+use Rattle.states.specs.States.{Starts, Stays, StateOf}
 use Rattle.sqlrows.proofs.TransactionLemmas.{begin_leaves}
 use Rattle.sqltables.specs.inner.Stored.{Fits, Guards, leaves_of, stands}
 use Rattle.sqltables.proofs.StandingLemmas.{guards-on, leaves-no-more}

@@ -2,7 +2,7 @@ use Rattle.std.proofs.Common.{◌&&◌, Bool, false, true, inl, inr, List, [], �
 use Rattle.sqlite.specs.Held.{state}
 use Rattle.sqlrows.proofs.TransactionLemmas.{commit_leaves}
 use Rattle.sqltables.specs.Content.{Content}
-use Rattle.transactions.specs.States.{Fails, Keeps, Remains, StateOf, holding}
+use Rattle.states.specs.States.{Fails, Keeps, Remains, StateOf, holding}
 use Rattle.sqltables.specs.inner.Stored.{Fits, Guards, committed, leaves_of, left_in, stands}
 use Rattle.sqltables.specs.declared.form.Form.{Form}
 use Rattle.sqltables.proofs.StandingLemmas.{honest}

@@ -3,8 +3,8 @@ use Rattle.sqlite.specs.Held.{state}
 use Rattle.sqlite.specs.State.{HasCleanDisk}
 use Rattle.sqlrows.specs.inner.Calls.{Stands}
 use Rattle.sqltables.specs.Content.{Content}
-use Rattle.transactions.specs.declared.fault.BookFault.{BookFault}
-use Rattle.transactions.specs.States.{FindsSome, StateOf}
+use Rattle.states.specs.declared.fault.BookFault.{BookFault}
+use Rattle.states.specs.States.{FindsSome, StateOf}
 use Rattle.sqltables.specs.inner.Stored.{Fits, leaves_of, stands}
 use Rattle.sqltables.proofs.StandingLemmas.{fits-looked, guards-on, honest, leaves-no-more, prepared, reads-same, stays-looked}
 use Rattle.sqltables.proofs.base.Base.look.Goals as goal

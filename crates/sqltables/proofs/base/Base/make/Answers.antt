@@ -6,7 +6,7 @@ use Rattle.sqlrows.specs.inner.Calls as calls
 use Rattle.sqlrows.specs.inner.Definitions.{IsUndone}
 use Rattle.sqltables.specs.Content.{Content, no_content}
 use Rattle.sqltables.specs.inner.Content.{IsContent}
-use Rattle.transactions.specs.States.{Stays, StateOf, Writes}
+use Rattle.states.specs.States.{Stays, StateOf, Writes}
 use Rattle.sqltables.specs.inner.Stored.{Agrees, Fits, Guards, leaves_of, stands}
 use Rattle.sqltables.specs.declared.form.Form.{Form}
 use Rattle.sqltables.specs.declared.form.Form.TheVariants.{Unused, Making}

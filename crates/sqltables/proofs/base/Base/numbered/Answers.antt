@@ -1,5 +1,5 @@
 use Rattle.std.proofs.Common.{sym, ap, ◌∙◌}
-use Rattle.transactions.specs.States.{StateOf}
+use Rattle.states.specs.States.{StateOf}
 use Rattle.sqltables.specs.Content.{Content}
 use Rattle.sqltables.specs.Readiness.{is_numbered}
 use Rattle.sqltables.specs.inner.Stored.{readiness_of}

@@ -1,6 +1,6 @@
 use Rattle.std.proofs.Common.{List, false, refl, sym, subst, arith}
 use Rattle.sqlite.specs.Held.{state}
-use Rattle.transactions.specs.States.{Remains}
+use Rattle.states.specs.States.{Remains}
 use Rattle.sqltables.specs.inner.Adoption.{IsShown}
 use Rattle.sqltables.specs.Content.{Content}
 use Rattle.sqltables.specs.inner.Stored.{Guards, stands}

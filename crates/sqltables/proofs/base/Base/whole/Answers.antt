@@ -2,7 +2,7 @@ use Rattle.std.proofs.Common.{◌≡◌, true, subst}
 use Rattle.std.proofs.lemmas.Bool.{and_parts}
 use Rattle.sqlite.specs.Held.{state}
 use Rattle.sqltables.specs.Content.{Content}
-use Rattle.transactions.specs.States.{StateOf}
+use Rattle.states.specs.States.{StateOf}
 use Rattle.sqltables.specs.inner.Whole.{IsWhole}
 use Rattle.sqltables.proofs.StandingLemmas.{honest}
 use Rattle.sqltables.proofs.WholeLemmas.{whole}

@@ -3,7 +3,7 @@ use Rattle.sqlite.specs.Held.{state}
 use Rattle.sqlite.specs.State.{HasCleanDisk}
 use Rattle.sqlite.specs.Values.{bound}
 use Rattle.sqltables.specs.Content.{Content}
-use Rattle.transactions.specs.States.{Stays, StateOf, Writes}
+use Rattle.states.specs.States.{Stays, StateOf, Writes}
 use Rattle.sqltables.specs.inner.Stored.{Fits, Guards, leaves_of, stands}
 use Rattle.sqltables.specs.declared.form.Form.{Form}
 use Rattle.sqltables.proofs.AlteringLemmas.{fits-written, left-by-write, left-open, none-committed, open-after, recalls-written, written}

@@ -2,7 +2,7 @@ use Rattle.std.proofs.Common.{List, sym, ap, subst, subst₂, ◌∙◌}
 use Rattle.sqltables.specs.Content.{Content}
 use Rattle.sqltables.specs.inner.Hand.{AreNoted, IsAtHand, noted_of, noting, seen_with}
 use Rattle.sqltables.specs.declared.hand.Hand.{Hand}
-use Rattle.transactions.specs.States.{Fails, Reads, Remains, StateOf}
+use Rattle.states.specs.States.{Fails, Reads, Remains, StateOf}
 use Rattle.sqltables.proofs.NotedLemmas.{fails-seen, noted-failed, noted-more, unowed}
 use Rattle.sqltables.proofs.SeenLemmas.{none-at-hand}
 use Rattle.sqltables.proofs.store.RowStore.commit.Goals as goal

@@ -1,7 +1,7 @@
 use Rattle.std.proofs.Common.{sym, subst, ◌∙◌}
 use Rattle.sqlite.specs.Held.{state}
 use Rattle.sqltables.specs.Content.{Content}
-use Rattle.transactions.specs.States.{Has, StateOf}
+use Rattle.states.specs.States.{Has, StateOf}
 use Rattle.sqltables.proofs.StandingLemmas.{clean-of}
 use Rattle.sqltables.proofs.store.RowStore.into_connection.Goals as goal
 

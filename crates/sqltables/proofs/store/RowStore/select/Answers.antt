@@ -1,7 +1,7 @@
 use Rattle.std.proofs.Common.{sym, subst, subst₂}
 use Rattle.sqltables.specs.Content.{Content}
 use Rattle.sqltables.specs.inner.Hand.{after, noted_of, noting, seen_with}
-use Rattle.transactions.specs.States.{Finds, StateOf}
+use Rattle.states.specs.States.{Finds, StateOf}
 use Rattle.sqltables.proofs.AnswerLemmas.{reads-by}
 use Rattle.sqltables.proofs.NotedLemmas.{noted-found, noting-found}
 use Rattle.sqltables.proofs.SeenLemmas.{blind-seen, found-kept, found-seen}

@@ -1,7 +1,7 @@
 use Rattle.std.proofs.Common.{◌≡◌, true, subst}
 use Rattle.sqltables.specs.Content.{Content}
 use Rattle.sqltables.specs.inner.Whole.{IsWhole}
-use Rattle.transactions.specs.States.{StateOf}
+use Rattle.states.specs.States.{StateOf}
 use Rattle.sqltables.proofs.HandLemmas.{whole-with}
 use Rattle.sqltables.proofs.store.RowStore.whole.Goals as goal
 

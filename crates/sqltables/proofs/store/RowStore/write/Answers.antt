@@ -1,7 +1,7 @@
 use Rattle.std.proofs.Common.{sym, subst, subst₂}
 use Rattle.sqltables.specs.Content.{Content}
 use Rattle.sqltables.specs.inner.Hand.{noted_of, noting, seen_with}
-use Rattle.transactions.specs.States.{Makes, StateOf}
+use Rattle.states.specs.States.{Makes, StateOf}
 use Rattle.sqltables.proofs.NotedLemmas.{noted-made, noting-made}
 use Rattle.sqltables.proofs.SeenLemmas.{made-kept, made-seen}
 use Rattle.sqltables.proofs.store.RowStore.write.Goals as goal

@@ -1,0 +1,11 @@
+use Rattle.std.proofs.Common.{◌≡◌, ◌++◌, true, drop}
+use Rattle.concerns.specs.Concerns.{contact_name, meant, read_at}
+use Rattle.states.specs.States.{Reads}
+use Rattle.books.proofs.concerning.contacts_meant.Given as goal
+
+-- with what is read at the names that are left, all that is meant
+abbrev pub invariant-loop-name : goal.invariant-loop-name
+invariant-loop-name g l =
+    Reads (g.R.Records.kept l.fn.records) (g.R.Records.kept l.records)
+    × ((g.R.Records.kept l.records).is_clean ≡ true
+    → l.meant ++ read_at contact_name (g.R.Records.kept l.fn.records).content.registry.contacts (drop l.name-index l.names) ≡ meant contact_name (g.R.Records.kept l.fn.records).content.registry.contacts l.names)

@@ -1,0 +1,217 @@
+-- Each command and each order keeps what a well-formed registry says of lines.
+use Rattle.std.proofs.Common.{◌≡◌, ◌⊎◌, inl, inr, ⊎_elim, ℕ, ◌≤◌, ◌<◌, ◌+◌, Bool, true, false, cond, not, ◌&&◌, min, List, [], ◌∷◌, Option, Some, None, is_some, refl, sym, ap, subst, ◌∙◌, arith}
+use Rattle.decisions.proofs.Lemmas.{AsksFor, been-grown, begins-asks, CommandCases, Grows, IsItsOwn, known, order-cases}
+use Rattle.decisions.proofs.Lemmas.{OrderCases, put-cases, put-is, request-cases, roid-grown, waits-asks}
+use Rattle.decisions.proofs.Words.{account_of, AreApart, Asked, Bad, begins_after, Change, changed, changed_all, Charge, charge, charge_line}
+use Rattle.decisions.proofs.Words.{ClientApproved, ClientCancelled, ClientRejected, Command, deleted_domain, Deletion, Domain, domain_roid}
+use Rattle.decisions.proofs.Words.{effect, ended, expiry, Facts, facts, FinMap, gained, get, Post, HasBeen, HasLines, HasLinesOn, HasObjects}
+use Rattle.decisions.proofs.Words.{HasRoid, insert, is_kind, is_of, is_on, is_pending, is_pending_state, is_same_roid, IsDeletion, IsLineOf}
+use Rattle.decisions.proofs.Words.{IsRegistrar, IsRegistry, IsSettled, IsSound, last_clock, Line, list_any, name_of, nat_cmp, new_domain}
+use Rattle.decisions.proofs.Words.{NewDomain, Order, order_decision, order_effect, ordered, PolicyRules, PutDomain, Registry, renewed_domain}
+use Rattle.decisions.proofs.Words.{Request, restored_domain, restoring_domain, Roid, slice_cmp, TakeSerial, Transfer, updated_domain, waits}
+use Rattle.decisions.proofs.Words.{WasGiven, with_account, with_command, and-false, changes_after, count-none}
+use Rattle.decisions.proofs.Words.{false_from_ne_true, none-by, recursion_from_All, same-roids, same_Some}
+use Rattle.accounts.specs.declared.line.LineKind.TheVariants as lines
+use Rattle.lifecycle.specs.Lapse.{completes_at, due_at, due_of, earlier}
+use Rattle.objects.specs.declared.roid.ObjectKind.TheVariants as kinds
+use Rattle.protocol.specs.declared.command.Request.TheVariants as requests
+use Rattle.decisions.proofs.CreationLemmas.{has-given, kept-counted, ungiven}
+use Rattle.decisions.proofs.LineKeepingLemmas.{AllFitLines, IsAsBefore, IsChargeIn, IsCharged, as-before, begun-by, lines-changed_all, lines-counted, lines-stay, on-as-before, on-same, rises}
+use Rattle.decisions.proofs.LineTransferLemmas.{asked-kept, lines-ended, lines-handed-over, told}
+
+-- ---- a charge for a domain that is the registrar's own
+
+-- no transfer is due by the clock
+awaited-ahead : (p : PolicyRules) (s : Registry) (d : Domain) → IsDeletion p s d d.deletion → s.clock < due_at p d → (x : Transfer) → d.transfer ≡ Some x → is_pending_state x.state ≡ true → s.clock < x.ac_date
+awaited-ahead p s d deletion ahead x is pending = by d.deletion deletion ahead
+  where
+    completes : completes_at d.transfer ≡ Some x.ac_date
+    completes = ap completes_at is ∙ ap (λ (b : Bool). let o : Option ℕ = cond b (Some x.ac_date) None in o) pending
+
+    by : (o : Option Deletion) → IsDeletion p s d o → s.clock < due_of p o d → s.clock < x.ac_date
+    by None k lt = let sooner : s.clock < min (expiry d) x.ac_date = subst (λ (o : Option ℕ). s.clock < earlier (expiry d) o) completes lt in omega (arith, sooner)
+    by (Some y) k lt = let never : true ≡ false = sym (ap is_pending is ∙ pending) ∙ k.transfer in absurd cc
+
+own-charge : (p : PolicyRules) (t : Registry) (r : ℕ) (name : List ℕ) (d : Domain) (line : Line) → get t.domains name ≡ Some d → IsItsOwn domain_roid t.domains name d.roid → HasRoid p t kinds.Domain d.roid
+    → r ≡ d.sponsor → ((x : Transfer) → d.transfer ≡ Some x → is_pending_state x.state ≡ true → t.clock < x.ac_date)
+    → line.roid ≡ Some d.roid → is_kind line.kind lines.Transfer ≡ false → line.recorded ≤ t.clock → HasBeen t line.started → HasBeen t line.refunded → IsChargeIn p t r line
+own-charge p t r name d line at own has sponsor ahead of kind recorded started refunded = record {
+  fits = record { roid = subst (WasGiven p t) (sym of) has; recorded = recorded; started = started; refunded = refunded };
+  domains = λ n e there. by n e there (is_same_roid d.roid e.roid) refl;
+}
+  where
+    charged : IsCharged r line d
+    charged = record {
+      sponsor = sponsor;
+      waits = ap (λ (b : Bool). (b && (is_on d.roid line && not (is_some line.refunded))) && not (is_some line.started)) kind;
+      awaited = λ x is pending. and-false (is_on d.roid line) _ (begun-by t x.ac_date line.started (omega (arith, ahead x is pending)) started);
+    }
+
+    by : (n : List ℕ) (e : Domain) → get t.domains n ≡ Some e → (b : Bool) → is_same_roid d.roid e.roid ≡ b → (is_on e.roid line ≡ false) ⊎ IsCharged r line e
+    by n e there true same =
+        let here : n ≡ name = own n e there (sym (same-roids d.roid e.roid same)) in
+        let is : d ≡ e = same_Some d e (sym at ∙ ap (λ (m : List ℕ). get t.domains m) (sym here) ∙ there) in
+        inr (subst (IsCharged r line) is charged)
+    by n e there false other = inl (ap (is_of e.roid) of ∙ other)
+
+-- a domain that stands in for another at its name has its ROID for its own
+own-put : (m : FinMap (slice_cmp nat_cmp) Domain) (name : List ℕ) (d new : Domain) → AreApart domain_roid m → get m name ≡ Some d → d.name ≡ name → new.name ≡ d.name → new.roid ≡ d.roid → IsItsOwn domain_roid (insert m new.name new) new.name new.roid
+own-put m name d new apart at named called same n x there alike = ⊎_elim (λ put. put.0) (λ before. apart n name x d before at (alike ∙ same) ∙ sym named ∙ sym called) (put-cases m new.name new n x there)
+
+-- ---- commands
+
+module _ (p : PolicyRules) (r : ℕ) (cl_trid : Option (List ℕ)) (s : Registry) (place : IsRegistrar p r) (is : HasObjects p s) (has : HasLines p s) (settled : IsSettled p s) (sound : IsSound p) (early : s.clock ≤ last_clock) where
+  -- the registry once the command is counted
+  abbrev counted : Registry
+  counted = with_account r with_command s
+
+  objects : HasObjects p counted
+  objects = kept-counted p r s place is
+
+  has-counted : HasLines p counted
+  has-counted = lines-counted p s r with_command (λ a. refl) (λ a. omega arith) has
+
+  -- a domain stands where it stood, with the same sponsor, ROID and transfers
+  put-again : (name : List ℕ) (d new : Domain) → get s.domains name ≡ Some d → IsAsBefore d new → HasLinesOn counted new
+  put-again name d new at same = on-as-before counted d new same (has-counted.domains name d at)
+
+  -- and is charged for
+  put-charged : (name : List ℕ) (d new : Domain) (line : Line) → get s.domains name ≡ Some d → new.name ≡ d.name → IsAsBefore d new → r ≡ d.sponsor → line.roid ≡ Some d.roid → is_kind line.kind lines.Transfer ≡ false → line.recorded ≤ s.clock → HasBeen s line.started → HasBeen s line.refunded
+      → AllFitLines p (PutDomain new ∷ Post r (Charge line) ∷ []) counted
+  put-charged name d new line at called same sponsor of kind recorded started refunded =
+      let k = is.domains name d at in
+      let t : Registry = changed p (PutDomain new) counted in
+      let rise = rises s r with_command (λ a. omega arith) in
+      let grown : Grows p p s t = record { zone = refl; place = λ q is. is; clock = omega arith; serial = rise } in (
+        put-again name d new at same,
+        (
+          own-charge p t r new.name new line (put-is counted.domains new.name new)
+              (own-put s.domains name d new is.identities.domain_roids at k.stands.named called same.roid)
+              (roid-grown p p s t grown kinds.Domain new.roid
+              (subst (HasRoid p s kinds.Domain) (sym same.roid) k.stands.roid))
+              (sponsor ∙ sym same.sponsor)
+              (λ x e pending. awaited-ahead p s d k.stands.deletion (settled.domains name d at) x (sym same.transfer ∙ e) pending)
+              (of ∙ ap (λ (roid : Roid). Some roid) (sym same.roid)) kind recorded
+              (been-grown p p s t grown line.started started) (been-grown p p s t grown line.refunded refunded),
+          tt,
+        ),
+      )
+
+  -- ---- a new domain
+
+  module _ (small : (account_of r s).serial < 4_611_686_018_427_387_904) (new : NewDomain) where
+    abbrev request : Request
+    request = requests.CreateDomain new
+
+    abbrev f : Facts
+    f = facts p r (Asked cl_trid request) s
+
+    abbrev made : Domain
+    made = new_domain r s.clock f new
+
+    -- no line is of a domain with its ROID
+    unlisted : (l : Line) → IsLineOf p s l → is_on made.roid l ≡ false
+    unlisted l k = by l.roid k.roid
+      where
+        by : (of : Option Roid) → WasGiven p s of → is_of made.roid of ≡ false
+        by None k = refl
+        by (Some other) k = false_from_ne_true (is_same_roid other made.roid) (λ e.
+            ungiven p r s place is cl_trid small kinds.Domain request kinds.Domain other k (same-roids other made.roid e))
+
+    none-listed : (test : Line → Bool) → AsksFor made.roid test → (q : ℕ) → list_any test (account_of q s).lines ≡ false
+    none-listed test asks q = none-by (IsLineOf p s) test (λ l k. asks l (unlisted l k)) (account_of q s).lines (recursion_from_All (IsLineOf p s) (account_of q s).lines (has.each q))
+
+    made-on : HasLinesOn counted made
+    made-on = on-same s counted (lines-stay s r with_command (λ a. refl)) made (record {
+      elsewhere = λ q other. none-listed (begins_after made.roid None) (begins-asks made.roid None) q;
+      waiting = λ q. count-none (waits made.roid) (account_of q s).lines (none-listed (waits made.roid) (waits-asks made.roid) q);
+      awaited = tt;
+    })
+
+    created : AllFitLines p (PutDomain made ∷ Post r TakeSerial ∷ charge lines.Create p r s.clock made.roid request f ∷ []) counted
+    created =
+        let t : Registry = changed_all p (PutDomain made ∷ Post r TakeSerial ∷ []) counted in
+        let given = has-given p r s place is cl_trid small kinds.Domain request in (
+          made-on,
+          (
+            tt,
+            (
+              own-charge p t r made.name made (charge_line lines.Create p s.clock made.roid request f) (put-is s.domains made.name made)
+                  (λ n x there alike. ⊎_elim (λ put. put.0) (λ before. absurd (ungiven p r s place is cl_trid small kinds.Domain request kinds.Domain x.roid (is.domains n x before).stands.roid alike)) (put-cases s.domains made.name made n x there))
+                  (record { kind_is = given.kind_is; creator = given.creator; serial = given.serial })
+                  refl (λ x e pending. absurd cc) refl refl (omega arith) (omega arith) tt,
+              tt,
+            ),
+          ),
+        )
+
+  -- ---- each command
+
+  -- what a command changes fits the lines at each step, or together
+  abbrev Kept : List Change → Type 0
+  Kept changes = AllFitLines p changes counted ⊎ HasLines p (changed_all p changes counted)
+
+  commands-keep-lines : (account_of r s).serial < 4_611_686_018_427_387_904 → CommandCases p r cl_trid s (λ q. Kept)
+  commands-keep-lines small = record {
+    none = λ q. inl tt;
+    acknowledged = λ id. inl (tt, tt);
+    contact_created = λ new. inl (tt, (tt, tt));
+    domain_created = λ new kept fit linked paid. inl (created small new);
+    host_created = λ new kept fit based. inl (tt, (tt, tt));
+    contact_dropped = λ name free. inl (tt, tt);
+    domain_dropped = λ name d it. inl (tt, (omega arith, tt));
+    domain_deleted = λ name d years it. inl (put-again (name_of name) d (deleted_domain s.clock years d) it.at (as-before refl refl refl refl refl), (omega arith, tt));
+    host_dropped = λ name free. inl (tt, tt);
+    contact_updated = λ u c at. inl (tt, tt);
+    domain_updated = λ u d it linked. inl (put-again (name_of u.name) d (updated_domain s.clock u d) it.at (as-before refl refl refl refl refl), tt);
+    host_updated = λ u h it. inl (tt, tt);
+    host_renamed = λ u name h it free based. inl (tt, tt);
+    renewed = λ name expires years d it fits.
+        let q : Request = requests.RenewDomain name expires years in
+        inl (put-charged (name_of name) d (renewed_domain s.clock years d) (charge_line lines.Renew p s.clock d.roid q (known p r cl_trid s q)) it.at refl (as-before refl refl refl refl refl) it.own refl refl (omega arith) (omega arith) tt);
+    restoring = λ name d at. inl (put-again (name_of name) d (restoring_domain s.clock d) at (as-before refl refl refl refl refl), tt);
+    restored = λ name del_time res_time d it.
+        let q : Request = requests.ReportRestore name del_time res_time in
+        inl (put-charged (name_of name) d (restored_domain s.clock d) (charge_line lines.Restore p s.clock d.roid q (known p r cl_trid s q)) it.at refl (as-before refl refl refl refl refl) it.own refl refl (omega arith) tt tt);
+    contact_asked = λ q n c at. inl (tt, (tt, tt));
+    contact_approved = λ q n c at y last. inl (tt, (tt, tt));
+    contact_rejected = λ q n c at y last. inl (tt, (tt, tt));
+    contact_cancelled = λ q n c at y last. inl (tt, (tt, tt));
+    domain_asked = λ q n d at askable paid. inr (told p d.sponsor _ _ (asked-kept p sound r s early objects has-counted q (known p r cl_trid s q) n d at askable));
+    domain_approved = λ q n d at y last pending own.
+        inr (told p y.requester _ _ (lines-handed-over p counted objects has-counted n d at (ended ClientApproved s.clock y) y last pending refl refl refl (d.years + gained d s.clock) (gained d s.clock)));
+    domain_rejected = λ q n d at y last pending. inr (told p y.requester _ _ (lines-ended p counted objects has-counted n d at (ended ClientRejected s.clock y) y last pending refl refl s.clock (omega arith)));
+    domain_cancelled = λ q n d at y last pending.
+        inr (told p y.losing_registrar _ _ (lines-ended p counted objects has-counted n d at (ended ClientCancelled s.clock y) y last pending refl refl s.clock (omega arith)));
+  }
+
+  -- together with the count of the command
+  kept-lines : (changes : List Change) → Kept changes → HasLines p (changed_all p changes counted)
+  kept-lines changes kept = ⊎_elim (λ fit. lines-changed_all p changes counted fit has-counted) (λ together. together) kept
+
+-- A registrar's command keeps what is so of lines, where nothing is due.
+pub lines-effect : (p : PolicyRules) → IsSound p → (r : ℕ) (c : Command) (s : Registry) → IsRegistrar p r → IsRegistry p s → IsSettled p s → (account_of r s).serial < 4_611_686_018_427_387_904 → HasLines p (effect p r c s)
+unfolding changes_after
+lines-effect p sound r (Bad cl_trid fault) s place is settled small = has-counted p r cl_trid s place is.objects is.lines settled sound is.clock
+lines-effect p sound r (Asked cl_trid q) s place is settled small =
+    kept-lines p r cl_trid s place is.objects is.lines settled sound is.clock _
+    (request-cases p r cl_trid s _ (commands-keep-lines p r cl_trid s place is.objects is.lines settled sound is.clock small) q)
+
+-- ---- orders
+
+orders-fit-lines : (p : PolicyRules) (s : Registry) → HasLines p s → OrderCases p s (λ changes. AllFitLines p changes s)
+orders-fit-lines p s has = record {
+  none = tt;
+  contact_set = λ o name c at. (tt, tt);
+  domain_set = λ o name d at. (on-as-before s d (record d { statuses = ordered o d.statuses }) (as-before refl refl refl refl refl) (has.domains name d at), tt);
+  host_set = λ o name h at. (tt, tt);
+  paid_in = λ r cents place. (record { fits = record { roid = tt; recorded = omega arith; started = tt; refunded = tt }; domains = λ name d at. inl refl }, tt);
+}
+
+-- what an order of the operator changes fits the lines
+pub fits-order : (p : PolicyRules) (order : Order) (s : Registry) → HasLines p s → AllFitLines p (order_decision p order s).changes s
+fits-order p order s has = order-cases p s _ (orders-fit-lines p s has) order
+
+-- and keeps what is so of them
+pub lines-order : (p : PolicyRules) (order : Order) (s : Registry) → HasLines p s → HasLines p (order_effect p order s)
+lines-order p order s has = lines-changed_all p (order_decision p order s).changes s (fits-order p order s has) has

@@ -1,0 +1,273 @@
+-- Each change keeps what a well-formed registry says of lines, where what it puts or charges fits.
+use Rattle.std.proofs.Common.{◌≡◌, ◌⊎◌, ⊎_elim, ℕ, ◌≤◌, Bool, true, false, cond, not, List, Option, Some, None, is_some, unwrap_or, refl, sym, ap, subst, ◌∙◌, arith}
+use Rattle.decisions.proofs.Words.{cond_both, host_renamed, may_rename, Account, account_of, AccountChange, All, AllByRecursion, begins_after, Change, changed, changed_all}
+use Rattle.decisions.proofs.Words.{Charge, charges_waiting, Domain, DropDomain, get, Post, HasBeen, HasLines, HasLinesOn}
+use Rattle.decisions.proofs.Words.{is_begun_after, is_for_transfer, is_on, is_pending_state, IsLineOf, Lapse, LapseContact, LapseDomain, Line}
+use Rattle.decisions.proofs.Words.{list_any, MoveClock, OpenAccount, PolicyRules, PutDomain, RefundRunning, RefundTransfer}
+use Rattle.decisions.proofs.Words.{Registry, remade, RenameHost, Roid, runs, TakeSerial, Transfer, waits, WasGiven, with_account}
+use Rattle.decisions.proofs.Words.{with_host_renamed, with_lines, account_changed, add, All-from_recursion, empty_account}
+use Rattle.decisions.proofs.Words.{in_order, IsAwaitedIfPending, nat_tests, recursion_from_All, refunded_by, RunningRefund}
+use Rattle.decisions.specs.Changes.{itself}
+use Rattle.decisions.proofs.GrowthLemmas.{Grows, been-grown, roid-grown, AllFit, all-kept}
+use Rattle.decisions.proofs.LineEntryLemmas.{begins-asks, waits-asks}
+use Rattle.decisions.proofs.NamedLemmas.{drop-cases, remade-cases, at-put}
+use Rattle.decisions.proofs.ViewLemmas.{account-keep, serial-rises}
+use Rattle.model.proofs.LineLemmas.{all-add, all-remade, all-weaker, and-false, awaited-carried, count, count-add-none, count-remade, none-add, none-remade}
+
+-- ---- the clock and serials grow, and lines stay
+
+module _ (p q : PolicyRules) (s t : Registry) (grows : Grows p q s t) where
+  given-grown : (roid : Option Roid) → WasGiven p s roid → WasGiven q t roid
+  given-grown None h = tt
+  given-grown (Some roid) h = roid-grown p q s t grows _ roid h
+
+  pub line-grown : (l : Line) → IsLineOf p s l → IsLineOf q t l
+  line-grown l h = record { roid = given-grown l.roid h.roid; recorded = omega (arith, h.recorded, grows.clock); started = been-grown p q s t grows l.started h.started; refunded = been-grown p q s t grows l.refunded h.refunded }
+
+  module _ (same : (r : ℕ) → (account_of r t).lines ≡ (account_of r s).lines) where
+    pub each-grown : HasLines p s → (r : ℕ) → All (IsLineOf q t) (account_of r t).lines
+    each-grown is r = subst (λ (ls : List Line). All (IsLineOf q t) ls) (sym (same r))
+        (All-from_recursion (IsLineOf q t) (account_of r s).lines (all-weaker (IsLineOf p s) (IsLineOf q t) line-grown (account_of r s).lines (recursion_from_All (IsLineOf p s) (account_of r s).lines (is.each r))))
+
+-- a domain under other lines, where none begins that didn't, and as many wait
+pub on-carried : (s t : Registry) (d : Domain) → ((last : Option ℕ) (q : ℕ) → list_any (begins_after d.roid last) (account_of q s).lines ≡ false → list_any (begins_after d.roid last) (account_of q t).lines ≡ false)
+    → ((q n : ℕ) → count (waits d.roid) (account_of q s).lines ≡ n → count (waits d.roid) (account_of q t).lines ≡ n) → HasLinesOn s d → HasLinesOn t d
+on-carried s t d none as_many h = record {
+  elsewhere = λ q other. none d.transferred q (h.elsewhere q other);
+  waiting = λ q. as_many q (charges_waiting q d.transfer) (h.waiting q);
+  awaited = awaited-carried s t d d.transfer (λ x at pending. none (Some x.ac_date) d.sponsor) h.awaited;
+}
+
+-- under the lines of another registry's accounts
+pub on-same : (s t : Registry) → ((r : ℕ) → (account_of r t).lines ≡ (account_of r s).lines) → (d : Domain) → HasLinesOn s d → HasLinesOn t d
+on-same s t same d = on-carried s t d (λ last q none. ap (list_any (begins_after d.roid last)) (same q) ∙ none) (λ q n waiting. ap (count (waits d.roid)) (same q) ∙ waiting)
+
+-- what is asked of the lines on a domain hangs on these of its parts
+pub record IsAsBefore (d e : Domain) : Type 0 where
+  pub roid : e.roid ≡ d.roid
+  pub sponsor : e.sponsor ≡ d.sponsor
+  pub created : e.created ≡ d.created
+  pub transferred : e.transferred ≡ d.transferred
+  pub transfer : e.transfer ≡ d.transfer
+
+pub as-before : {d e : Domain} → e.roid ≡ d.roid → e.sponsor ≡ d.sponsor → e.created ≡ d.created → e.transferred ≡ d.transferred → e.transfer ≡ d.transfer → IsAsBefore d e
+as-before roid sponsor created transferred transfer = record { roid = roid; sponsor = sponsor; created = created; transferred = transferred; transfer = transfer }
+
+abbrev with_parts : Domain → Roid → ℕ → ℕ → Option ℕ → Option Transfer → Domain
+with_parts e roid sponsor created transferred transfer = record e { roid = roid; sponsor = sponsor; created = created; transferred = transferred; transfer = transfer }
+
+awaited-parts : (s : Registry) (d e : Domain) (o : Option Transfer) → IsAwaitedIfPending s d o → IsAwaitedIfPending s (with_parts e d.roid d.sponsor d.created d.transferred d.transfer) o
+awaited-parts s d e None h = tt
+awaited-parts s d e (Some x) h = λ pending. let w = h pending in record {
+  losing_registrar = w.losing_registrar;
+  requester = w.requester;
+  created = w.created;
+  transferred = w.transferred;
+  due = w.due;
+  lines = w.lines;
+}
+
+pub on-as-before : (s : Registry) (d e : Domain) → IsAsBefore d e → HasLinesOn s d → HasLinesOn s e
+on-as-before s d e same h =
+    let parts : HasLinesOn s (with_parts e d.roid d.sponsor d.created d.transferred d.transfer) = record { elsewhere = h.elsewhere; waiting = h.waiting; awaited = awaited-parts s d e d.transfer h.awaited } in
+    subst (HasLinesOn s) (λ i. with_parts e (sym same.roid i) (sym same.sponsor i) (sym same.created i) (sym same.transferred i) (sym same.transfer i)) parts
+
+-- ---- what has begun
+
+-- has begun by any moment from the clock on
+pub begun-by : (s : Registry) (last : ℕ) (started : Option ℕ) → s.clock ≤ last → HasBeen s started → is_begun_after (Some last) started ≡ false
+begun-by s last None le been = refl
+begun-by s last (Some start) le been = grind (arith, nat_tests, le, been)
+
+-- ---- objects are put and taken away
+
+-- domains come and go, each with the lines that it is to have
+pub lines-domains : (p q : PolicyRules) (s t : Registry) → Grows p q s t → ((r : ℕ) → (account_of r t).lines ≡ (account_of r s).lines)
+    → ((name : List ℕ) (d : Domain) → get t.domains name ≡ Some d → HasLinesOn s d) → HasLines p s → HasLines q t
+lines-domains p q s t grows same on is = record {
+  each = each-grown p q s t grows same is;
+  domains = λ name d at. on-same s t same d (on name d at);
+}
+
+-- ---- one account changes
+
+module _ (s : Registry) (r : ℕ) (f : Account → Account) where
+  -- its lines stay
+  pub lines-stay : ((a : Account) → (f a).lines ≡ a.lines) → (q : ℕ) → (account_of q (with_account r f s)).lines ≡ (account_of q s).lines
+  lines-stay keeps q = account-keep (λ (a : Account). a.lines ≡ (account_of q s).lines) s r f q (λ own same. keeps (account_of q s)) refl
+
+  -- and a property of them
+  pub lines-keep : (P : List Line → Type 0) (q : ℕ) → (r ≡ q → P (account_of q s).lines → P (f (account_of q s)).lines) → P (account_of q s).lines → P (account_of q (with_account r f s)).lines
+  lines-keep P q keeps h = account-keep (λ (a : Account). P a.lines) s r f q keeps h
+
+  pub rises : ((a : Account) → a.serial ≤ (f a).serial) → (q : ℕ) → (account_of q s).serial ≤ (account_of q (with_account r f s)).serial
+  rises more q = account-keep (λ (a : Account). (account_of q s).serial ≤ a.serial) s r f q (λ own le. more (account_of q s)) (omega arith)
+
+  pub account-grows : (p : PolicyRules) → ((a : Account) → a.serial ≤ (f a).serial) → Grows p p s (with_account r f s)
+  account-grows p more = record { zone = refl; place = λ q place. place; clock = omega arith; serial = rises more }
+
+-- its counters and its queue change
+pub lines-counted : (p : PolicyRules) (s : Registry) (r : ℕ) (f : Account → Account) → ((a : Account) → (f a).lines ≡ a.lines) → ((a : Account) → a.serial ≤ (f a).serial) → HasLines p s → HasLines p (with_account r f s)
+lines-counted p s r f keeps more is =
+    lines-domains p p s (with_account r f s) (account-grows s r f p more) (lines-stay s r f keeps) is.domains is
+
+-- ---- a charge
+
+-- for a domain of the registrar's own, which isn't for a transfer, and whose grace begins before a
+-- transfer that is pending is due
+pub record IsCharged (r : ℕ) (line : Line) (d : Domain) : Type 0 where
+  pub sponsor : r ≡ d.sponsor
+  pub waits : waits d.roid line ≡ false
+  pub awaited : (x : Transfer) → d.transfer ≡ Some x → is_pending_state x.state ≡ true → begins_after d.roid (Some x.ac_date) line ≡ false
+
+pub record IsChargeIn (p : PolicyRules) (s : Registry) (r : ℕ) (line : Line) : Type 0 where
+  pub fits : IsLineOf p s line
+  pub domains : (name : List ℕ) (d : Domain) → get s.domains name ≡ Some d → (is_on d.roid line ≡ false) ⊎ IsCharged r line d
+
+module _ (p : PolicyRules) (s : Registry) (r : ℕ) where
+  abbrev with_line : Line → Registry
+  with_line line = with_account r (with_lines (add in_order line)) s
+
+  -- what is so of lines but of this one
+  none-charged : (line : Line) (test : Line → Bool) (q : ℕ) → (r ≡ q → test line ≡ false) → list_any test (account_of q s).lines ≡ false → list_any test (account_of q (with_line line)).lines ≡ false
+  none-charged line test q fails none =
+      lines-keep s r (with_lines (add in_order line)) (λ ls. list_any test ls ≡ false) q (λ own h. none-add in_order test line (account_of q s).lines (fails own) h) none
+
+  count-charged : (line : Line) (test : Line → Bool) (q n : ℕ) → test line ≡ false → count test (account_of q s).lines ≡ n → count test (account_of q (with_line line)).lines ≡ n
+  count-charged line test q n fails e =
+      lines-keep s r (with_lines (add in_order line)) (λ ls. count test ls ≡ n) q (λ own h. count-add-none in_order test line (account_of q s).lines fails ∙ h) e
+
+  charged-off : (line : Line) (d : Domain) → is_on d.roid line ≡ false → HasLinesOn s d → HasLinesOn (with_line line) d
+  charged-off line d off = on-carried s (with_line line) d (λ last q. none-charged line (begins_after d.roid last) q (λ own. begins-asks d.roid last line off)) (λ q n. count-charged line (waits d.roid) q n (waits-asks d.roid line off))
+
+  charged-own : (line : Line) (d : Domain) → IsCharged r line d → HasLinesOn s d → HasLinesOn (with_line line) d
+  charged-own line d charged h = record {
+    elsewhere = λ q other. none-charged line (begins_after d.roid d.transferred) q (λ own. absurd (other (sym own ∙ charged.sponsor))) (h.elsewhere q other);
+    waiting = λ q. count-charged line (waits d.roid) q (charges_waiting q d.transfer) charged.waits (h.waiting q);
+    awaited = awaited-carried s (with_line line) d d.transfer (λ x at pending none. none-charged line (begins_after d.roid (Some x.ac_date)) d.sponsor (λ own. charged.awaited x at pending) none) h.awaited;
+  }
+
+  pub lines-charged : (line : Line) → IsChargeIn p s r line → HasLines p s → HasLines p (with_line line)
+  lines-charged line charge is =
+      let t : Registry = with_line line in
+      let grows : Grows p p s t = account-grows s r (with_lines (add in_order line)) p (λ a. omega arith) in
+      record {
+        each = λ q. All-from_recursion (IsLineOf p t) (account_of q t).lines
+            (lines-keep s r (with_lines (add in_order line)) (AllByRecursion (IsLineOf p t)) q (λ own all. all-add in_order (IsLineOf p t) line (account_of q s).lines (line-grown p p s t grows line charge.fits) all)
+            (all-weaker (IsLineOf p s) (IsLineOf p t) (line-grown p p s t grows) (account_of q s).lines (recursion_from_All (IsLineOf p s) (account_of q s).lines (is.each q))));
+        domains = λ name d at. ⊎_elim (λ off. charged-off line d off (is.domains name d at)) (λ own. charged-own line d own (is.domains name d at)) (charge.domains name d at);
+      }
+
+-- ---- what is given back
+
+-- begins when it did
+pub refund-begins : (b : Bool) (moment : ℕ) (roid : Roid) (last : Option ℕ) (l : Line)
+    → begins_after roid last (cond b (record l { refunded = Some moment }) l) ≡ begins_after roid last l
+refund-begins true moment roid last l = refl
+refund-begins false moment roid last l = refl
+
+pub refund-line : (b : Bool) (p : PolicyRules) (s : Registry) (moment : ℕ) → moment ≤ s.clock → (l : Line)
+    → IsLineOf p s l → IsLineOf p s (cond b (record l { refunded = Some moment }) l)
+refund-line true p s moment come l h =
+    record { roid = h.roid; recorded = h.recorded; started = h.started; refunded = come }
+refund-line false p s moment come l h = h
+
+-- by a deletion
+module _ (p : PolicyRules) (x : RunningRefund) where
+  abbrev back : Line → Line
+  back = refunded_by p x
+
+  -- what waits for a transfer isn't given back
+  refund-waits : (roid : Roid) (l : Line) → waits roid (back l) ≡ waits roid l
+  refund-waits roid l = by l.started
+    where
+      begun : (started : ℕ) (b : Bool) → (let m : Line = record l { started = Some started } in waits roid (cond b (record m { refunded = Some x.moment }) m)) ≡ (let m : Line = record l { started = Some started } in waits roid m)
+      begun started true = and-false _ false refl ∙ sym (and-false (is_for_transfer roid l) false refl)
+      begun started false = refl
+
+      by : (started : Option ℕ) → (let m : Line = record l { started = started } in waits roid (back m)) ≡ (let m : Line = record l { started = started } in waits roid m)
+      by None =
+          let m : Line = record l { started = None } in
+          let none : runs p x.moment x.roid x.transferred m ≡ false = and-false (is_on x.roid l) _ (and-false (not (is_some l.refunded)) false refl) in
+          ap (λ (b : Bool). waits roid (cond b (record m { refunded = Some x.moment }) m)) none
+      by (Some started) = begun started (runs p x.moment x.roid x.transferred (let m : Line = record l { started = Some started } in m))
+
+  module _ (s : Registry) (r : ℕ) where
+    abbrev refunded : Registry
+    refunded = with_account r (with_lines (remade in_order back)) s
+
+    refunded-on : (d : Domain) → HasLinesOn s d → HasLinesOn refunded d
+    refunded-on d = on-carried s refunded d
+        (λ last q. lines-keep s r (with_lines (remade in_order back)) (λ ls. list_any (begins_after d.roid last) ls ≡ false) q
+        (λ own h. none-remade in_order (begins_after d.roid last) (begins_after d.roid last) back
+        (λ l e. refund-begins (runs p x.moment x.roid x.transferred l) x.moment d.roid last l ∙ e)
+        (account_of q s).lines h))
+        (λ q n. lines-keep s r (with_lines (remade in_order back)) (λ ls. count (waits d.roid) ls ≡ n) q (λ own h. count-remade in_order (waits d.roid) back (refund-waits d.roid) (account_of q s).lines ∙ h))
+
+    pub lines-refunded : x.moment ≤ s.clock → HasLines p s → HasLines p (with_account r (with_lines (remade in_order (refunded_by p x))) s)
+    lines-refunded come is =
+        let grows : Grows p p s refunded = account-grows s r (with_lines (remade in_order back)) p (λ a. omega arith) in
+        record {
+          each = λ q. All-from_recursion (IsLineOf p refunded) (account_of q refunded).lines
+              (lines-keep s r (with_lines (remade in_order back)) (AllByRecursion (IsLineOf p refunded)) q
+              (λ own all. all-remade in_order (IsLineOf p refunded) (IsLineOf p refunded) back
+              (λ l. refund-line (runs p x.moment x.roid x.transferred l) p refunded x.moment come l)
+              (account_of q s).lines all)
+              (all-weaker (IsLineOf p s) (IsLineOf p refunded) (line-grown p p s refunded grows) (account_of q s).lines (recursion_from_All (IsLineOf p s) (account_of q s).lines (is.each q))));
+          domains = λ name d at. refunded-on d (is.domains name d at);
+        }
+
+-- ---- each change
+
+-- what is charged or given back to an account fits the domains that are there, and the clock
+abbrev pub FitsAccount : PolicyRules → ℕ → AccountChange → Registry → Type 0
+FitsAccount p r (Charge line) s = IsChargeIn p s r line
+FitsAccount p r (RefundRunning x) s = x.moment ≤ s.clock
+FitsAccount p r (RefundTransfer x) s = ⊥
+FitsAccount p r (Lapse what) s = ⊥
+FitsAccount p r _ s = Unit {0}
+
+-- a domain that is put has the lines that it is to have, and no time passes
+abbrev pub FitsLines : PolicyRules → Change → Registry → Type 0
+FitsLines p (MoveClock t) s = ⊥
+FitsLines p (PutDomain d) s = HasLinesOn s d
+FitsLines p (LapseContact name left) s = ⊥
+FitsLines p (LapseDomain name left) s = ⊥
+FitsLines p (Post r what) s = FitsAccount p r what s
+FitsLines p _ s = Unit {0}
+
+lines-account : (p : PolicyRules) (r : ℕ) (what : AccountChange) (s : Registry) → FitsAccount p r what s → HasLines p s → HasLines p (changed p (Post r what) s)
+lines-account p r (Charge line) s fits is = lines-charged p s r line fits is
+lines-account p r (RefundRunning x) s fits is = lines-refunded p x s r fits is
+lines-account p r (RefundTransfer x) s fits is = absurd fits
+lines-account p r (Lapse what) s fits is = absurd fits
+lines-account p r TakeSerial s fits is = lines-counted p s r (account_changed p TakeSerial) (λ a. refl) serial-rises is
+lines-account p r what s fits is = lines-counted p s r (account_changed p what) (λ a. refl) (λ a. omega arith) is
+
+-- objects change, and neither the clock nor an account does
+lines-objects : (p : PolicyRules) (s t : Registry) → t.clock ≡ s.clock → t.accounts ≡ s.accounts → ((name : List ℕ) (d : Domain) → get t.domains name ≡ Some d → HasLinesOn s d) → HasLines p s → HasLines p t
+lines-objects p s t clock accounts on is = lines-domains p p s t
+    (record { zone = refl; place = λ r place. place; clock = omega (arith, clock); serial = λ r. omega (arith, ap (λ m. (unwrap_or (get m r) empty_account).serial) accounts) })
+    (λ r. ap (λ m. (unwrap_or (get m r) empty_account).lines) accounts) on is
+
+lines-changed : (p : PolicyRules) (change : Change) (s : Registry) → FitsLines p change s → HasLines p s → HasLines p (changed p change s)
+lines-changed p (MoveClock t) s fits is = absurd fits
+lines-changed p (OpenAccount r) s fits is = lines-counted p s r itself (λ a. refl) (λ a. omega arith) is
+lines-changed p (PutDomain d) s fits is = lines-objects p s _ refl refl (at-put (λ n. HasLinesOn s) s.domains d.name d fits is.domains) is
+lines-changed p (DropDomain dropped) s fits is = lines-objects p s _ refl refl (λ name e at. is.domains name e (drop-cases s.domains dropped name e at).1) is
+lines-changed p (RenameHost old h) s fits is = cond_both (may_rename s.hosts old h.name) (host_renamed old h s) s (HasLines p)
+    (λ may. lines-objects p s (host_renamed old h s) refl refl (λ name e at.
+    let was = remade-cases (with_host_renamed old h.name) s.domains name e at in
+    subst (HasLinesOn s) was.2 (on-as-before s was.0 (with_host_renamed old h.name was.0) (as-before refl refl refl refl refl) (is.domains name was.0 was.1))) is)
+    (λ else. is)
+lines-changed p (LapseContact name left) s fits is = absurd fits
+lines-changed p (LapseDomain name left) s fits is = absurd fits
+lines-changed p (Post r what) s fits is = lines-account p r what s fits is
+lines-changed p _ s fits is = lines-objects p s _ refl refl is.domains is
+
+-- each of the changes fits when its turn comes
+abbrev pub AllFitLines : PolicyRules → List Change → Registry → Type 0
+AllFitLines p changes s = AllFit p (FitsLines p) changes s
+
+pub lines-changed_all : (p : PolicyRules) (changes : List Change) (s : Registry) → AllFitLines p changes s → HasLines p s → HasLines p (changed_all p changes s)
+lines-changed_all p = all-kept p (FitsLines p) (HasLines p) (lines-changed p)

@@ -1,0 +1,264 @@
+-- Lists of texts that stay ordered sets, and how many items they have: in order, amended, and with one renamed.
+use Rattle.std.proofs.Common.{◌≡◌, ℕ, Bool, true, false, cond, not, ◌||◌, List, [], ◌∷◌, ◌++◌, map, filter, fold, refl, sym, ap, subst, ◌∙◌}
+use Rattle.std.proofs.Common.{◌+◌, ◌≤◌, nat_lt, length, length-append, arith}
+use Rattle.std.specs.List.Sorted.{IsStrictlySortedBy}
+use Rattle.std.specs.declared.cmp.Ordering.{Ordering}
+use Rattle.std.specs.declared.cmp.Ordering.TheVariants.{Less, Equal, Greater}
+use Rattle.decisions.proofs.Words.{AllByRecursion, amended, bytes_decides, bytes_eq, has_name, list_any, nat_cmp, nat_list_cmp_total, precedes}
+use Rattle.decisions.proofs.Words.{renamed, slice_cmp, add, adds_what_is_there, and_right, any-add, cond_both}
+use Rattle.decisions.proofs.Words.{false_from_ne_true, has_twice, is_among, is_le, is_over, IsOrderedSet, itself, kept}
+use Rattle.decisions.proofs.Words.{length-map, list_any-append, names_apart, nat_tests, or_from, or_parts, ordering_reverse}
+use Rattle.objects.specs.Links.{in_order}
+use Rattle.decisions.proofs.LinkLemmas.{has_name-filter}
+
+abbrev Text : Type 0
+Text = List ℕ
+
+abbrev cmp : Text → Text → Ordering
+cmp = slice_cmp nat_cmp
+
+abbrev le : Text → Text → Bool
+le = precedes (slice_cmp nat_cmp)
+
+abbrev Below : Text → List Text → Type 0
+Below x ys = AllByRecursion (λ y. cmp x y ≡ Less) ys
+
+-- ---- one text before another
+
+itself-eq : (x : Text) → bytes_eq x x ≡ true
+itself-eq x = (bytes_decides x x).1 refl
+
+-- the first of two different ones
+first-of : (x y : Text) → le x y ≡ true → bytes_eq y x ≡ false → cmp x y ≡ Less
+first-of x y e other = by (cmp x y) refl e
+  where
+    by : (o : Ordering) → cmp x y ≡ o → is_le o ≡ true → cmp x y ≡ Less
+    by Less is e = is
+    by Equal is e =
+        let same : x ≡ y = names_apart x y is in
+        absurd (let never : true ≡ false = sym (itself-eq x) ∙ ap (λ (z : Text). bytes_eq z x) same ∙ other in cc)
+    by Greater is e = absurd (let never : false ≡ true = e in cc)
+
+turned : (x y : Text) → le x y ≡ false → cmp y x ≡ Less
+turned x y e = nat_list_cmp_total.antisymm y x ∙ by (cmp x y) e
+  where
+    by : (o : Ordering) → is_le o ≡ false → ordering_reverse o ≡ Less
+    by Greater e = refl
+    by _ e = absurd (let never : true ≡ false = e in cc)
+
+-- what comes later is another
+later-other : (x y : Text) → cmp x y ≡ Less → bytes_eq y x ≡ false
+later-other x y less = false_from_ne_true (bytes_eq y x) (λ e.
+    let same : y ≡ x = (bytes_decides y x).0 e in
+    let back : cmp x x ≡ Less = subst (λ (z : Text). cmp x z ≡ Less) same less in
+    let round : cmp x x ≡ Greater = nat_list_cmp_total.antisymm x x ∙ ap ordering_reverse back in
+    let never : is_le (cmp x x) ≡ true = ap is_le back in
+    let no : true ≡ false = sym never ∙ ap is_le round in cc)
+
+-- what differs from another, the other differs from
+other-turned : (x y : Text) → bytes_eq y x ≡ false → bytes_eq x y ≡ false
+other-turned x y other = false_from_ne_true (bytes_eq x y) (λ e.
+    let same : x ≡ y = (bytes_decides x y).0 e in
+    let never : true ≡ false = sym (itself-eq y) ∙ ap (λ (z : Text). bytes_eq y z) (sym same) ∙ other in cc)
+
+-- ---- an item is put where it belongs
+
+below-add : (x y : Text) (ys : List Text) → cmp y x ≡ Less → Below y ys → Below y (add le x ys)
+unfolding add
+below-add x y [] less below = (less, tt)
+below-add x y (z ∷ zs) less below =
+    cond_both (le x z) (x ∷ z ∷ zs) (z ∷ add le x zs) (Below y) (λ e. (less, below))
+    (λ e. (below.0, below-add x y zs less below.1))
+
+below-trans : (x y : Text) (zs : List Text) → cmp x y ≡ Less → Below y zs → Below x zs
+below-trans x y [] less below = tt
+below-trans x y (z ∷ zs) less below = (nat_list_cmp_total.trans x y z less below.0, below-trans x y zs less below.1)
+
+-- that isn't there
+pub set-add : (x : Text) (ys : List Text) → has_name ys x ≡ false → IsOrderedSet ys → IsOrderedSet (add le x ys)
+unfolding add IsStrictlySortedBy
+set-add x [] new h = (tt, tt)
+set-add x (y ∷ ys) new h =
+    let parts = or_parts (bytes_eq y x) (has_name ys x) new in
+    cond_both (le x y) (x ∷ y ∷ ys) (y ∷ add le x ys) IsOrderedSet
+    (λ e. let less : cmp x y ≡ Less = first-of x y e parts.0 in ((less, below-trans x y ys less h.0), h))
+    (λ e. (below-add x y ys (turned x y e) h.0, set-add x ys parts.1 h.1))
+
+-- ---- items that differ, in order
+
+-- none of the items is in the list
+abbrev AreNew : List Text → List Text → Type 0
+AreNew bag items = list_any (has_name bag) items ≡ false
+
+-- with one item more in the list, that isn't among the items
+new-add : (x : Text) (bag items : List Text) → is_among itself items x ≡ false → AreNew bag items → AreNew (add le x bag) items
+new-add x bag [] apart new = refl
+new-add x bag (y ∷ ys) apart new =
+    let others = or_parts (bytes_eq y x) (is_among itself ys x) apart in
+    let news = or_parts (has_name bag y) (list_any (has_name bag) ys) new in
+    or_from (has_name (add le x bag) y) (list_any (has_name (add le x bag)) ys)
+    (any-add le (λ other. bytes_eq other y) x bag ∙ or_from (bytes_eq x y) (has_name bag y) (other-turned x y others.0) news.0)
+    (new-add x bag ys others.1 news.1)
+
+set-fold : (items bag : List Text) → has_twice itself items ≡ false → AreNew bag items → IsOrderedSet bag → IsOrderedSet (fold (λ bag item. add le item bag) bag items)
+set-fold [] bag once new h = h
+set-fold (x ∷ xs) bag once new h =
+    let others = or_parts (is_among itself xs x) (has_twice itself xs) once in
+    let news = or_parts (has_name bag x) (list_any (has_name bag) xs) new in
+    set-fold xs (add le x bag) others.1 (new-add x bag xs others.0 news.1) (set-add x bag news.0 h)
+
+none-new : (items : List Text) → AreNew [] items
+none-new [] = refl
+none-new (x ∷ xs) = none-new xs
+
+-- a list that names nothing twice, in order
+pub set-in_order : (items : List Text) → has_twice itself items ≡ false → IsOrderedSet (in_order items)
+unfolding IsStrictlySortedBy
+set-in_order items once = set-fold items [] once (none-new items) tt
+
+-- ---- lists of a command
+
+among-map : {A : Type 0} (text : A → Text) (items : List A) (name : Text) → is_among itself (map text items) name ≡ is_among text items name
+among-map text [] name = refl
+among-map text (x ∷ xs) name = ap (λ (b : Bool). bytes_eq (text x) name || b) (among-map text xs name)
+
+twice-map : {A : Type 0} (text : A → Text) (items : List A) → has_twice itself (map text items) ≡ has_twice text items
+twice-map text [] = refl
+twice-map text (x ∷ xs) = λ i. among-map text xs (text x) i || twice-map text xs i
+
+pub set-texts : {A : Type 0} (text : A → Text) (items : List A) → has_twice text items ≡ false → IsOrderedSet (in_order (map text items))
+set-texts text items once = set-in_order (map text items) (twice-map text items ∙ once)
+
+-- ---- a set names nothing twice
+
+among-below : (x : Text) (ys : List Text) → Below x ys → is_among itself ys x ≡ false
+among-below x [] below = refl
+among-below x (y ∷ ys) below = or_from (bytes_eq y x) (is_among itself ys x) (later-other x y below.0) (among-below x ys below.1)
+
+twice-set : (xs : List Text) → IsOrderedSet xs → has_twice itself xs ≡ false
+unfolding IsStrictlySortedBy
+twice-set [] h = refl
+twice-set (x ∷ xs) h = or_from (is_among itself xs x) (has_twice itself xs) (among-below x xs h.0) (twice-set xs h.1)
+
+below-filter : (test : Text → Bool) (x : Text) (ys : List Text) → Below x ys → Below x (filter test ys)
+below-filter test x [] below = tt
+below-filter test x (y ∷ ys) below =
+    let rest = below-filter test x ys below.1 in
+    cond_both (test y) (y ∷ filter test ys) (filter test ys) (Below x) (λ e. (below.0, rest)) (λ e. rest)
+
+pub set-filter : (test : Text → Bool) (xs : List Text) → IsOrderedSet xs → IsOrderedSet (filter test xs)
+unfolding IsStrictlySortedBy
+set-filter test [] h = tt
+set-filter test (x ∷ xs) h =
+    let rest = set-filter test xs h.1 in
+    cond_both (test x) (x ∷ filter test xs) (filter test xs) IsOrderedSet (λ e. (below-filter test x xs h.0, rest))
+    (λ e. rest)
+
+-- ---- amended lists
+
+twice-append : (xs ys : List Text) → has_twice itself xs ≡ false → has_twice itself ys ≡ false → AreNew xs ys → has_twice itself (xs ++ ys) ≡ false
+twice-append [] ys once twice new = twice
+twice-append (x ∷ xs) ys once twice new =
+    let others = or_parts (is_among itself xs x) (has_twice itself xs) once in
+    or_from (is_among itself (xs ++ ys) x) (has_twice itself (xs ++ ys))
+    (list_any-append (λ other. bytes_eq other x) xs ys ∙ or_from (is_among itself xs x) (is_among itself ys x) others.0 (apart ys new))
+    (twice-append xs ys others.1 twice (fewer ys new))
+  where
+    apart : (zs : List Text) → AreNew (x ∷ xs) zs → is_among itself zs x ≡ false
+    apart [] new = refl
+    apart (z ∷ zs) new =
+        let parts = or_parts (has_name (x ∷ xs) z) (list_any (has_name (x ∷ xs)) zs) new in
+        or_from (bytes_eq z x) (is_among itself zs x) (other-turned z x (or_parts (bytes_eq x z) (has_name xs z) parts.0).0) (apart zs parts.1)
+
+    fewer : (zs : List Text) → AreNew (x ∷ xs) zs → AreNew xs zs
+    fewer [] new = refl
+    fewer (z ∷ zs) new =
+        let parts = or_parts (has_name (x ∷ xs) z) (list_any (has_name (x ∷ xs)) zs) new in
+        or_from (has_name xs z) (list_any (has_name xs) zs) (or_parts (bytes_eq x z) (has_name xs z) parts.0).1 (fewer zs parts.1)
+
+-- what wasn't there isn't left
+new-kept : {A : Type 0} (text : A → Text) (test : Text → Bool) (old : List Text) (added : List A) → adds_what_is_there text old added ≡ false → AreNew (filter test old) (map text added)
+new-kept text test old [] new = refl
+new-kept text test old (x ∷ xs) new =
+    let parts = or_parts (has_name old (text x)) (adds_what_is_there text old xs) new in
+    or_from (has_name (filter test old) (text x)) (list_any (has_name (filter test old)) (map text xs))
+    (has_name-filter test old (text x) ∙ and_right (test (text x)) _ parts.0) (new-kept text test old xs parts.1)
+
+-- a set stays one, where what is added differs and wasn't there
+pub set-amended : {A : Type 0} (text : A → Text) (old : List Text) (removed added : List A) → has_twice text added ≡ false → adds_what_is_there text old added ≡ false → IsOrderedSet old → IsOrderedSet (amended text old removed added)
+set-amended text old removed added once new h =
+    let left : List Text = kept text old removed in
+    set-in_order (left ++ map text added)
+    (twice-append left (map text added) (twice-set left (set-filter (λ name. not (is_among text removed name)) old h)) (twice-map text added ∙ once) (new-kept text (λ name. not (is_among text removed name)) old added new))
+
+-- ---- a host under a new name
+
+absent-filter : (test : Text → Bool) (names : List Text) (name : Text) → has_name names name ≡ false → has_name (filter test names) name ≡ false
+absent-filter test names name e = has_name-filter test names name ∙ and_right (test name) _ e
+
+-- that wasn't there
+pub set-renamed : (old new : Text) (hosts : List Text) → has_name hosts new ≡ false → IsOrderedSet hosts → IsOrderedSet (renamed old new hosts)
+set-renamed old new hosts absent h =
+    let others : List Text = filter (λ host. not (bytes_eq host old)) hosts in
+    cond_both (has_name hosts old) (add le new others) hosts IsOrderedSet
+    (λ e. set-add new others (absent-filter (λ host. not (bytes_eq host old)) hosts new absent) (set-filter (λ host. not (bytes_eq host old)) hosts h)) (λ e. h)
+
+-- ---- how many items such lists have: in order
+
+length-add : (x : Text) (ys : List Text) → length (add le x ys) ≡ length ys + 1
+unfolding add
+length-add x [] = refl
+length-add x (y ∷ ys) =
+    let more : length (add le x ys) ≡ length ys + 1 = length-add x ys in
+    cond_both (le x y) (x ∷ y ∷ ys) (y ∷ add le x ys) (λ zs. length zs ≡ length (y ∷ ys) + 1) (λ e. omega arith)
+    (λ e. omega (arith, more))
+
+length-fold : (items bag : List Text) → length (fold (λ bag item. add le item bag) bag items) ≡ length items + length bag
+length-fold [] bag = omega arith
+length-fold (x ∷ xs) bag = length-fold xs (add le x bag) ∙ omega (arith, length-add x bag)
+
+pub length-in_order : (items : List Text) → length (in_order items) ≡ length items
+length-in_order items = length-fold items [] ∙ omega arith
+
+-- ---- of lists of a command
+
+pub within-texts : {A : Type 0} (text : A → Text) (most : ℕ) (items : List A) → nat_lt most (length items) ≡ false → length (in_order (map text items)) ≤ most
+within-texts text most items fits =
+    let few : length items ≤ most = grind (arith, nat_tests, fits) in
+    omega (arith, few, length-in_order (map text items), length-map items text)
+
+pub within-items : (most : ℕ) (items : List Text) → nat_lt most (length items) ≡ false → length (in_order items) ≤ most
+within-items most items fits =
+    let few : length items ≤ most = grind (arith, nat_tests, fits) in
+    omega (arith, few, length-in_order items)
+
+-- what an update leaves is no more than may be
+pub within-amended : {A : Type 0} (text : A → Text) (most : ℕ) (old : List Text) (removed added : List A) → is_over text most old removed added ≡ false → length (amended text old removed added) ≤ most
+within-amended text most old removed added fits =
+    let few : length (kept text old removed) + length added ≤ most = grind (arith, nat_tests, fits) in
+    omega (arith, few, length-in_order (kept text old removed ++ map text added), length-append (kept text old removed) (map text added), length-map added text)
+
+-- ---- and with a host under a new name
+
+filter-le : (test : Text → Bool) (xs : List Text) → length (filter test xs) ≤ length xs
+filter-le test [] = omega arith
+filter-le test (x ∷ xs) =
+    let rest : length (filter test xs) ≤ length xs = filter-le test xs in
+    cond_both (test x) (x ∷ filter test xs) (filter test xs) (λ ys. length ys ≤ length (x ∷ xs))
+    (λ e. omega (arith, rest)) (λ e. omega (arith, rest))
+
+-- without an item that is there, there is one fewer at least
+one-fewer : (old : Text) (xs : List Text) → has_name xs old ≡ true → length (filter (λ x. not (bytes_eq x old)) xs) + 1 ≤ length xs
+one-fewer old [] there = absurd (let never : false ≡ true = there in cc)
+one-fewer old (x ∷ xs) there = by (bytes_eq x old) (one-fewer old xs) there
+  where
+    by : (b : Bool) → (has_name xs old ≡ true → length (filter (λ x. not (bytes_eq x old)) xs) + 1 ≤ length xs) → (b || has_name xs old) ≡ true
+        → length (cond (not b) (x ∷ filter (λ x. not (bytes_eq x old)) xs) (filter (λ x. not (bytes_eq x old)) xs)) + 1 ≤ length (x ∷ xs)
+    by true others e = omega (arith, filter-le (λ x. not (bytes_eq x old)) xs)
+    by false others e = omega (arith, others e)
+
+pub within-renamed : (old new : Text) (hosts : List Text) (most : ℕ) → length hosts ≤ most → length (renamed old new hosts) ≤ most
+within-renamed old new hosts most few =
+    let others : List Text = filter (λ host. not (bytes_eq host old)) hosts in
+    cond_both (has_name hosts old) (add le new others) hosts (λ names. length names ≤ most)
+    (λ e. omega (arith, few, length-add new others, one-fewer old hosts e)) (λ e. few)

@@ -1,0 +1,157 @@
+-- Each step of the rules, and time alone, keep a registry well formed, with its clock, its objects, its lines, its messages and its shapes.
+use Rattle.std.proofs.Common.{cond, ℕ, ◌≤◌, ◌<◌, max, sym, subst, arith, List, [], ◌∷◌, ◌≡◌, refl}
+use Rattle.std.proofs.Common.{◌∙◌}
+use Rattle.decisions.proofs.Words.{Host, host_renamed, may_rename, RenameHost}
+use Rattle.decisions.proofs.Words.{account_of, All, Command, decision, effect, IsRefundable, IsRegistrar, IsRegistry, IsSettled, IsSound}
+use Rattle.decisions.proofs.Words.{lapsed, last_clock, now, Order, order_decision, order_effect, PolicyRules, Registry}
+use Rattle.decisions.proofs.Words.{Account, AccountChange, Ack, bytes_eq, Change, changed, changed_all, entered, Post}
+use Rattle.decisions.proofs.Words.{Lapse, lapse_contact, LapseEntry, Line, Notice, OpenAccount, posted, Posting, postings}
+use Rattle.decisions.proofs.Words.{Renewal, Notify, with_account, HasLines, MoveClock, account_changed, accounts_at}
+use Rattle.decisions.proofs.Words.{All-from_recursion, All-insert_key, All-tail, all-weaker, CanBeAsked, cond_both, fold}
+use Rattle.decisions.proofs.Words.{HasCome, HasMessages, lapse, lapse_registry, lapses-on, nat_tests, numbered}
+use Rattle.decisions.proofs.Words.{recursion_from_All, registries-meet-standards, saturating_next}
+use Rattle.decisions.specs.Changes.{itself}
+use Rattle.decisions.proofs.Lemmas.{account-keep, all-kept, FitsLines, kept-lapse, Meets}
+use Rattle.decisions.proofs.LineCommandLemmas.{lines-effect, lines-order, fits-order}
+use Rattle.decisions.proofs.LineTimeLemmas.{lines-lapse}
+use Rattle.decisions.proofs.MoneyCommandLemmas.{command-lawful, order-lawful, AllFitMoney, FitsAccount, FitsMoney}
+use Rattle.decisions.proofs.ShapeCommandLemmas.{shapes-effect, shapes-order, shapes-lapse}
+use Rattle.decisions.proofs.WellFormedLemmas.{kept-effect, kept-order}
+use Rattle.decisions.proofs.PostingLemmas.{AllPosted, contact-posted, domain-posted, due-is, postings-posted}
+use Rattle.decisions.proofs.MeetingLemmas.{meets-decided}
+use Rattle.accounts.specs.declared.message.Message.{Message}
+use Rattle.accounts.specs.Messages.{message_cmp, message_id}
+use Rattle.accounts.specs.Queue.{acked}
+
+-- ---- commands and orders leave the clock where it stands
+
+renamed-clock : (old : List ℕ) (h : Host) (s : Registry) → (cond (may_rename s.hosts old h.name) (host_renamed old h s) s).clock ≡ s.clock
+renamed-clock old h s = cond_both (may_rename s.hosts old h.name) (host_renamed old h s) s (λ (t : Registry). t.clock ≡ s.clock) (λ may. refl) (λ else. refl)
+
+-- what a registrar's view is told of its changes
+clock-met : (p : PolicyRules) (r : ℕ) (change : Change) (s : Registry) → Meets p r change s → (changed p change s).clock ≡ s.clock
+clock-met p r (MoveClock t) s meets = absurd meets
+clock-met p r (RenameHost old h) s meets = renamed-clock old h s
+clock-met p r _ s meets = refl
+
+pub clock-effect : (p : PolicyRules) → IsSound p → (r : ℕ) (c : Command) (s : Registry) → IsRegistry p s → (effect p r c s).clock ≡ s.clock
+clock-effect p sound r c s is = all-kept p (Meets p r) (λ t. t.clock ≡ s.clock) (λ change t meets same. clock-met p r change t meets ∙ same)
+    (decision p r c s).changes s (meets-decided p sound r c s (registries-meet-standards p s is)) refl
+
+-- what an order changes fits the lines
+clock-fit : (p : PolicyRules) (change : Change) (s : Registry) → FitsLines p change s → (changed p change s).clock ≡ s.clock
+clock-fit p (MoveClock t) s fits = absurd fits
+clock-fit p (RenameHost old h) s fits = renamed-clock old h s
+clock-fit p _ s fits = refl
+
+pub clock-order : (p : PolicyRules) (order : Order) (s : Registry) → HasLines p s → (order_effect p order s).clock ≡ s.clock
+clock-order p order s has = all-kept p (FitsLines p) (λ t. t.clock ≡ s.clock) (λ change t fits same. clock-fit p change t fits ∙ same)
+    (order_decision p order s).changes s (fits-order p order s has) refl
+
+-- ---- no message is of a moment that hasn't come: none is told ahead of the clock, by a command or by time
+
+-- ---- changes that tell of what has come
+
+acked-told : (t : ℕ) (id : List ℕ) (queue : List Message) → All (HasCome t) queue → All (HasCome t) (acked id queue)
+acked-told t id [] h = h
+acked-told t id (m ∷ ms) h = cond_both (bytes_eq (message_id m) id) ms (m ∷ ms) (All (HasCome t))
+    (λ e. All-tail (HasCome t) m ms h) (λ e. h)
+
+module _ (L : ℕ → ℕ → Line → Type 0) (u : ℕ) (p : PolicyRules) (q : ℕ) where
+  abbrev Told : List Message → Type 0
+  Told queue = All (HasCome u) queue
+
+  own-told : (what : AccountChange) (a : Account) → FitsAccount L u p q what a.lines → Told a.queue → Told (account_changed p what a).queue
+  own-told (Lapse (Renewal x)) a fits h = absurd fits
+  own-told (Lapse (Notice m)) a fits h = All-insert_key message_cmp m (HasCome u) a.queue h fits
+  own-told (Notify n) a fits h = All-insert_key message_cmp (numbered (saturating_next a.messages) n) (HasCome u) a.queue h fits
+  own-told (Ack id) a fits h = acked-told u id a.queue h
+  own-told _ a fits h = h
+
+  change-told : (change : Change) (s : Registry) → FitsMoney L u p change s → Told (account_of q s).queue → Told (account_of q (changed p change s)).queue
+  change-told (Post r what) s fits h = account-keep (λ (a : Account). Told a.queue) s r (account_changed p what) q
+      (λ own h. own-told what (account_of q s) (subst (λ (n : ℕ). FitsAccount L u p n what (account_of n s).lines) own fits) h) h
+  change-told (OpenAccount r) s fits h = account-keep (λ (a : Account). Told a.queue) s r itself q (λ own h. h) h
+  change-told (RenameHost old host) s fits h = cond_both (may_rename s.hosts old host.name) (host_renamed old host s) s (λ (t : Registry). Told (account_of q t).queue) (λ may. h) (λ else. h)
+  change-told _ s fits h = h
+
+  pub changes-told : (changes : List Change) (s : Registry) → AllFitMoney L u p changes s → Told (account_of q s).queue → Told (account_of q (changed_all p changes s)).queue
+  changes-told = all-kept p (FitsMoney L u p) (λ s. Told (account_of q s).queue) change-told
+
+-- ---- what time posts
+
+-- what is told has come
+abbrev HasComeIn : ℕ → LapseEntry → Type 0
+HasComeIn t (Notice m) = HasCome t m
+HasComeIn t _ = Unit {0}
+
+abbrev HasTold : ℕ → Posting → Type 0
+HasTold t e = HasComeIn t e.what
+
+postings-come : (p : PolicyRules) (t : ℕ) (s : Registry) → AllPosted (HasTold t) (postings (λ name. lapse_contact t) (λ name. lapse p t) s)
+postings-come p t s = postings-posted p t (HasTold t) s
+    (λ name c at. contact-posted p t (HasTold t) c (λ x due. let come = (due-is t c.transfer x due).1 in (come, (come, tt))))
+    (λ name d at. domain-posted p t (HasTold t) d (λ k come. (tt, (come, tt)))
+    (λ x due. let come = (due-is t d.transfer x due).1 in ((tt, (come, (come, tt))), λ k come. (tt, (come, tt))))
+    (λ x past. grind (arith, nat_tests, past)))
+
+entered-told : (t : ℕ) (what : LapseEntry) (a : Account) → HasComeIn t what → All (HasCome t) a.queue → All (HasCome t) (entered what a).queue
+entered-told t (Notice m) a come h = All-insert_key message_cmp m (HasCome t) a.queue h come
+entered-told t _ a come h = h
+
+posted-told : (t r : ℕ) (es : List Posting) → AllPosted (HasTold t) es → (s : Registry) → All (HasCome t) (account_of r s).queue → All (HasCome t) (account_of r (record s { accounts = fold posted s.accounts es })).queue
+posted-told t r [] come s h = h
+posted-told t r (e ∷ es) come s h = posted-told t r es come.1 (with_account e.registrar (entered e.what) s)
+    (account-keep (λ (a : Account). All (HasCome t) a.queue) s e.registrar (entered e.what) r (λ own h. entered-told t e.what (account_of r s) come.0 h) h)
+
+-- time alone
+pub messages-lapse : (p : PolicyRules) (t : ℕ) (s : Registry) → s.clock ≤ t → HasMessages s → HasMessages (lapse_registry p t s)
+unfolding accounts_at
+messages-lapse p t s le has r = posted-told t r (postings (λ name. lapse_contact t) (λ name. lapse p t) s) (postings-come p t s) s
+    (All-from_recursion (HasCome t) (account_of r s).queue (all-weaker (HasCome s.clock) (HasCome t) (λ m come. omega (arith, come, le)) (account_of r s).queue (recursion_from_All (HasCome s.clock) (account_of r s).queue (has r))))
+
+-- ---- the whole registry, as time passes and in each step
+
+pub registry-lapse : (p : PolicyRules) (t : ℕ) (s : Registry) → s.clock ≤ t → t ≤ last_clock → IsRegistry p s
+    → IsRegistry p (lapse_registry p t s)
+registry-lapse p t s le early is = record { clock = early; objects = kept-lapse p t s le is.objects; lines = lines-lapse p t s le is.objects is.lines; messages = messages-lapse p t s le is.messages; shapes = shapes-lapse p t s early is.shapes }
+
+-- what is due by its own clock is done
+pub registry-now : (p : PolicyRules) (s : Registry) → IsRegistry p s → IsRegistry p (now p s)
+registry-now p s is = registry-lapse p s.clock s (omega arith) is.clock is
+
+-- time passes; it is enough that what is kept is well formed by its own clock
+pub registry-lapsed : (p : PolicyRules) (moment : ℕ) (s : Registry) → moment ≤ last_clock → IsRegistry p (now p s) → IsRegistry p (lapsed p moment s)
+registry-lapsed p moment s early is =
+    let t : ℕ = max moment s.clock in
+    subst (IsRegistry p) (lapses-on p s.clock t (omega arith) s) (registry-lapse p t (now p s) (omega arith) (omega (arith, early, is.clock)) is)
+
+-- what is told is told at the clock, which no command and no order moves
+messages-effect : (p : PolicyRules) → IsSound p → (r : ℕ) (c : Command) (s : Registry) → IsRegistry p s → HasMessages (effect p r c s)
+messages-effect p sound r c s is = subst (λ (t : ℕ). (q : ℕ) → All (HasCome t) (account_of q (effect p r c s)).queue) (sym (clock-effect p sound r c s is))
+    (λ q. changes-told (λ k. IsRefundable p k s (effect p r c s)) s.clock p q (decision p r c s).changes s (tt, command-lawful p r c s) (is.messages q))
+
+messages-order : (p : PolicyRules) (order : Order) (s : Registry) → IsRegistry p s → HasMessages (order_effect p order s)
+messages-order p order s is = subst (λ (t : ℕ). (q : ℕ) → All (HasCome t) (account_of q (order_effect p order s)).queue) (sym (clock-order p order s is.lines))
+    (λ q. changes-told (λ k. IsRefundable p k s (order_effect p order s)) s.clock p q (order_decision p order s).changes s (order-lawful p order s) (is.messages q))
+
+-- A registrar's command, where nothing is due, but that a serial at its greatest would be given twice. It
+-- asks for ten years at most, as its type keeps it.
+pub registry-effect : (p : PolicyRules) → IsSound p → (r : ℕ) (c : Command) (s : Registry) → IsRegistrar p r → IsRegistry p s → IsSettled p s → (account_of r s).serial < 4_611_686_018_427_387_904 → CanBeAsked c → IsRegistry p (effect p r c s)
+registry-effect p sound r c s place is settled small few = record {
+  clock = omega (arith, is.clock, clock-effect p sound r c s is);
+  objects = kept-effect p sound r c s place is.objects is.clock small;
+  lines = lines-effect p sound r c s place is settled small;
+  messages = messages-effect p sound r c s is;
+  shapes = shapes-effect p r c s is few;
+}
+
+-- an order of the operator
+pub registry-order : (p : PolicyRules) (order : Order) (s : Registry) → IsRegistry p s → IsRegistry p (order_effect p order s)
+registry-order p order s is = record {
+  clock = omega (arith, is.clock, clock-order p order s is.lines);
+  objects = kept-order p order s is.objects;
+  lines = lines-order p order s is.lines;
+  messages = messages-order p order s is;
+  shapes = shapes-order p order s is.shapes;
+}

@@ -1,0 +1,8 @@
+pub mod Changes
+pub mod Lapsing
+pub mod Transfers
+pub mod Decisions
+pub mod Steps
+pub mod Orders
+pub mod Isolation
+pub mod Askable

@@ -1,5 +1,0 @@
-use Rattle.privacy.proofs.RunLemmas.{alike-lists-tell-the-same, calls-are-steps-of-two}
-use Rattle.privacy.proofs.laws.alike_lists_tell_the_same.Goals as goal
-
-pub returns : goal.returns
-returns c = record { calls = calls-are-steps-of-two; lists = alike-lists-tell-the-same }

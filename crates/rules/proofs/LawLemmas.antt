@@ -1,0 +1,156 @@
+-- The laws that a verdict keeps.
+use Rattle.std.proofs.Common.{◌≡◌, ℕ, Bool, true, false, List, Option, Some, None, option_map, find, refl, sym, ap, ◌∙◌, not, ◌&&◌, ◌||◌, is_some, option_and_then, Result, Ok, Err, IfOk, subst, if◌then◌else◌}
+use Rattle.policy.specs.Rules.{PolicyRules}
+use Rattle.facts.specs.Facts.{domain_seen}
+use Rattle.facts.specs.declared.facts.Facts.{Facts}
+use Rattle.facts.specs.declared.facts.OldestMessage.{OldestMessage}
+use Rattle.lifecycle.specs.Turns.{turns}
+use Rattle.lifecycle.proofs.TurnLaws.{AreTurns, turns-are}
+use Rattle.names.specs.RequestedName.{name_of}
+use Rattle.objects.specs.declared.domain.Domain.{Domain}
+use Rattle.objects.specs.declared.domain.DomainFace.{DomainFace}
+use Rattle.objects.specs.declared.domain.FullDomain.{FullDomain}
+use Rattle.objects.specs.declared.sight.Seen.TheVariants.{Full, TransferParty, Public}
+use Rattle.objects.specs.declared.sight.Seen.{Seen}
+use Rattle.protocol.specs.Codes.{is_accepted}
+use Rattle.protocol.specs.Requests.{asks_of}
+use Rattle.protocol.specs.declared.code.Code.TheVariants.{Completed, CompletedActionPending}
+use Rattle.protocol.specs.declared.code.Code.{Code}
+use Rattle.protocol.specs.declared.command.Action.TheVariants as actions
+use Rattle.protocol.specs.declared.command.Command.TheVariants.{Bad, Asked}
+use Rattle.protocol.specs.declared.command.Command.{Command}
+use Rattle.protocol.specs.declared.command.Request.TheVariants.{DeleteDomain, ReportRestore, TransferContact, TransferDomain, PollRequest}
+use Rattle.protocol.specs.declared.command.Request.{Request}
+use Rattle.protocol.specs.declared.transfer.TransferOp.TheVariants as ops
+use Rattle.protocol.specs.declared.transfer.TransferOp.{TransferOp}
+use Rattle.rules.specs.Causes.{cause_of}
+use Rattle.rules.specs.Charges.{years_charged, years_needed}
+use Rattle.rules.specs.Conditions.{holds, domain_in_full, full_domain}
+use Rattle.rules.specs.Deletion.{goes_at_once}
+use Rattle.rules.specs.Laws.{AnswersLawfully, KeepsLaws, SecretIsRight, Keeps}
+use Rattle.rules.specs.Poll.{code_of_poll}
+use Rattle.rules.specs.Refusals.{code_of, first_refusal}
+use Rattle.rules.specs.Rules.{refusal_of, table_of}
+use Rattle.rules.specs.Transfers.{code_of_transfer}
+use Rattle.rules.specs.Verdicts.{granted, judged, unless_refused, code_granted}
+use Rattle.rules.specs.declared.refusal.Cause.TheVariants.{NamesRefused, Exists, Missing, NotSponsor, WrongSecret, TransferPends, NoTransferPends, StatusProhibits, AssociationProhibits, NotRenewable, NotTransferable, ParametersRefused, LimitReached, BillingFailure}
+use Rattle.rules.specs.declared.refusal.Cause.{Cause}
+use Rattle.rules.specs.declared.rules.Condition.{Condition}
+use Rattle.rules.specs.declared.verdict.Verdict.{Verdict}
+use Rattle.rules.proofs.ActionLemmas.{no-other}
+use Rattle.rules.proofs.BreachLemmas.{breaks}
+use Rattle.rules.proofs.FirstCauseLemmas.{names-kept, nothing-exists, nothing-missing, entitled, secret-right, no-transfer, transfer-there}
+use Rattle.rules.proofs.LaterCauseLemmas.{no-status, no-association, renewable, transferable, parameters-fit, holds-no-more, paid}
+use Rattle.rules.proofs.RowLemmas.{Clear, StandsIn, clear-of-none, clear-before, found, never-accepted}
+
+-- ---- what is granted is accepted
+
+by-certainty : (b : Bool) → is_accepted (if b then Completed else CompletedActionPending) ≡ true
+by-certainty true = refl
+by-certainty false = refl
+
+by-operation : (op : TransferOp) → is_accepted (code_of_transfer op) ≡ true
+by-operation ops.Request = refl
+by-operation ops.Query = refl
+by-operation ops.Approve = refl
+by-operation ops.Reject = refl
+by-operation ops.Cancel = refl
+
+by-message : (oldest : Option OldestMessage) → is_accepted (code_of_poll oldest) ≡ true
+by-message None = refl
+by-message (Some oldest) = refl
+
+granting : (q : Request) (f : Facts) → is_accepted (code_granted q f) ≡ true
+granting (DeleteDomain name) f = by-certainty (goes_at_once (domain_seen f (name_of name)))
+granting (TransferContact name op secret) f = by-operation op
+granting (TransferDomain name op secret) f = by-operation op
+granting PollRequest f = by-message f.queue.oldest
+granting _ f = refl
+
+-- who presents a stranger's wrong secret isn't answered
+not-wronged : (involved right : Bool) (secret : Option (List ℕ)) → (is_some secret ≡ true → (involved || right) ≡ true) → (not involved && (is_some secret && not right)) ≡ true → ⊥
+not-wronged true right secret entitled e = cc
+not-wronged false true None entitled e = cc
+not-wronged false true (Some presented) entitled e = cc
+not-wronged false false None entitled e = cc
+not-wronged false false (Some presented) entitled e = let right : false ≡ true = entitled refl in cc
+
+apart : true ≡ false → ⊥
+apart e = cc
+
+-- ---- the years for which a report charges
+
+-- the years that a domain needs are its turns
+needed-law : (t : ℕ) (seen : Option (Seen FullDomain DomainFace)) (d : Domain) → option_and_then domain_in_full seen ≡ Some d → AreTurns d t (years_needed t seen)
+needed-law t (Some (Full known)) d e = let same : known.domain ≡ d = cc in subst (λ (x : Domain). AreTurns x t (turns known.domain t)) same (turns-are known.domain t)
+needed-law t (Some (TransferParty face transfer)) d e = absurd cc
+needed-law t (Some (Public face)) d e = absurd cc
+needed-law t None d e = absurd cc
+
+turns-law : (t : ℕ) (f : Facts) (q : Request) → (asks_of q).action ≡ actions.ReportRestore → (d : Domain) → full_domain q f ≡ Some d → AreTurns d t (years_charged t q f)
+turns-law t f (ReportRestore name del_time res_time) is d e = needed-law t (domain_seen f (name_of name)) d e
+turns-law t f (TransferContact name op secret) is d e = absurd (no-other op actions.ReportRestore is)
+turns-law t f (TransferDomain name op secret) is d e = absurd (no-other op actions.ReportRestore is)
+turns-law t f _ is d e = absurd (cc)
+
+-- ---- the laws of a verdict
+
+module _ (p : PolicyRules) (r t : ℕ) (f : Facts) where
+  -- what no row of its cause stands against is kept
+  keeps : (q : Request) (cause : Cause) → Clear p r t q f cause → Keeps p r t q f cause
+  keeps q NamesRefused clear = names-kept p r t f q clear
+  keeps q Exists clear = nothing-exists p r t f q clear
+  keeps q Missing clear = nothing-missing p r t f q clear
+  keeps q NotSponsor clear = entitled p r t f q clear
+  keeps q WrongSecret clear = secret-right p r t f q clear
+  keeps q TransferPends clear = no-transfer p r t f q clear
+  keeps q NoTransferPends clear = transfer-there p r t f q clear
+  keeps q StatusProhibits clear = no-status p r t f q clear
+  keeps q AssociationProhibits clear = no-association p r t f q clear
+  keeps q NotRenewable clear = renewable p r t f q clear
+  keeps q NotTransferable clear = transferable p r t f q clear
+  keeps q ParametersRefused clear = parameters-fit p r t f q clear
+  keeps q LimitReached clear = holds-no-more p r t f q clear
+  keeps q BillingFailure clear = paid p r t f q clear
+
+  by-first : (q : Request) (o : Option Condition) → find (holds p r t q f) (table_of q) ≡ o
+      → KeepsLaws p r t q f (unless_refused (option_map (λ (condition : Condition). code_of (cause_of condition)) o) (granted p r t q f))
+  by-first q None none =
+      let right : SecretIsRight r q f = keeps q WrongSecret (clear-of-none p r t q f none WrongSecret) in record {
+        carried_out = λ accepted cause. keeps q cause (clear-of-none p r t q f none cause);
+        accepted = λ lawful. granting q f;
+        refused = λ refused. absurd (apart (sym (granting q f) ∙ refused));
+        outlasts = λ is d e. (turns-law t f q is d e).after;
+        no_more = λ is d e years lt. (turns-law t f q is d e).before years lt;
+        secret = λ info wrong. absurd (apart (sym wrong ∙ right.shows info));
+        requesters_secret = λ requests wrong. absurd (apart (sym (right.authorized requests) ∙ wrong));
+        strangers_secret = λ queries wrong. absurd (not-wronged _ _ _ (right.queries queries) wrong);
+      }
+  by-first q (Some condition) first =
+      let row : StandsIn (table_of q) condition × (holds p r t q f condition ≡ true) = found (holds p r t q f) (table_of q) condition first in record {
+        carried_out = λ accepted. absurd (apart (sym accepted ∙ never-accepted (cause_of condition)));
+        accepted = λ lawful. absurd (apart (sym row.1 ∙ breaks p r t f q condition row.0 (lawful (cause_of condition))));
+        refused = λ refused. record {
+          cause = cause_of condition;
+          told = refl;
+          broken = λ kept. apart (sym row.1 ∙ breaks p r t f q condition row.0 kept);
+          first = λ other less. keeps q other (clear-before p r t q f condition first other less);
+        };
+        outlasts = λ is d e. (turns-law t f q is d e).after;
+        no_more = λ is d e years lt. (turns-law t f q is d e).before years lt;
+        secret = λ info wrong. refl;
+        requesters_secret = λ requests wrong. refl;
+        strangers_secret = λ queries wrong. refl;
+      }
+
+pub answers-lawfully : (p : PolicyRules) (r t : ℕ) (c : Command) (f : Facts) (v : Verdict) → v ≡ judged p r t c f → AnswersLawfully p r t c f v
+unfolding AnswersLawfully judged first_refusal
+answers-lawfully p r t (Bad cl_trid code) f v is = ap (λ (w : Verdict). w.content) is
+answers-lawfully p r t (Asked cl_trid request) f v is = subst (λ (w : Verdict). KeepsLaws p r t request f w) (sym is) (by-first p r t f request (find (holds p r t request f) (table_of request)) refl)
+
+-- what is granted to a request that isn't refused is its verdict
+pub granted-is-judged : {E : Type 0} (p : PolicyRules) (r t : ℕ) (c : Command) (cl_trid : Option (List ℕ)) (q : Request) (f : Facts) (result : Result Verdict E)
+    → c ≡ Asked cl_trid q → refusal_of p r t q f ≡ None → IfOk result (λ v. v ≡ granted p r t q f) → IfOk result (λ v. v ≡ judged p r t c f)
+unfolding judged
+granted-is-judged p r t c cl_trid q f (Ok v) is free given = given ∙ sym (ap (λ (d : Command). judged p r t d f) is ∙ ap (λ (o : Option Code). unless_refused o (granted p r t q f)) free)
+granted-is-judged p r t c cl_trid q f (Err e) is free given = tt

@@ -1,0 +1,409 @@
+//! A command beside the facts that bear on it, and the conditions that hold of the two.
+ghost use Rattle.std.specs.Prelude.{◌≡◌, find, option_and_then};
+ghost use Rattle.std.specs.List.{slice_get};
+ghost use Rattle.std.specs.Option.{option_copied};
+ghost use Rattle.facts.specs.Facts as facts_spec;
+ghost use Rattle.protocol.specs.Requests as requests;
+ghost use Rattle.rules.specs.Conditions as spec;
+ghost use Rattle.rules.specs.Rules.{refusal_of};
+
+use crate::amended::{
+    any_domain_refused, any_host_refused, are_too_long, contact_has, contact_lacks, domain_has,
+    domain_is_over, domain_lacks, host_has, host_is_over, host_is_refused, host_lacks,
+    list_repeats,
+};
+use crate::charge::charge_of;
+use crate::conditions::{
+    has_no_superordinate, host_is_anothers, is_anothers, is_shown, presents_wrong,
+    superordinate_is_anothers, superordinate_is_deleted,
+};
+use crate::renewal::{expires_otherwise, passes_ten_years};
+use crate::restoration::{is_in, report_differs};
+use crate::rules::{Condition, table};
+use basis::registrar::RegistrarNo;
+use calendar::Moment;
+use facts::{ContactFacts, DomainFacts, Facts, HostFacts, count_kept};
+use names::RequestedName;
+use objects::{
+    Contact, ContactFace, Domain, DomainFace, FullDomain, Host, Seen, Status, has_status,
+};
+use policy::Policy;
+use protocol::{Action, Code, Request};
+
+/// A registrar's command at a moment, the policy, and the facts.
+#[derive(Clone, Copy, Drop)]
+pub(crate) struct Case<'a> {
+    pub(crate) facts: &'a Facts,
+    pub(crate) caller: RegistrarNo,
+    pub(crate) moment: Moment,
+    pub(crate) request: &'a Request,
+    pub(crate) policy: &'a Policy,
+}
+
+/// What is seen in full.
+fn full<O, F>(seen: Option<&Seen<O, F>>) -> Option<&O>
+    ensures { option_copied result ≡ option_and_then spec.full (option_copied seen.entry) }
+{
+    match seen {
+        Some(Seen::Full(object)) => Some(object),
+        _ => None,
+    }
+}
+
+/// The domain that is seen in full.
+pub(crate) fn full_domain(seen: Option<&Seen<FullDomain, DomainFace>>) -> Option<&Domain>
+    ensures { option_copied result ≡ option_and_then spec.domain_in_full
+        (option_copied seen.entry) }
+{
+    match seen {
+        Some(Seen::Full(known)) => Some(&known.domain),
+        _ => None,
+    }
+}
+
+// ---- the object that the request is about
+
+impl<'a> Case<'a> {
+    fn contact_known(&self) -> Option<&'a ContactFacts>
+        ensures { option_copied result ≡ option_and_then (facts_spec.contact_at self.now.facts.now)
+            (slice_get (requests.contacts_asked self.now.request.now) 0) }
+    {
+        match self.request.contacts().first() {
+            None => None,
+            Some(name) => self.facts.contact(name),
+        }
+    }
+
+    pub(crate) fn contact(&self) -> Option<&'a Seen<Contact, ContactFace>>
+        ensures { option_copied result ≡ spec.the_contact self.now.request.now self.now.facts.now }
+    {
+        match self.request.contacts().first() {
+            None => None,
+            Some(name) => self.facts.contact_seen(name),
+        }
+    }
+
+    fn domain_known(&self) -> Option<&'a DomainFacts>
+        ensures { option_copied result ≡ spec.domain_known self.now.request.now self.now.facts.now }
+    {
+        match self.request.domains().first() {
+            None => None,
+            Some(name) => self.facts.domain(name.text()),
+        }
+    }
+
+    pub(crate) fn domain(&self) -> Option<&'a Seen<FullDomain, DomainFace>>
+        ensures { option_copied result ≡ spec.the_domain self.now.request.now self.now.facts.now }
+    {
+        match self.request.domains().first() {
+            None => None,
+            Some(name) => self.facts.domain_seen(name.text()),
+        }
+    }
+
+    fn host_known(&self) -> Option<&'a HostFacts>
+        ensures { option_copied result ≡ spec.host_known self.now.request.now self.now.facts.now }
+    {
+        match self.request.hosts().first() {
+            None => None,
+            Some(name) => self.facts.host(name.text()),
+        }
+    }
+
+    fn host(&self) -> Option<&'a Host>
+        ensures { option_copied result ≡ spec.the_host self.now.request.now self.now.facts.now }
+    {
+        match self.host_known() {
+            None => None,
+            Some(known) => known.host.as_ref(),
+        }
+    }
+
+    fn is_there(&self) -> bool
+        ensures { result ≡ spec.is_there self.now.request.now self.now.facts.now }
+    {
+        self.contact().is_some() || self.domain().is_some() || self.host().is_some()
+    }
+
+    fn host_to_be(&self) -> Option<&'a HostFacts>
+        ensures { option_copied result ≡ spec.host_to_be self.now.request.now self.now.facts.now }
+    {
+        match self.request.action() {
+            Action::Create => self.host_known(),
+            Action::Update => self.facts.at_new_name.as_ref(),
+            Action::Logout
+            | Action::Balance
+            | Action::Check
+            | Action::Info
+            | Action::Delete
+            | Action::Renew
+            | Action::RequestRestore
+            | Action::ReportRestore
+            | Action::RequestTransfer
+            | Action::QueryTransfer
+            | Action::ApproveTransfer
+            | Action::RejectTransfer
+            | Action::CancelTransfer
+            | Action::PollRequest
+            | Action::PollAck => None,
+        }
+    }
+}
+
+// ---- the conditions
+
+impl Case<'_> {
+    fn name_is_refused(&self) -> bool
+        ensures { result ≡ spec.name_is_refused self.now.policy.now.zone self.now.request.now }
+    {
+        let zone = self.policy.zone();
+        any_domain_refused(zone, self.request.domains())
+            || any_host_refused(zone, self.request.hosts())
+            || self.new_host_is_refused()
+            || any_host_refused(zone, self.request.added().hosts)
+            || any_host_refused(zone, self.request.removed().hosts)
+    }
+
+    fn new_host_is_refused(&self) -> bool
+        ensures { result ≡ requests.holds_of (spec.host_is_refused self.now.policy.now.zone)
+            (requests.asks_of self.now.request.now).new_host }
+    {
+        match self.request.new_host() {
+            None => false,
+            Some(name) => host_is_refused(self.policy.zone(), name),
+        }
+    }
+
+    fn shows(&self, status: Status) -> bool
+        ensures { result ≡ spec.shows_status status self.now.request.now self.now.facts.now }
+    {
+        is_shown(status, self.contact())
+            || is_shown(status, self.domain())
+            || is_shown(status, self.host())
+    }
+
+    fn still_shows(&self, status: Status) -> bool
+        ensures { result ≡ spec.still_shows status self.now.request.now self.now.facts.now }
+    {
+        self.shows(status) && !has_status(self.request.removed().statuses, status)
+    }
+
+    fn is_of_another(&self) -> bool
+        ensures { result ≡ spec.is_of_another self.now.policy.now.zone self.now.caller
+            self.now.request.now self.now.facts.now }
+    {
+        is_anothers(self.caller, self.contact())
+            || is_anothers(self.caller, self.domain())
+            || host_is_anothers(self.policy.zone(), self.caller, self.host_known())
+    }
+
+    fn secret_is_wrong(&self) -> bool
+        ensures { result ≡ spec.secret_is_wrong self.now.caller self.now.request.now
+            self.now.facts.now }
+    {
+        presents_wrong(self.caller, self.request.secret(), self.contact())
+            || presents_wrong(self.caller, self.request.secret(), self.domain())
+    }
+
+    fn contact_is_linked(&self) -> bool
+        ensures { result ≡ spec.contact_is_linked self.now.request.now self.now.facts.now }
+    {
+        match self.contact_known() {
+            None => false,
+            Some(known) => known.linked,
+        }
+    }
+
+    fn host_is_linked(&self) -> bool
+        ensures { result ≡ spec.host_is_linked self.now.request.now self.now.facts.now }
+    {
+        match self.host_known() {
+            None => false,
+            Some(known) => known.linked,
+        }
+    }
+
+    fn has_subordinates(&self) -> bool
+        ensures { result ≡ spec.has_subordinates self.now.request.now self.now.facts.now }
+    {
+        match self.domain_known() {
+            None => false,
+            Some(known) => !known.subordinate.as_slice().is_empty(),
+        }
+    }
+
+    fn adds_known(&self) -> bool
+        ensures { result ≡ spec.adds_known self.now.request.now self.now.facts.now }
+    {
+        let added = self.request.added();
+        contact_has(added, full(self.contact()))
+            || domain_has(added, full_domain(self.domain()))
+            || host_has(added, self.host())
+    }
+
+    fn removes_unknown(&self) -> bool
+        ensures { result ≡ spec.removes_unknown self.now.request.now self.now.facts.now }
+    {
+        let removed = self.request.removed();
+        contact_lacks(removed, full(self.contact()))
+            || domain_lacks(removed, full_domain(self.domain()))
+            || host_lacks(removed, self.host())
+    }
+
+    fn leaves_too_many(&self) -> bool
+        ensures { result ≡ spec.leaves_too_many self.now.request.now self.now.facts.now }
+    {
+        let (removed, added) = (self.request.removed(), self.request.added());
+        are_too_long(added)
+            || domain_is_over(removed, added, full_domain(self.domain()))
+            || host_is_over(removed, added, self.host())
+    }
+
+    fn addresses_kept(&self) -> usize
+        ensures { result
+            ≡ spec.addresses_kept (requests.asks_of self.now.request.now).removes.addresses
+            (spec.the_host self.now.request.now self.now.facts.now) }
+    {
+        match self.host() {
+            None => 0,
+            Some(host) => count_kept(host.addresses.as_slice(), self.request.removed().addresses),
+        }
+    }
+
+    fn has_addresses_after(&self) -> bool
+        ensures { result ≡ spec.has_addresses_after self.now.request.now self.now.facts.now }
+    {
+        !(self.addresses_kept() == 0 && self.request.added().addresses.is_empty())
+    }
+
+    fn host_name_after(&self) -> Option<&RequestedName>
+        ensures { option_copied result ≡ spec.host_name_after self.now.request.now }
+    {
+        match self.request.new_host() {
+            Some(name) => Some(name),
+            None => self.request.hosts().first(),
+        }
+    }
+
+    fn leaves_addresses_outside(&self) -> bool
+        ensures { result ≡ spec.leaves_addresses_outside self.now.policy.now.zone
+            self.now.request.now self.now.facts.now }
+    {
+        match self.host_name_after() {
+            None => false,
+            Some(name) => {
+                !self.policy.zone().has_superordinate(name.text()) && self.has_addresses_after()
+            }
+        }
+    }
+
+    fn passes_ten_years(&self) -> bool
+        ensures { result ≡ spec.passes_ten_years self.now.moment self.now.request.now
+            self.now.facts.now }
+    {
+        let domain = full_domain(self.domain());
+        passes_ten_years(self.moment, self.request.years(), domain)
+    }
+
+    fn expires_otherwise(&self) -> bool
+        ensures { result ≡ spec.expires_otherwise self.now.request.now self.now.facts.now }
+    {
+        expires_otherwise(self.request.expires(), full_domain(self.domain()))
+    }
+
+    fn report_differs(&self) -> bool
+        ensures { result ≡ spec.report_differs self.now.request.now self.now.facts.now }
+    {
+        report_differs(
+            self.request.del_time(),
+            self.request.res_time(),
+            full_domain(self.domain()),
+        )
+    }
+
+    fn is_oldest(&self) -> bool
+        ensures { result ≡ spec.is_oldest self.now.request.now self.now.facts.now }
+    {
+        match (self.request.message(), &self.facts.queue.oldest) {
+            (Some(id), Some(oldest)) => oldest.id == *id,
+            _ => false,
+        }
+    }
+
+    fn lacks_money(&self) -> bool
+        ensures { result ≡ spec.lacks_money self.now.policy.now self.now.moment self.now.request.now
+            self.now.facts.now }
+    {
+        let charge = charge_of(self.policy, self.request, self.facts, self.moment);
+        charge > 0 && self.facts.account.balance < i128::from(charge)
+    }
+
+    /// Whether the condition holds.
+    fn meets(&self, condition: Condition) -> bool
+        ensures { result ≡ spec.holds self.now.policy.now self.now.caller self.now.moment
+            self.now.request.now self.now.facts.now condition }
+    {
+        let zone = self.policy.zone();
+        match condition {
+            Condition::NameIsRefused => self.name_is_refused(),
+            Condition::ListRepeats => {
+                list_repeats(self.request.added()) || list_repeats(self.request.removed())
+            }
+            Condition::IsThere => self.is_there(),
+            Condition::IsMissing => !self.is_there(),
+            Condition::ReferenceIsMissing => self.facts.reference_missing,
+            Condition::NewNameIsTaken => self.facts.new_name_exists(),
+            Condition::SuperordinateIsMissing => has_no_superordinate(zone, self.host_to_be()),
+            Condition::IsAnothers => self.is_of_another(),
+            Condition::SuperordinateIsAnothers => {
+                superordinate_is_anothers(zone, self.caller, self.host_to_be())
+            }
+            Condition::SecretIsWrong => self.secret_is_wrong(),
+            Condition::Shows(status) => self.shows(status),
+            Condition::StillShows(status) => self.still_shows(status),
+            Condition::SuperordinateIsDeleted => superordinate_is_deleted(zone, self.host_to_be()),
+            Condition::IsLinked => self.contact_is_linked() || self.host_is_linked(),
+            Condition::HasSubordinates => self.has_subordinates(),
+            Condition::AddsWhatIsThere => self.adds_known(),
+            Condition::RemovesWhatIsNot => self.removes_unknown(),
+            Condition::LeavesTooMany => self.leaves_too_many(),
+            Condition::LeavesAddressesOutside => self.leaves_addresses_outside(),
+            Condition::IsAtHoldingLimit => self.facts.holding_limit_reached,
+            Condition::PassesTenYears => self.passes_ten_years(),
+            Condition::ExpiresOtherwise => self.expires_otherwise(),
+            Condition::IsNotIn(phase) => !is_in(phase, self.domain()),
+            Condition::ReportDiffers => self.report_differs(),
+            Condition::IsNotOldest => !self.is_oldest(),
+            Condition::LacksMoney => self.lacks_money(),
+            Condition::SecretIsNotRight => self.secret_is_not_right(),
+            Condition::IsStranger => self.is_stranger(),
+            Condition::StrangersSecretIsWrong => self.strangers_secret_is_wrong(),
+            Condition::IsNotRequester => !self.is_requester(),
+            Condition::HasNoTransfer => self.has_no_transfer(),
+            Condition::IsPending => self.shows(Status::PendingTransfer),
+            Condition::IsNotPending => !self.transfer_is_pending(),
+            Condition::IsOwn => self.sponsors(),
+            Condition::IsLocked => self.domain_is_locked(),
+        }
+    }
+
+    fn find_refusal(&self, table: &'static [Condition]) -> Option<&'static Condition>
+        ensures { option_copied result
+            ≡ find (spec.holds self.now.policy.now self.now.caller self.now.moment
+            self.now.request.now self.now.facts.now) table.now }
+    {
+        table.iter().find(|condition| self.meets(**condition))
+    }
+
+    /// The code with which the command is refused.
+    #[tactic(auto, unfolding(crate::specs::Refusals::first_refusal))]
+    pub(crate) fn refusal(&self) -> Option<Code>
+        ensures { result ≡ refusal_of self.now.policy.now self.now.caller self.now.moment
+            self.now.request.now self.now.facts.now }
+    {
+        match self.find_refusal(table(self.request)) {
+            Some(condition) => Some(condition.cause().code()),
+            None => None,
+        }
+    }
+}

@@ -1,0 +1,238 @@
+//! Transfers of contacts and domains: the conditions on them, and how the last one stands after an
+//! operation on it (RFC 5730, 2.9.2.4 and 2.9.3.4).
+ghost use Rattle.std.specs.Prelude.{◌≡◌, IfOk, is_none, not, option_and_then, option_map};
+ghost use Rattle.std.specs.Option.{option_copied};
+ghost use Rattle.lifecycle.specs.Transfers.{ended};
+ghost use Rattle.objects.specs.Transfers.{names};
+ghost use Rattle.protocol.specs.Requests.{holds_of};
+ghost use Rattle.rules.specs.Conditions as conditions;
+ghost use Rattle.rules.specs.ResponseData.{transferred_data};
+ghost use Rattle.rules.specs.Transfers as spec;
+
+use crate::case::{Case, full_domain};
+use crate::conditions::{Faced, Sponsored, is_authorized, is_sponsored};
+use crate::response::transfer_info_of;
+use basis::registrar::RegistrarNo;
+use basis::text::Text;
+use calendar::Moment;
+use lifecycle::{ended, is_locked, requested};
+use objects::{Seen, Transfer, TransferState};
+use policy::Policy;
+use protocol::{Code, Data, TransferOp, Transferred};
+use std::alloc::{AllocError, Global};
+
+// ---- how the last transfer stands afterwards
+
+fn ended_of(state: TransferState, moment: Moment, last: Option<Transfer>) -> Option<Transfer>
+    ensures { result ≡ option_map (ended state moment) last }
+{
+    match last {
+        None => None,
+        Some(transfer) => Some(ended(state, moment, &transfer)),
+    }
+}
+
+/// How the last transfer of an object stands after a registrar's operation on it at the moment. The
+/// object has the sponsor.
+pub fn transfer_after(
+    op: TransferOp,
+    caller: RegistrarNo,
+    sponsor: RegistrarNo,
+    last: Option<Transfer>,
+    moment: Moment,
+    policy: &Policy,
+) -> Option<Transfer>
+    ensures { result ≡ spec.transfer_after policy.now caller moment op sponsor last }
+{
+    match op {
+        TransferOp::Request => Some(requested(caller, sponsor, moment, policy)),
+        TransferOp::Query => last,
+        TransferOp::Approve => ended_of(TransferState::ClientApproved, moment, last),
+        TransferOp::Reject => ended_of(TransferState::ClientRejected, moment, last),
+        TransferOp::Cancel => ended_of(TransferState::ClientCancelled, moment, last),
+    }
+}
+
+/// The last transfer of what is seen.
+fn last_seen<O: Sponsored, F>(seen: Option<&Seen<O, F>>) -> Option<Transfer>
+    ensures { result ≡ option_and_then (conditions.last_seen O.transfer)
+        (option_copied seen.entry) }
+{
+    match seen {
+        Some(Seen::Full(object)) => object.last_transfer(),
+        Some(Seen::TransferParty(_, transfer)) => Some(*transfer),
+        _ => None,
+    }
+}
+
+fn sponsor_seen<O: Sponsored, F: Faced>(seen: &Seen<O, F>) -> RegistrarNo
+    ensures { result ≡ spec.sponsor_seen O.sponsor F.sponsor seen.now }
+{
+    match seen {
+        Seen::Full(object) => object.sponsored_by(),
+        Seen::TransferParty(face, _) => face.sponsored_by(),
+        Seen::Public(face) => face.sponsored_by(),
+    }
+}
+
+/// How the last transfer of what is seen stands after the caller's operation.
+pub(crate) fn seen_after<O: Sponsored, F: Faced>(
+    op: TransferOp,
+    caller: RegistrarNo,
+    seen: Option<&Seen<O, F>>,
+    moment: Moment,
+    policy: &Policy,
+) -> Option<Transfer>
+    ensures { result ≡ option_and_then (spec.seen_after O.sponsor F.sponsor O.transfer policy.now
+        caller moment op) (option_copied seen.entry) }
+{
+    let Some(it) = seen else {
+        return None;
+    };
+    let (sponsor, last) = (sponsor_seen(it), last_seen(seen));
+    transfer_after(op, caller, sponsor, last, moment, policy)
+}
+
+// ---- what is answered
+
+/// The code of an operation that isn't refused.
+pub(crate) fn code_of_transfer(op: TransferOp) -> Code
+    ensures { result ≡ spec.code_of_transfer op }
+{
+    if op.is_request() {
+        Code::CompletedActionPending
+    } else {
+        Code::Completed
+    }
+}
+
+/// The charge, in whole cents, where it is made.
+pub(crate) fn charge_told(op: TransferOp, charge: u64) -> Option<u64>
+    ensures { result ≡ spec.charge_told op charge }
+{
+    if op.is_request() { Some(charge) } else { None }
+}
+
+/// How the transfer stands, if there is one.
+pub(crate) fn transferred_data(
+    alloc: Global,
+    policy: &Policy,
+    name: &Text,
+    charge: Option<u64>,
+    after: Option<Transfer>,
+) -> Result<Option<Data>, AllocError>
+    ensures { IfOk result (λ content. content ≡ transferred_data policy.now name.now charge after) }
+{
+    let Some(transfer) = after else {
+        return Ok(None);
+    };
+    let name = name.clone()?;
+    Ok(Some(Data::Transferred(Transferred {
+        name,
+        transfer: transfer_info_of(alloc, policy, transfer)?,
+        charge,
+    })))
+}
+
+// ---- the conditions
+
+impl Case<'_> {
+    fn transfer(&self) -> Option<Transfer>
+        ensures { result ≡ conditions.the_transfer self.now.request.now self.now.facts.now }
+    {
+        match last_seen(self.contact()) {
+            Some(transfer) => Some(transfer),
+            None => last_seen(self.domain()),
+        }
+    }
+
+    /// Whether the caller sponsors the object.
+    pub(crate) fn sponsors(&self) -> bool
+        ensures { result ≡ conditions.sponsors self.now.caller self.now.request.now
+            self.now.facts.now }
+    {
+        is_sponsored(self.caller, self.contact()) || is_sponsored(self.caller, self.domain())
+    }
+
+    fn is_named(&self) -> bool
+        ensures { result ≡ holds_of (names self.now.caller)
+            (conditions.the_transfer self.now.request.now self.now.facts.now) }
+    {
+        match self.transfer() {
+            None => false,
+            Some(transfer) => transfer.names(self.caller),
+        }
+    }
+
+    fn is_involved(&self) -> bool
+        ensures { result ≡ conditions.is_involved self.now.caller self.now.request.now
+            self.now.facts.now }
+    {
+        self.sponsors() || self.is_named()
+    }
+
+    fn presents_secret(&self) -> bool
+        ensures { result ≡ conditions.presents_secret self.now.request.now self.now.facts.now }
+    {
+        is_authorized(self.request.secret(), self.contact())
+            || is_authorized(self.request.secret(), self.domain())
+    }
+
+    pub(crate) fn secret_is_not_right(&self) -> bool
+        ensures { result
+            ≡ not (conditions.presents_secret self.now.request.now self.now.facts.now) }
+    {
+        !self.presents_secret()
+    }
+
+    pub(crate) fn is_stranger(&self) -> bool
+        ensures { result ≡ conditions.is_stranger self.now.caller self.now.request.now
+            self.now.facts.now }
+    {
+        !self.is_involved() && self.request.secret().is_none()
+    }
+
+    pub(crate) fn strangers_secret_is_wrong(&self) -> bool
+        ensures { result ≡ conditions.strangers_secret_is_wrong self.now.caller self.now.request.now
+            self.now.facts.now }
+    {
+        !self.is_involved() && self.request.secret().is_some() && self.secret_is_not_right()
+    }
+
+    /// Whether the caller asked for the last transfer.
+    pub(crate) fn is_requester(&self) -> bool
+        ensures { result ≡ conditions.is_requester self.now.caller self.now.request.now
+            self.now.facts.now }
+    {
+        match self.transfer() {
+            None => false,
+            Some(transfer) => transfer.requester == self.caller,
+        }
+    }
+
+    pub(crate) fn has_no_transfer(&self) -> bool
+        ensures { result
+            ≡ is_none (conditions.the_transfer self.now.request.now self.now.facts.now) }
+    {
+        self.transfer().is_none()
+    }
+
+    pub(crate) fn transfer_is_pending(&self) -> bool
+        ensures { result ≡ conditions.transfer_is_pending self.now.request.now self.now.facts.now }
+    {
+        match self.transfer() {
+            None => false,
+            Some(transfer) => transfer.is_pending(),
+        }
+    }
+
+    pub(crate) fn domain_is_locked(&self) -> bool
+        ensures { result ≡ conditions.domain_is_locked self.now.policy.now self.now.moment
+            self.now.request.now self.now.facts.now }
+    {
+        match full_domain(self.domain()) {
+            None => false,
+            Some(domain) => is_locked(domain, self.moment, self.policy),
+        }
+    }
+}

@@ -1,0 +1,217 @@
+-- The rows found by their columns are those of all that is due.
+use Rattle.std.proofs.Common.{◌≡◌, ◌⊎◌, inl, inr, ℕ, ℤ, pos, Bool, true, false, cond, ◌&&◌, int_le, nat_lt, List, [], ◌∷◌, filter, Option, Some, None, option_and_then, refl, sym, ap, subst, ◌∙◌, arith}
+use Rattle.std.proofs.lemmas.Bool.Decides.{nat_tests}
+use Rattle.std.specs.FinMap.{entries, get}
+use Rattle.std.specs.List.{list_all}
+use Rattle.std.specs.Option.{option_map_or}
+use Rattle.std.specs.Ordering.{is_gt}
+use Rattle.std.specs.declared.cmp.Ordering.{Ordering}
+use Rattle.sqlite_keyed.specs.Lists.{insert_sorted, sort_by}
+use Rattle.sqlite_rules.specs.Lists.{Has}
+use Rattle.lifecycle.specs.Lapse.{completes_at, due_at, due_of}
+use Rattle.lifecycle.specs.Periods.{passed, rules_with}
+use Rattle.objects.specs.Transfers.{is_pending_state}
+use Rattle.objects.specs.declared.contact.Contact.{Contact}
+use Rattle.objects.specs.declared.domain.Domain.{Domain}
+use Rattle.objects.specs.declared.roid.ObjectKind.{ObjectKind}
+use Rattle.objects.specs.declared.roid.ObjectKind.TheVariants as kinds
+use Rattle.objects.specs.declared.transfer.Transfer.{Transfer}
+use Rattle.sqlcolumns.specs.Contacts.{columns_of, contact_in, contact_with}
+use Rattle.sqlcolumns.specs.Registrations.{registration_in}
+use Rattle.sqlcolumns.specs.Texts.{statuses_in, street_in}
+use Rattle.sqlcolumns.specs.Transfers.{is_same, maybe_due_column}
+use Rattle.sqlcolumns.proofs.ReadLemmas.{kept, step}
+use Rattle.sqlcolumns.proofs.TransferLemmas.{same_is_equal}
+use Rattle.policy.specs.Rules.{PolicyRules}
+use Rattle.sqlrows.specs.inner.Layouts.{by_then_key}
+use Rattle.lifecycle.specs.declared.due_object.Due.{Due}
+use Rattle.lifecycle.specs.DueObjects.{contact_due, domain_due, due_then, found_due}
+use Rattle.sqltables.specs.Contact as contact_table
+use Rattle.sqltables.specs.Content.{Content}
+use Rattle.sqltables.specs.Domain as domain_table
+use Rattle.sqltables.specs.inner.Domain as inner_domain_table
+use Rattle.sqltables.specs.inner.Due.{is_due_by}
+use Rattle.sqltables.specs.Transfer.{transfer_with_contact}
+use Rattle.sqltables.specs.inner.Whole.{IsWhole}
+use Rattle.sqlrows.specs.Read.{first_read, or_else}
+use Rattle.sqlobjects.specs.Objects.{contact_of, contacts_of, last_transfer}
+use Rattle.sqlobjects.proofs.NameLemmas.{contact-named}
+use Rattle.sqlobjects.proofs.PutLemmas.{bytes_is, filter-has, has-filter, only_named}
+use Rattle.sqldomains.specs.Domains.{domain_of, domains_of}
+use Rattle.sqldomains.proofs.LinkedLemmas.{first-has}
+use Rattle.sqldomains.proofs.NameOrderLemmas.{name-read, row-under, stands-there}
+use Rattle.sqlterms.specs.Terms.{days_of}
+use Rattle.sqlderived.specs.Dues.{dues_are_right, is_due_right}
+use Rattle.sqlderived.specs.inner.Finding as spec
+use Rattle.sqlderived.proofs.FoundLemmas.{InOrder, found-of_rows, found-rises}
+
+-- ---- sorted rows are the same rows
+
+module _ {X : Type 0} (cmp : X → X → Ordering) where
+  sorted-one : (new : X) (xs : List X) (x : X) → Has (insert_sorted cmp new xs) x → (x ≡ new) ⊎ Has xs x
+  sorted-one new [] x there = there
+  sorted-one new (y ∷ ys) x there = go (is_gt (cmp new y)) there (sorted-one new ys x)
+    where
+      behind : (x ≡ new) ⊎ Has ys x → (x ≡ new) ⊎ Has (y ∷ ys) x
+      behind (inl same) = inl same
+      behind (inr later) = inr (inr later)
+
+      go : (b : Bool) → Has (cond b (y ∷ insert_sorted cmp new ys) (new ∷ y ∷ ys)) x → (Has (insert_sorted cmp new ys) x → (x ≡ new) ⊎ Has ys x) → (x ≡ new) ⊎ Has (y ∷ ys) x
+      go true (inl same) more = inr (inl same)
+      go true (inr later) more = behind (more later)
+      go false there more = there
+
+  one-sorted : (new : X) (xs : List X) (x : X) → (x ≡ new) ⊎ Has xs x → Has (insert_sorted cmp new xs) x
+  one-sorted new [] x there = there
+  one-sorted new (y ∷ ys) x there = go (is_gt (cmp new y)) there (one-sorted new ys x)
+    where
+      go : (b : Bool) → (x ≡ new) ⊎ Has (y ∷ ys) x → ((x ≡ new) ⊎ Has ys x → Has (insert_sorted cmp new ys) x) → Has (cond b (y ∷ insert_sorted cmp new ys) (new ∷ y ∷ ys)) x
+      go true (inl same) more = inr (more (inl same))
+      go true (inr (inl here)) more = inl here
+      go true (inr (inr later)) more = inr (more (inr later))
+      go false there more = there
+
+  behind : (y : X) (xs ys : List X) (x : X) → (Has xs x → Has ys x) → (x ≡ y) ⊎ Has xs x → (x ≡ y) ⊎ Has ys x
+  behind y xs ys x more (inl same) = inl same
+  behind y xs ys x more (inr later) = inr (more later)
+
+  has-sorted : (xs : List X) (x : X) → Has (sort_by cmp xs) x → Has xs x
+  has-sorted [] x there = there
+  has-sorted (y ∷ ys) x there = behind y (sort_by cmp ys) ys x (has-sorted ys x) (sorted-one y (sort_by cmp ys) x there)
+
+  sorted-has : (xs : List X) (x : X) → Has xs x → Has (sort_by cmp xs) x
+  sorted-has [] x there = there
+  sorted-has (y ∷ ys) x there = one-sorted y (sort_by cmp ys) x (behind y ys (sort_by cmp ys) x (sorted-has ys x) there)
+
+-- ---- what is due by a moment is due no later
+
+some-due : (kind : ObjectKind) (n : List ℕ) (o : Option ℕ) (d : Due) → due_then kind n o ≡ Some d → (m : ℕ) × (o ≡ Some m)
+some-due kind n None d e = cc
+some-due kind n (Some m) d e = (m, refl)
+
+has-come : (t m u : ℕ) → passed t m ≡ Some u → int_le (pos m) (pos t) ≡ true
+has-come t m u e = go (nat_lt t m) refl e
+  where
+    go : (b : Bool) → nat_lt t m ≡ b → cond b None (Some m) ≡ Some u → int_le (pos m) (pos t) ≡ true
+    go true is f = cc
+    go false is f = grind (arith, nat_tests, is)
+
+-- ---- contacts
+
+pub record IsContactRow (row : contact_table.Contact) (c : Contact) : Type 0 where
+  pub name : c.name ≡ row.name
+  pub due : maybe_due_column c.transfer ≡ row.due
+
+pub contact-row : (xs : Content) (row : contact_table.Contact) (c : Contact) → contact_of xs row ≡ Some c → IsContactRow row c
+contact-row xs row c e =
+    let transfer = step (last_transfer (filter (transfer_with_contact row.id) xs.transfers)) (contact_in row) c e in
+    let r = step (registration_in kinds.Contact (columns_of row)) _ c transfer.rest in
+    let s = step (statuses_in row.statuses) _ c r.rest in
+    let due = kept (contact_with row r.given s.given (street_in row.postal.street) transfer.given) c (is_same (maybe_due_column transfer.given) row.due) s.rest in
+    record {
+      name = sym (ap (λ (x : Contact). x.name) due.1);
+      due = ap (λ (x : Contact). maybe_due_column x.transfer) (sym due.1) ∙ same_is_equal (maybe_due_column transfer.given) row.due due.0;
+    }
+
+pub contact-stands : (xs : Content) (row : contact_table.Contact) (c : Contact) → IsWhole xs → Has xs.contacts row → contact_of xs row ≡ Some c → get (contacts_of xs) row.name ≡ Some c
+contact-stands xs row c whole there reads =
+    sym (contact-named xs row.name) ∙ ap (first_read (contact_of xs)) (only_named contact_table.contacts.key (λ (r : contact_table.Contact). r.name) xs.contacts row whole.keyed.contacts whole.named.contacts there) ∙ ap (λ o. or_else o None) reads
+
+pub contact-under : (xs : Content) (n : List ℕ) (c : Contact) → get (contacts_of xs) n ≡ Some c → (row : contact_table.Contact) × Has xs.contacts row × (contact_of xs row ≡ Some c) × (row.name ≡ n)
+contact-under xs n c e =
+    let it = first-has (contact_of xs) (filter (contact_table.contact_with_name n) xs.contacts) c (contact-named xs n ∙ e) in
+    let there = has-filter (contact_table.contact_with_name n) xs.contacts it.0 it.1 in
+    (it.0, there.0, it.2, bytes_is it.0.name n there.1)
+
+pub never-before : (m : ℕ) → int_le (pos 0) (pos m) ≡ true
+never-before m = grind (arith)
+
+both : (a b : Bool) → a ≡ true → b ≡ true → (a && b) ≡ true
+both true b e f = f
+both false b e f = cc
+
+column-within : (t u : ℕ) (transfer : Option Transfer) → option_and_then (passed t) (completes_at transfer) ≡ Some u → is_due_by (pos t) (maybe_due_column transfer) ≡ true
+column-within t u None e = cc
+column-within t u (Some x) e = go (is_pending_state x.state) e
+  where
+    go : (b : Bool) → option_and_then (passed t) (cond b (Some x.ac_date) None) ≡ Some u → is_due_by (pos t) (cond b (Some (pos x.ac_date)) None) ≡ true
+    go true f = both (int_le (pos 0) (pos x.ac_date)) (int_le (pos x.ac_date) (pos t)) (never-before x.ac_date) (has-come t x.ac_date u f)
+    go false f = cc
+
+-- a contact that is due has a row that may be
+pub contact-within : (xs : Content) (t : ℕ) (row : contact_table.Contact) (c : Contact) (d : Due) → contact_of xs row ≡ Some c → contact_due t (row.name, c) ≡ Some d → contact_table.contact_within_due (pos t) row ≡ true
+contact-within xs t row c d reads due =
+    let moment = some-due kinds.Contact row.name (option_and_then (passed t) (completes_at c.transfer)) d due in
+    ap (is_due_by (pos t)) (sym (contact-row xs row c reads).due) ∙ column-within t moment.0 c.transfer moment.1
+
+contact-asked : (xs : Content) (t : ℕ) (row : contact_table.Contact) (c : Contact) (d : Due) → Has xs.contacts row → contact_of xs row ≡ Some c → contact_due t (row.name, c) ≡ Some d
+    → Has (spec.contacts_until t xs) row
+contact-asked xs t row c d there reads due =
+    sorted-has (by_then_key contact_table.contacts contact_table.by_due) (filter (contact_table.contact_within_due (pos t)) xs.contacts) row
+    (filter-has (contact_table.contact_within_due (pos t)) xs.contacts row there (contact-within xs t row c d reads due))
+
+pub contacts-found : (xs : Content) (t : ℕ) (found : List Due) → IsWhole xs → spec.with_rows (spec.contact_in t xs) [] (spec.contacts_until t xs) ≡ Some found → found ≡ found_due (contact_due t) [] (entries (contacts_of xs))
+contacts-found xs t found whole e =
+    found-of_rows (λ (r : contact_table.Contact). r.name) (λ (c : Contact). c.name) (contact_of xs) (contact_due t) xs.contacts (spec.contacts_until t xs) (contacts_of xs)
+    (λ row c reads. (contact-row xs row c reads).name)
+    (λ row c there reads. contact-stands xs row c whole there reads)
+    (contact-under xs)
+    (λ row there. (has-filter (contact_table.contact_within_due (pos t)) xs.contacts row (has-sorted (by_then_key contact_table.contacts contact_table.by_due) (filter (contact_table.contact_within_due (pos t)) xs.contacts) row there)).0)
+    (contact-asked xs t)
+    [] found tt e
+
+-- ---- domains
+
+-- nothing but the days is looked at
+same-due : (p : PolicyRules) (d : Domain) → due_at (rules_with p.days) d ≡ due_at p d
+same-due p d = go d.deletion
+  where
+    go : (x : Option _) → due_of (rules_with p.days) x d ≡ due_of p x d
+    go None = refl
+    go (Some x) = refl
+
+all-has : {X : Type 0} (test : X → Bool) (xs : List X) (x : X) → list_all test xs ≡ true → Has xs x → test x ≡ true
+all-has test [] x all there = absurd there
+all-has test (y ∷ ys) x all there = go (test y) (list_all test ys) refl refl all there (all-has test ys x)
+  where
+    go : (a b : Bool) → test y ≡ a → list_all test ys ≡ b → (a && b) ≡ true → Has (y ∷ ys) x → (list_all test ys ≡ true → Has ys x → test x ≡ true) → test x ≡ true
+    go true true is rest e (inl same) more = ap test same ∙ is
+    go true true is rest e (inr later) more = more rest later
+    go true false is rest e here more = cc
+    go false b is rest e here more = cc
+
+no-later : (a b c : ℤ) → int_le a b ≡ true → int_le b c ≡ true → int_le a c ≡ true
+no-later a b c e f = grind (arith, e, f)
+
+module _ (xs : Content) (p : PolicyRules) (t : ℕ) (whole : IsWhole xs) (days : days_of xs ≡ Some p.days) (right : dues_are_right xs ≡ true) where
+  row-right : (row : domain_table.Domain) → Has xs.domains row → is_due_right p.days xs row ≡ true
+  row-right row there = all-has (is_due_right p.days xs) xs.domains row (sym (ap (λ o. option_map_or (λ ds. list_all (is_due_right ds xs) xs.domains) o true) days) ∙ right) there
+
+  -- a domain that is due has a row that may be
+  pub domain-within : (row : domain_table.Domain) (d : Domain) (it : Due) → Has xs.domains row → domain_of xs row ≡ Some d → domain_due p t (row.name, d) ≡ Some it → inner_domain_table.domain_within_due (pos t) row ≡ true
+  domain-within row d it there reads due =
+      let moment = some-due kinds.Domain row.name (passed t (due_at p d)) it due in
+      let column : int_le row.due (pos (due_at (rules_with p.days) d)) ≡ true = sym (ap (λ o. option_map_or (λ x. int_le row.due (pos (due_at (rules_with p.days) x))) o true) reads) ∙ row-right row there in
+      no-later row.due (pos (due_at p d)) (pos t) (ap (λ m. int_le row.due (pos m)) (sym (same-due p d)) ∙ column) (has-come t (due_at p d) moment.0 moment.1)
+
+  domain-asked : (row : domain_table.Domain) (d : Domain) (it : Due) → Has xs.domains row → domain_of xs row ≡ Some d → domain_due p t (row.name, d) ≡ Some it → Has (spec.domains_until t xs) row
+  domain-asked row d it there reads due =
+      sorted-has (by_then_key inner_domain_table.domains inner_domain_table.by_due) (filter (inner_domain_table.domain_within_due (pos t)) xs.domains) row
+      (filter-has (inner_domain_table.domain_within_due (pos t)) xs.domains row there (domain-within row d it there reads due))
+
+  domains-found : (found all : List Due) → InOrder found → spec.with_rows (spec.domain_in p t xs) found (spec.domains_until t xs) ≡ Some all → all ≡ found_due (domain_due p t) found (entries (domains_of xs))
+  domains-found found all rise e =
+      found-of_rows (λ (r : domain_table.Domain). r.name) (λ (d : Domain). d.name) (domain_of xs) (domain_due p t) xs.domains (spec.domains_until t xs) (domains_of xs)
+      (name-read xs)
+      (λ row d there reads. stands-there xs row d whole there reads)
+      (row-under xs)
+      (λ row there. (has-filter (inner_domain_table.domain_within_due (pos t)) xs.domains row (has-sorted (by_then_key inner_domain_table.domains inner_domain_table.by_due) (filter (inner_domain_table.domain_within_due (pos t)) xs.domains) row there)).0)
+      domain-asked
+      found all rise e
+
+  pub all-found : (contacts all : List Due) → spec.with_rows (spec.contact_in t xs) [] (spec.contacts_until t xs) ≡ Some contacts
+      → spec.with_rows (spec.domain_in p t xs) contacts (spec.domains_until t xs) ≡ Some all → all ≡ found_due (domain_due p t) (found_due (contact_due t) [] (entries (contacts_of xs))) (entries (domains_of xs))
+  all-found contacts all first second =
+      let are = contacts-found xs t contacts whole first in
+      domains-found contacts all (subst InOrder (sym are) (found-rises (contact_due t) [] (entries (contacts_of xs)) tt)) second
+      ∙ ap (λ found. found_due (domain_due p t) found (entries (domains_of xs))) are

@@ -1,0 +1,36 @@
+-- Who holds a domain, and who does no more.
+use Rattle.std.specs.Prelude.{ℕ, Bool, false, ◌||◌, ◌==◌, if◌then◌else◌, Option, Some, None, option_and_then, option_map}
+use Rattle.std.specs.Option.{option_map_or}
+use Rattle.objects.specs.declared.domain.Domain.{Domain}
+use Rattle.objects.specs.declared.transfer.Transfer.{Transfer}
+use Rattle.objects.specs.Transfers.{is_pending_state}
+use Rattle.sqlderived.specs.declared.holders.Holders.{Holders}
+
+-- to whom a pending transfer brings an object
+abbrev pub incoming_of : Option Transfer → Option ℕ
+incoming_of None = None
+incoming_of (Some t) = if is_pending_state t.state then Some t.requester else None
+
+abbrev pub parties_of : Domain → Holders
+parties_of d = record { sponsor = d.sponsor; incoming = incoming_of d.transfer }
+
+-- those of a domain, if there is one
+abbrev pub maybe_parties_of : Option Domain → Option Holders
+maybe_parties_of d = option_map parties_of d
+
+abbrev pub is_among : ℕ → Holders → Bool
+is_among r p = (p.sponsor == r) || option_map_or (λ q. q == r) p.incoming false
+
+abbrev pub is_in : ℕ → Option Holders → Bool
+is_in r p = option_map_or (is_among r) p false
+
+-- the sponsor of the first, where it isn't among the others
+abbrev pub sponsor_without : Option Holders → Option Holders → Option ℕ
+sponsor_without None others = None
+sponsor_without (Some p) others = if is_in p.sponsor others then None else Some p.sponsor
+
+-- the one whom a pending transfer brings the first, where it is another than the sponsor, and isn't
+-- among the others
+abbrev pub incoming_without : Option Holders → Option Holders → Option ℕ
+incoming_without None others = None
+incoming_without (Some p) others = option_and_then (λ q. if (p.sponsor == q) || is_in q others then None else Some q) p.incoming

@@ -1,0 +1,42 @@
+-- What counting anew makes of the accounts' rows.
+use Rattle.std.specs.Prelude.{◌≡◌, ⊤, ℕ, ℤ, pos, ◌+ℤ◌, Option, Some, None}
+use Rattle.objects.specs.declared.domain.Domain.{Domain}
+use Rattle.sqlaccounts.specs.Accounts.{accounts_of, row_of, sums_are_right}
+use Rattle.sqlderived.specs.Held.{counts_where, is_held_by}
+use Rattle.sqltables.specs.Account as account_table
+use Rattle.sqltables.specs.Content.{Content}
+
+-- a row has all columns that it had, but for how many domains are held
+abbrev pub IsAlike : account_table.Account → account_table.Account → Type 0
+IsAlike old new = new ≡ record old { held = new.held }
+
+-- there is a row like the one that there was, or none as there was none
+abbrev pub AreAlike : Option account_table.Account → Option account_table.Account → Type 0
+AreAlike None None = ⊤
+AreAlike None (Some new) = ⊥
+AreAlike (Some old) None = ⊥
+AreAlike (Some old) (Some new) = IsAlike old new
+
+-- and of the domains that are held so many are less, and so many more
+pub record IsCounted (less more : ℕ) (old new : account_table.Account) : Type 0 where
+  pub rest : IsAlike old new
+  pub held : new.held +ℤ pos less ≡ old.held +ℤ pos more
+
+abbrev pub AreCounted : ℕ → ℕ → Option account_table.Account → Option account_table.Account → Type 0
+AreCounted less more None None = ⊤
+AreCounted less more None (Some new) = ⊥
+AreCounted less more (Some old) None = ⊥
+AreCounted less more (Some old) (Some new) = IsCounted less more old new
+
+-- For each registrar so many domains are less, and so many more. No other column and no other table is
+-- changed, so the accounts are the same, and their other sums are as right as they were.
+pub record IsCountedAnew (less more : ℕ → ℕ) (old new : Content) : Type 0 where
+  pub accounts : accounts_of new ≡ accounts_of old
+  pub sums : sums_are_right new ≡ sums_are_right old
+  pub rows : (id : ℤ) → AreAlike (row_of old id) (row_of new id)
+  pub helds : (r : ℕ) → AreCounted (less r) (more r) (row_of old (pos r)) (row_of new (pos r))
+  pub rest : new ≡ record old { accounts = new.accounts }
+
+-- the column of each registrar is counted anew, where one domain, or none, comes in the place of another
+abbrev pub IsRecounted : Option Domain → Option Domain → Content → Content → Type 0
+IsRecounted before after old new = IsCountedAnew (λ r. counts_where (is_held_by r) before) (λ r. counts_where (is_held_by r) after) old new

@@ -1,0 +1,211 @@
+//! What is due by a moment.
+ghost use Rattle.std.specs.Prelude.{◌≡◌, [], Some, IfOk};
+ghost use Rattle.std.specs.FinMap.{entries};
+ghost use Rattle.sqlcolumns.specs.Numbers.{moment_column};
+ghost use Rattle.sqlrows.specs.Meanings.{FindsIfRight};
+ghost use Rattle.sqldomains.specs.Domains.{domains_of};
+ghost use Rattle.sqlderived.specs.Dues.{dues_are_right};
+ghost use Rattle.sqlderived.specs.inner.Finding as spec;
+ghost use Rattle.sqlobjects.specs.Objects.{contacts_of};
+ghost use Rattle.lifecycle.specs.DueObjects as dues;
+ghost use Rattle.states.specs.States.{Finds, FindsSome};
+
+use crate::length::have_days;
+use basis::list::Seq;
+use basis::text::Text;
+use calendar::Moment;
+use lifecycle::{Due, contact_due_by, due_by};
+use objects::{Contact, Domain, ObjectKind};
+use policy::Policy;
+use sqldomains::domain_of;
+use sqlite::Alter;
+use sqlobjects::contact_of;
+use sqlrows::Number;
+use sqltables::{ContactRow, DomainRow, RowStore};
+use states::BookFault;
+use std::alloc::{AllocError, Global};
+use std::collections::BTreeSet;
+
+/// The contacts and domains that time changes or removes up to a moment, in the order in which they
+/// lapse. Only rows whose column is no later than the moment are looked at; one that doesn't read is
+/// refused, and so is a policy that has other days than the rows.
+pub fn due<S: Alter>(
+    store: &mut RowStore<S>,
+    alloc: Global,
+    moment: Moment,
+    policy: &Policy,
+) -> Result<Seq<Due>, BookFault>
+    ensures { FindsIfRight result (dues_are_right store.old.content)
+        (dues.found_due (dues.domain_due policy.now moment)
+        (dues.found_due (dues.contact_due moment) [] (entries (contacts_of store.old.content)))
+        (entries (domains_of store.old.content))) store.old store.new }
+{
+    have_days(store, alloc, policy)?;
+    store.whole();
+    let contacts = contacts_due(store, alloc, moment)?;
+    let found = with_domains_due(store, alloc, moment, policy, contacts)?;
+    Ok(listed(alloc, found)?)
+}
+
+/// The contacts that are due by a moment.
+fn contacts_due<S: Alter>(
+    store: &mut RowStore<S>,
+    alloc: Global,
+    moment: Moment,
+) -> Result<BTreeSet<Due>, BookFault>
+    ensures { FindsSome result (λ found. spec.with_rows (spec.contact_in moment store.old.content) []
+        (spec.contacts_until moment store.old.content) ≡ Some found.keys) store.old store.new }
+{
+    let rows = contact_rows(store, moment)?;
+    of_contacts(store, alloc, moment, rows)
+}
+
+/// The rows of contacts that may be due.
+fn contact_rows<S: Alter>(
+    store: &mut RowStore<S>,
+    moment: Moment,
+) -> Result<Seq<ContactRow>, BookFault>
+    ensures { Finds result (spec.contacts_until moment store.old.content) store.old store.new }
+{
+    store.contacts_until_due(number(moment))
+}
+
+/// Those of these rows' contacts that are due.
+pub(crate) fn of_contacts<S: Alter>(
+    store: &mut RowStore<S>,
+    alloc: Global,
+    moment: Moment,
+    rows: Seq<ContactRow>,
+) -> Result<BTreeSet<Due>, BookFault>
+    ensures { FindsSome result (λ found. spec.with_rows (spec.contact_in moment store.old.content) []
+        rows ≡ Some found.keys) store.old store.new }
+{
+    let mut found = BTreeSet::new(alloc);
+    for row in rows.into_vec() {
+        found = with_contact(store, alloc, moment, found, row)?;
+    }
+    Ok(found)
+}
+
+fn with_contact<S: Alter>(
+    store: &mut RowStore<S>,
+    alloc: Global,
+    moment: Moment,
+    found: BTreeSet<Due>,
+    row: ContactRow,
+) -> Result<BTreeSet<Due>, BookFault>
+    ensures { FindsSome result (λ more. spec.with_row found.keys
+        (spec.contact_in moment store.old.content row) ≡ Some more.keys) store.old store.new }
+{
+    let contact = contact_of(store, alloc, row)?;
+    let due = contact_due_by(&contact, moment);
+    Ok(with_due(found, ObjectKind::Contact, name_of_contact(contact), due)?)
+}
+
+fn name_of_contact(contact: Contact) -> Text
+    ensures { result ≡ contact.name }
+{
+    contact.name
+}
+
+/// The same with the domains that are due by a moment.
+fn with_domains_due<S: Alter>(
+    store: &mut RowStore<S>,
+    alloc: Global,
+    moment: Moment,
+    policy: &Policy,
+    found: BTreeSet<Due>,
+) -> Result<BTreeSet<Due>, BookFault>
+    ensures { FindsSome result
+        (λ all. spec.with_rows (spec.domain_in policy.now moment store.old.content) found.keys
+        (spec.domains_until moment store.old.content) ≡ Some all.keys) store.old store.new }
+{
+    let rows = domain_rows(store, moment)?;
+    with_domains(store, alloc, moment, policy, found, rows)
+}
+
+/// The rows of domains that may be due.
+fn domain_rows<S: Alter>(
+    store: &mut RowStore<S>,
+    moment: Moment,
+) -> Result<Seq<DomainRow>, BookFault>
+    ensures { Finds result (spec.domains_until moment store.old.content) store.old store.new }
+{
+    store.domains_until_due(number(moment))
+}
+
+pub(crate) fn with_domains<S: Alter>(
+    store: &mut RowStore<S>,
+    alloc: Global,
+    moment: Moment,
+    policy: &Policy,
+    found: BTreeSet<Due>,
+    rows: Seq<DomainRow>,
+) -> Result<BTreeSet<Due>, BookFault>
+    ensures { FindsSome result
+        (λ all. spec.with_rows (spec.domain_in policy.now moment store.old.content) found.keys rows
+        ≡ Some all.keys) store.old store.new }
+{
+    let mut found = found;
+    for row in rows.into_vec() {
+        found = with_domain(store, alloc, moment, policy, found, row)?;
+    }
+    Ok(found)
+}
+
+fn with_domain<S: Alter>(
+    store: &mut RowStore<S>,
+    alloc: Global,
+    moment: Moment,
+    policy: &Policy,
+    found: BTreeSet<Due>,
+    row: DomainRow,
+) -> Result<BTreeSet<Due>, BookFault>
+    ensures { FindsSome result (λ more. spec.with_row found.keys (spec.domain_in policy.now moment
+        store.old.content row) ≡ Some more.keys) store.old store.new }
+{
+    let domain = domain_of(store, alloc, row)?;
+    let due = due_by(&domain, moment, policy);
+    Ok(with_due(found, ObjectKind::Domain, name_of_domain(domain), due)?)
+}
+
+fn name_of_domain(domain: Domain) -> Text
+    ensures { result ≡ domain.name }
+{
+    domain.name
+}
+
+/// With one more, if it is due.
+fn with_due(
+    found: BTreeSet<Due>,
+    kind: ObjectKind,
+    name: Text,
+    due: Option<Moment>,
+) -> Result<BTreeSet<Due>, AllocError>
+    ensures { IfOk result (λ more. more.keys ≡ dues.with_due (dues.due_then kind name due)
+        found.keys) }
+{
+    let Some(due) = due else {
+        return Ok(found);
+    };
+    let mut found = found;
+    found.insert(Due { due, kind, name })?;
+    Ok(found)
+}
+
+pub(crate) fn number(moment: Moment) -> Number
+    ensures { result ≡ moment_column moment }
+{
+    Number::new(moment.secs())
+}
+
+/// An ordered set as a list.
+pub(crate) fn listed(alloc: Global, found: BTreeSet<Due>) -> Result<Seq<Due>, AllocError>
+    ensures { IfOk result (λ due. due ≡ found.keys) }
+{
+    let mut due = Vec::with_capacity(alloc, found.len())?;
+    for it in found {
+        due.push(it)?;
+    }
+    Ok(Seq::from_vec(due))
+}

@@ -1,0 +1,105 @@
+//! Who holds a domain, and who does no more.
+ghost use Rattle.std.specs.Prelude.{◌≡◌, ◌==◌, false, Some};
+ghost use Rattle.std.specs.Option.{option_map_or};
+ghost use Rattle.sqlderived.specs.inner.Holders as spec;
+
+use basis::registrar::RegistrarNo;
+use objects::{Domain, Transfer};
+
+/// Who holds a domain: its sponsor, and the one to whom a pending transfer brings it.
+#[derive(Drop)]
+pub(crate) struct Holders {
+    pub(crate) sponsor: RegistrarNo,
+    pub(crate) incoming: Option<RegistrarNo>,
+}
+
+/// Who holds a domain, if there is one.
+pub(crate) fn parties_of(domain: &Option<Domain>) -> Option<Holders>
+    ensures { result ≡ spec.maybe_parties_of domain.now }
+{
+    match domain {
+        None => None,
+        Some(domain) => Some(Holders {
+            sponsor: domain.sponsor,
+            incoming: incoming_of(&domain.transfer),
+        }),
+    }
+}
+
+fn incoming_of(transfer: &Option<Transfer>) -> Option<RegistrarNo>
+    ensures { result ≡ spec.incoming_of transfer.now }
+{
+    match transfer {
+        None => None,
+        Some(transfer) => incoming_by(transfer),
+    }
+}
+
+fn incoming_by(transfer: &Transfer) -> Option<RegistrarNo>
+    ensures { result ≡ spec.incoming_of (Some transfer.now) }
+{
+    if !transfer.is_pending() {
+        return None;
+    }
+    Some(transfer.requester)
+}
+
+impl Holders {
+    fn is_among(&self, registrar: RegistrarNo) -> bool
+        ensures { result ≡ spec.is_among registrar self.now }
+    {
+        self.sponsor == registrar || is_same(self.incoming, registrar)
+    }
+}
+
+fn is_same(incoming: Option<RegistrarNo>, registrar: RegistrarNo) -> bool
+    ensures { result ≡ option_map_or (λ q. q == registrar) incoming false }
+{
+    match incoming {
+        None => false,
+        Some(incoming) => incoming == registrar,
+    }
+}
+
+fn is_in(registrar: RegistrarNo, parties: &Option<Holders>) -> bool
+    ensures { result ≡ spec.is_in registrar parties.now }
+{
+    match parties {
+        None => false,
+        Some(parties) => parties.is_among(registrar),
+    }
+}
+
+/// The sponsor among the first, where it isn't among the others.
+pub(crate) fn sponsor_without(
+    parties: &Option<Holders>,
+    others: &Option<Holders>,
+) -> Option<RegistrarNo>
+    ensures { result ≡ spec.sponsor_without parties.now others.now }
+{
+    let Some(parties) = parties else {
+        return None;
+    };
+    if is_in(parties.sponsor, others) {
+        return None;
+    }
+    Some(parties.sponsor)
+}
+
+/// The one to whom a pending transfer brings the domain of the first, where it is another than the
+/// sponsor, and isn't among the others.
+pub(crate) fn incoming_without(
+    parties: &Option<Holders>,
+    others: &Option<Holders>,
+) -> Option<RegistrarNo>
+    ensures { result ≡ spec.incoming_without parties.now others.now }
+{
+    let Some(parties) = parties else {
+        return None;
+    };
+    let incoming = parties.incoming?;
+    if parties.sponsor == incoming || is_in(incoming, others) {
+        return None;
+    }
+    Some(incoming)
+}

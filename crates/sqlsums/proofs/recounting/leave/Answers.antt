@@ -1,8 +1,0 @@
-use Rattle.sqlrows.proofs.StateLemmas.{then-became}
-use Rattle.sqlsums.proofs.LeavingLemmas.{both-less}
-use Rattle.sqlsums.proofs.recounting.leave.Goals as goal
-
-pub returns : goal.returns
-returns g c =
-    then-became _ _ _ c.args.store.now c.one_less.new.store c.one_less-2.new.store (c.in_ok-one_less.ensures {u = tt}) (c.in_ok-one_less-2.ensures {u = tt})
-    (λ clean one two. both-less c.args.before.now c.args.after.now c.sponsor_without.result c.incoming_without.result c.args.store.now.content c.one_less.new.store.content c.one_less-2.new.store.content c.sponsor_without.ensures c.incoming_without.ensures one two)

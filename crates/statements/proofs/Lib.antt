@@ -1,0 +1,3 @@
+mod TableLemmas
+mod TextLemmas
+mod TimeLemmas

@@ -1,0 +1,156 @@
+-- What a sort leaves is the bag of the same items in its order.
+use Rattle.std.proofs.Common.{◌≡◌, ℕ, ◌+◌, ◌<◌, zero, suc, Bool, true, false, cond, List, [], ◌∷◌, length, slice_index_or, slice_set, refl, sym, ap, ◌∙◌, arith}
+use Rattle.std.proofs.lemmas.Cmp.{nat_list_cmp_total}
+use Rattle.std.proofs.lemmas.List.Sorted.{IsPermutation-keeps}
+use Rattle.std.specs.Cmp.{IsTotalOrder}
+use Rattle.std.specs.Cmp.Lexicographic.{slice_cmp}
+use Rattle.std.specs.FinMap.{IsAntisymmetric, nat_cmp-IsAntisymmetric, slice_cmp-IsAntisymmetric}
+use Rattle.std.specs.List.{swap}
+use Rattle.std.specs.List.Sorted.{IsPermutation, IsSortedBy}
+use Rattle.std.specs.Ordering.{nat_cmp, is_le, is_lt, ordering_reverse}
+use Rattle.std.specs.declared.cmp.Ordering.{Ordering}
+use Rattle.std.specs.declared.cmp.Ordering.TheVariants.{Less, Equal, Greater}
+use Rattle.basis.specs.Bag.{IsLinear, add, bag_of}
+use Rattle.basis.proofs.BagLaws.{add-add, le-itself, taken-add}
+use Rattle.basis.specs.Bag.{taken}
+use Rattle.accounts.specs.declared.line.Line.{Line}
+use Rattle.accounts.specs.Lines.{in_order, numbers}
+use Rattle.accounts.proofs.LineLaws.{lines_in_order}
+use Rattle.statements.specs.Tables.{by_moment, in_time, place}
+
+-- ---- the order by an injective reading
+
+le_trans : {K : Type 0} (R : K → K → Ordering) → IsTotalOrder R → (x y z : K) (a b : Ordering) → R x y ≡ a → R y z ≡ b → is_le a ≡ true → is_le b ≡ true → is_le (R x z) ≡ true
+le_trans R h x y z Less Less e f p q = ap is_le (h.trans x y z e f)
+le_trans R h x y z Less Equal e f p q = ap is_le (h.antisymm x z ∙ ap ordering_reverse (sym (h.congr y z x f)) ∙ sym (h.antisymm x y) ∙ e)
+le_trans R h x y z Less Greater e f p q = cc
+le_trans R h x y z Equal b e f p q = ap is_le (h.congr x y z e ∙ f) ∙ q
+le_trans R h x y z Greater b e f p q = cc
+
+le_total : (a b : Ordering) → a ≡ ordering_reverse b → is_le b ≡ false → is_le a ≡ true
+le_total a Less e p = cc
+le_total a Equal e p = cc
+le_total a Greater e p = ap is_le e
+
+le_both : (a b : Ordering) → a ≡ ordering_reverse b → is_le a ≡ true → is_le b ≡ true → a ≡ Equal
+le_both a Less e p q = let never : true ≡ false = sym p ∙ ap is_le e in cc
+le_both a Equal e p q = e
+le_both a Greater e p q = cc
+
+-- what isn't behind stands first
+le_unless : (a b : Ordering) → a ≡ ordering_reverse b → is_lt b ≡ false → is_le a ≡ true
+le_unless a Less e p = cc
+le_unless a Equal e p = ap is_le e
+le_unless a Greater e p = ap is_le e
+
+linear_by : {A K : Type 0} (R : K → K → Ordering) (code : A → K) → IsTotalOrder R → IsAntisymmetric R → ((x y : A) → code x ≡ code y → x ≡ y) → IsLinear (λ x y. is_le (R (code x) (code y)))
+linear_by R code h anti only = record {
+  total = λ x y e. le_total (R (code y) (code x)) (R (code x) (code y)) (h.antisymm (code y) (code x)) e;
+  antisym = λ x y e f. only x y (anti (code x) (code y) (le_both (R (code x) (code y)) (R (code y) (code x)) (h.antisymm (code x) (code y)) e f));
+  trans = λ x y z e f. le_trans R h (code x) (code y) (code z) (R (code x) (code y)) (R (code y) (code z)) refl refl e f;
+}
+
+same_numbers : (a b : Line) → numbers a ≡ numbers b → in_order a b ≡ true
+unfolding in_order
+same_numbers a b e = ap (λ (n : List ℕ). is_le (slice_cmp nat_cmp n (numbers b))) e ∙ le-itself in_order lines_in_order b (in_order b b) refl
+
+place_only : (a b : Line) → place a ≡ place b → a ≡ b
+unfolding place
+place_only a b e =
+    let same : numbers a ≡ numbers b = cc in
+    lines_in_order.antisym a b (same_numbers a b same) (same_numbers b a (sym same))
+
+pub lines_in_time : IsLinear in_time
+unfolding in_time
+lines_in_time = linear_by (slice_cmp nat_cmp) place nat_list_cmp_total (slice_cmp-IsAntisymmetric nat_cmp-IsAntisymmetric) place_only
+
+-- ---- the bag of items that change their places
+
+module _ {A : Type 0} (le : A → A → Bool) (h : IsLinear le) where
+  -- one item for another
+  set-bag : (l : List A) (i : ℕ) (x d : A) → i < length l → add le (slice_index_or l i d) (bag_of le (slice_set l i x)) ≡ add le x (bag_of le l)
+  unfolding bag_of
+  set-bag [] i x d within = absurd (omega arith)
+  set-bag (y ∷ ys) zero x d within = add-add le h y x (bag_of le ys)
+  set-bag (y ∷ ys) (suc i) x d within =
+      add-add le h (slice_index_or ys i d) y (bag_of le (slice_set ys i x))
+      ∙ ap (add le y) (set-bag ys i x d (omega (arith, within)))
+      ∙ add-add le h y x (bag_of le ys)
+
+  there : (l : List A) (i j : ℕ) (d : A) → i < length l → j < length l → slice_index_or (slice_set l i (slice_index_or l j d)) j d ≡ slice_index_or l j d
+  there [] i j d a b = absurd (omega arith)
+  there (y ∷ ys) zero zero d a b = refl
+  there (y ∷ ys) zero (suc j) d a b = refl
+  there (y ∷ ys) (suc i) zero d a b = refl
+  there (y ∷ ys) (suc i) (suc j) d a b = there ys i j d (omega (arith, a)) (omega (arith, b))
+
+  set-length : (l : List A) (i : ℕ) (x : A) → length (slice_set l i x) ≡ length l
+  set-length [] i x = refl
+  set-length (y ∷ ys) zero x = refl
+  set-length (y ∷ ys) (suc i) x = ap suc (set-length ys i x)
+
+  swap-bag : (l : List A) (i j : ℕ) → i < length l → j < length l → bag_of le (swap l i j) ≡ bag_of le l
+  swap-bag [] i j a b = absurd (omega arith)
+  swap-bag (d ∷ ys) i j a b =
+      let l = d ∷ ys in
+      let x = slice_index_or l i d in
+      let y = slice_index_or l j d in
+      let m = slice_set l i y in
+      let inside : j < length m = omega (arith, b, set-length l i y) in
+      let one : add le x (bag_of le m) ≡ add le y (bag_of le l) = set-bag l i y d a in
+      let two : add le (slice_index_or m j d) (bag_of le (slice_set m j x)) ≡ add le x (bag_of le m) = set-bag m j x d inside in
+      let both : add le y (bag_of le (slice_set m j x)) ≡ add le y (bag_of le l) = ap (λ (z : A). add le z (bag_of le (slice_set m j x))) (sym (there l i j d a b)) ∙ two ∙ one in
+      sym (taken-add le h y (bag_of le (slice_set m j x))) ∙ ap (taken le y) both ∙ taken-add le h y (bag_of le l)
+
+  pub moved-bag : (xs ys : List A) → IsPermutation xs ys → bag_of le ys ≡ bag_of le xs
+  moved-bag xs ys moved = IsPermutation-keeps xs (λ (l : List A). bag_of le l ≡ bag_of le xs) refl (λ l i j a b same. swap-bag l i j a b ∙ same) ys moved
+
+  -- of a bag in another order
+  add-other : (other : A → A → Bool) (x y : A) (ys : List A) (b : Bool) → bag_of le (add other x ys) ≡ add le x (bag_of le ys)
+      → bag_of le (cond b (x ∷ y ∷ ys) (y ∷ add other x ys)) ≡ add le x (bag_of le (y ∷ ys))
+  unfolding bag_of
+  add-other other x y ys true e = refl
+  add-other other x y ys false e = ap (add le y) e ∙ add-add le h y x (bag_of le ys)
+
+  added-bag : (other : A → A → Bool) (x : A) (ys : List A) → bag_of le (add other x ys) ≡ add le x (bag_of le ys)
+  unfolding bag_of add
+  added-bag other x [] = refl
+  added-bag other x (y ∷ ys) = add-other other x y ys (other x y) (added-bag other x ys)
+
+  pub other-bag : (other : A → A → Bool) (xs : List A) → bag_of le (bag_of other xs) ≡ bag_of le xs
+  unfolding bag_of
+  other-bag other [] = refl
+  other-bag other (x ∷ xs) = added-bag other x (bag_of other xs) ∙ ap (add le x) (other-bag other xs)
+
+  -- of what stands in the order
+  put-first : (x y : A) (ys : List A) → le x y ≡ true → add le x (y ∷ ys) ≡ x ∷ y ∷ ys
+  unfolding add
+  put-first x y ys first = ap (λ (b : Bool). cond b (x ∷ y ∷ ys) (y ∷ add le x ys)) first
+
+  later : (lt : A → A → Bool) (x y : A) (ys : List A) → IsSortedBy lt (x ∷ y ∷ ys) → IsSortedBy lt (y ∷ ys)
+  later lt x y ys up k d low high =
+      let next : suc (k + 1) ≡ suc k + 1 = omega arith in
+      ap (λ (n : ℕ). lt (slice_index_or (x ∷ y ∷ ys) n d) (slice_index_or (y ∷ ys) k d)) next ∙ up (suc k) d (omega arith) (omega (arith, high))
+
+  pub sorted-bag : (lt : A → A → Bool) → ((x y : A) → lt y x ≡ false → le x y ≡ true) → (xs : List A) → IsSortedBy lt xs → bag_of le xs ≡ xs
+  unfolding bag_of add
+  sorted-bag lt first [] up = refl
+  sorted-bag lt first (x ∷ []) up = refl
+  sorted-bag lt first (x ∷ y ∷ ys) up =
+      ap (add le x) (sorted-bag lt first (y ∷ ys) (later lt x y ys up))
+      ∙ put-first x y ys (first x y (up 0 x (omega arith) (omega arith)))
+
+-- ---- lines
+
+unless_behind : (x y : Line) → is_lt (slice_cmp nat_cmp (place y) (place x)) ≡ false → in_time x y ≡ true
+unfolding in_time
+unless_behind x y e = le_unless (slice_cmp nat_cmp (place x) (place y)) (slice_cmp nat_cmp (place y) (place x)) (nat_list_cmp_total.antisymm (place x) (place y)) e
+
+-- lines that are sorted by their places are those of the account by their moments
+pub sorted_lines : (lines listed sorted : List Line) → bag_of in_order listed ≡ lines → IsPermutation listed sorted
+    → IsSortedBy (λ (a b : Line). is_lt (slice_cmp nat_cmp (place a) (place b))) sorted → sorted ≡ by_moment lines
+sorted_lines lines listed sorted all moved up =
+    sym (sorted-bag in_time lines_in_time (λ (a b : Line). is_lt (slice_cmp nat_cmp (place a) (place b))) unless_behind sorted up)
+    ∙ moved-bag in_time lines_in_time listed sorted moved
+    ∙ sym (other-bag in_time lines_in_time in_order listed)
+    ∙ ap (bag_of in_time) all

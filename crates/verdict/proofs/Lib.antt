@@ -1,5 +1,0 @@
-pub mod RowLemmas
-mod ActionLemmas
-mod PutLemmas
-pub mod LawLemmas
-pub mod RenewalLemmas

@@ -1,5 +1,0 @@
-use Rattle.verdict.proofs.LawLemmas.{answers-lawfully}
-use Rattle.verdict.proofs.verdict.judge.Goals as goal
-
-pub returns-in-Ok-clause-laws : goal.returns-in-Ok-clause-laws
-returns-in-Ok-clause-laws c = answers-lawfully c.args.policy.now c.args.caller c.args.moment c.args.command.now c.args.facts.now c.in-Ok.verdict c.in-Ok.ensures
