@@ -1,8 +1,8 @@
-//! The accounts of registrars: lines of money, a queue of messages, and counters.
+//! The accounts of registrars: lines of money in cents, a queue of messages, and counters.
 //!
-//! A bag of [`Lines`] has no order of its own: it keeps its sum, and finds those of a domain by a
-//! look-up. A [`Queue`] is in the order of its messages. What time alone does to an account is a
-//! [`LapseEntry`], and entries commute.
+//! [`Lines`] have no order. They keep their sum, and find the lines of a domain by a look-up. A
+//! [`Queue`] has the order of its messages. A [`LapseEntry`] is what time alone adds to an account; the
+//! order of entries doesn't matter.
 #![tactic(auto)]
 
 mod account;

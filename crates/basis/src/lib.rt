@@ -1,6 +1,6 @@
-//! The small value types that every crate above speaks of. Each has a `Model`, so that contracts see
-//! a text as the list of its bytes, a list as its items, a map as a finite map, a set as a finite set
-//! and a registrar as its place, and never where a value lies in memory.
+//! The small value types that all other crates use. Each has a `Model`: in contracts a text is the list
+//! of its bytes, a list is its items, a map is a finite map, a set is a finite set, and a registrar is
+//! its place in the policy's list. Where a value lies in memory is never part of a contract.
 #![tactic(auto)]
 
 pub mod list;

@@ -1,4 +1,4 @@
-//! A registry in a file, and what is found of it after the machine stopped.
+//! A registry in a file: it is created, opened, and opened again after the machine stopped.
 #![tactic(auto)]
 
 mod connection;

@@ -1,5 +1,5 @@
-//! Where a registry is kept: the trait of such a place, and one that is made of records, whatever keeps
-//! them.
+//! The trait `Book`, which keeps a registry, and the one implementation of it over [`Records`], wherever
+//! those are kept.
 #![tactic(auto)]
 
 mod applying;

@@ -1,6 +1,6 @@
-//! What a command concerns: the contacts and domains that have to have lapsed before it is answered. All
-//! others may be behind the clock, and nobody can tell. What is named is read off a command; what is
-//! concerned stands in `specs/Concerns`, and what follows in `specs/ConcernLaws`.
+//! What a command concerns: the contacts and domains that must have lapsed before the command is
+//! answered. Others may be behind the clock, and no reply shows it. `specs/Concerns` defines both what a
+//! command names and what it concerns; `specs/ConcernLaws` has the laws.
 #![tactic(auto)]
 
 mod concern;

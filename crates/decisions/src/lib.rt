@@ -1,4 +1,4 @@
-//! What a command or an order changes, as a list of changes of the registry.
+//! What a command or an order changes: a list of changes to the registry.
 #![tactic(auto)]
 
 mod change;

@@ -1,10 +1,10 @@
 //! What a payload asks for: a registrar's command (RFC 5730, 2.5), or an order of the operator.
 //!
 //! - `command`: a payload as a command.
-//! - `request`, with `contact`, `domain` and `host`: what a well formed command asks for.
-//! - `reading`: what a member of a well formed command says.
+//! - `request`, with `contact`, `domain` and `host`: the request of a well-formed command.
+//! - `reading`: the value of a member of a well-formed command.
 //! - `dates`: dates and moments in members.
-//! - `session`: what a payload says in a session, and before a registrar is logged in.
+//! - `session`: a payload in a session, and before a login.
 //! - `order`: a payload as an order of the operator.
 #![tactic(auto)]
 

@@ -1,11 +1,11 @@
-//! The forms of commands: which members a command has, what each has to be, and in which order the
-//! faults of a form are told (RFC 5730, 3).
+//! The forms of commands: the members of each command, the values that they take, and the order in which
+//! faults of form are reported (RFC 5730, 3).
 //!
-//! - `kind`: what the kinds of members ask of a value.
-//! - `member`: the members, and where they stand.
+//! - `kind`: what each kind of member asks of its value.
+//! - `member`: the members, and where they are.
 //! - `table`: the form of each command.
 //! - `value`: the members of a JSON value.
-//! - `form`: a JSON value against a table of forms.
+//! - `form`: a JSON value checked against a table of forms.
 #![tactic(auto)]
 
 mod form;

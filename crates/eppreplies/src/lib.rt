@@ -1,10 +1,9 @@
-//! What is told in JSON: the reply to a command (RFC 5730, 2.6), and the answer to an order of the
-//! operator.
+//! Answers in JSON: the reply to a command (RFC 5730, 2.6), and the answer to an order of the operator.
 //!
 //! - `reply`: a reply as a payload.
 //! - `answer`: the answer to an order.
-//! - `greeting`: what answers hello.
-//! - `session`: the replies of nobody's command.
+//! - `greeting`: the answer to hello.
+//! - `session`: replies that answer no registrar's command.
 #![tactic(auto)]
 
 mod answer;

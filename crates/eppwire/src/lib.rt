@@ -1,9 +1,9 @@
-//! The wire: sessions of EPP with a registry (RFC 5730, 2), who is logged in on a connection, and what
-//! each of its frames is answered.
+//! Sessions of EPP with a registry (RFC 5730, 2): who is logged in on a connection, and the reply to
+//! each of its frames.
 //!
-//! A [`Connection`] is the peer of a session: [`serve_session`] asks it for each frame. What it sends a
-//! registrar hangs on nothing that the registrar may not see. Beside it stands all else that the wire
-//! has: frames, and commands, orders and replies as JSON, each of which is made in a crate of its own.
+//! A [`Connection`] is the peer of a session, and [`serve_session`] asks it for each frame. What it
+//! sends a registrar depends on nothing that the registrar may not see. The other parts of the wire have
+//! crates of their own: frames, and commands, orders and replies as JSON.
 #![tactic(auto)]
 
 mod answer;

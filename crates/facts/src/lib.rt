@@ -1,5 +1,5 @@
-//! What a command is judged by: the facts of a registry that bear on it, which hold nothing that its
-//! caller may not see, and the lists that it gives.
+//! What a command is judged by: the facts of a registry that matter to it, none of which its registrar
+//! may not see, and the lists that it returns.
 #![tactic(auto)]
 
 mod facts;

@@ -1,5 +1,5 @@
-//! What no contract says and no file of data can show (`docs/TRANSCRIPTS.md`): disks in memory that stop or
-//! fail, and what lies in the tables of a database.
+//! Tests of what no contract says and no file of data can show (`docs/TRANSCRIPTS.md`): disks in memory
+//! that stop or fail, and what the tables of a database contain.
 #![tactic(auto)]
 
 #[cfg(test)]

@@ -1,13 +1,13 @@
-//! Frames and sessions of EPP over TCP (RFC 5734): bytes to payloads and back. Frames come in, and one
-//! reply goes out for each, in their order.
+//! Frames and sessions of EPP over TCP (RFC 5734): bytes to payloads and back. Each frame that is read
+//! is answered by one reply, in order.
 //!
-//! [`read_frame`] and [`write_frame`] go on until a frame is whole, in however many pieces the
-//! connection moves it. A frame is read into a buffer that [`frame_buffer`] takes once, before the first
-//! is read, so neither of them takes memory. Two replies need none either.
+//! [`read_frame`] and [`write_frame`] go on until a frame is complete, in however many pieces the
+//! connection moves it. A frame is read into a buffer that [`frame_buffer`] allocates once, before the
+//! first frame, so neither of them allocates memory. Two replies need no memory either.
 //!
-//! [`serve_session`] knows nothing of commands: a [`Peer`] makes a reply of a payload and a moment.
-//! What is written is a function of the bytes that are read, the moments that the clock tells and
-//! what the peer makes of them.
+//! [`serve_session`] knows nothing of commands: a [`Peer`] makes a reply from a payload and a moment.
+//! What is written is a function of the bytes that are read, the moments that the clock tells, and the
+//! peer.
 #![tactic(auto)]
 
 mod clock;

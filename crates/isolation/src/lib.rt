@@ -1,4 +1,4 @@
-//! What a registrar learns over whole runs. Nothing here is run.
+//! What a registrar learns over whole runs. This crate has laws alone, and no code that runs.
 #![tactic(auto)]
 
 mod laws;

@@ -1,5 +1,5 @@
-//! Objects of JSON, member by member in the order of their names: what replies to registrars and
-//! RDAP's answers are made of.
+//! Objects of JSON, member by member in the order of their names. Replies to registrars and answers of
+//! RDAP are made of them.
 #![tactic(auto)]
 
 mod item;

@@ -1,8 +1,8 @@
-//! What time makes of objects: the phases of a deletion and the graces of a domain (RFC 3915), and
-//! what an object has become at a moment (its lapse).
+//! What time does to objects: the phases of a deletion, the grace periods of a domain (RFC 3915), and
+//! the lapse, which is an object's state at a moment.
 //!
-//! A lapse is a closed form: to lapse to a moment and then to a later one is to lapse to the later.
-//! What it does outside the object is a list of postings into accounts, and postings commute.
+//! A lapse is a closed form: a lapse to one moment, and then to a later one, equals the lapse to the
+//! later one. Outside the object it is a list of postings to accounts, in any order.
 #![tactic(auto)]
 
 mod change;

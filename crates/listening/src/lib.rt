@@ -1,5 +1,6 @@
-//! The registry on a port, or on two, of which no client can keep the others: connections by turns, each served
-//! by `serve_one`, or on the operator's port by `serve_request`, over a wire with limits.
+//! The registry on one port or two: connections are served by turns over a wire with limits, so that no
+//! client can hold a port. `serve_one` serves a connection of the public port, and `serve_request` one
+//! of the operator's.
 #![tactic(auto)]
 
 mod listener;

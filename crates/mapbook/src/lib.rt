@@ -1,8 +1,8 @@
-//! A registry in ordered maps: records of a book as they are in memory, with what undoes the changes of
-//! the open transaction.
+//! A registry in ordered maps: the records of a book in memory, and what undoes the changes of the open
+//! transaction.
 //!
-//! A call costs a look-up, and a copy of what it replaces or gives. What is due, who names what and what
-//! lies below a domain is found by a walk.
+//! A call costs a look-up, and a copy of what it replaces or returns. What is due, the objects that name
+//! another, and the hosts below a domain are found by a walk over a map.
 #![tactic(auto)]
 
 mod changing;

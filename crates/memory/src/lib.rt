@@ -1,7 +1,7 @@
-//! The registry in memory: the tables of a database that no file keeps.
+//! The registry in memory: tables of a database without a file.
 //!
-//! [`run_script`] answers a script over one that was never used. [`execute_in_memory`] is the headline with no premise
-//! of what keeps the book, since nothing wrong is ever taken from memory.
+//! [`run_script`] answers a script over a new registry. [`execute_in_memory`] has isolation with no
+//! premise about the book, since memory never returns anything wrong.
 #![tactic(auto)]
 
 mod registry_in_memory;

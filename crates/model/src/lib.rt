@@ -1,7 +1,7 @@
-//! The registry as plain maps, what of it a registrar sees, and when a value of the maps is a
-//! registry. All of it stands in `specs/`: `Registry`, `View`, `Standards`, `WellFormed`. What time alone makes of
-//! a registry stands in `Lapse`, and its laws in `LapseLaws`; what a call makes of the money of its
-//! accounts in `Money`, and over many calls in `MoneyLaws`.
+//! The registry as plain maps, the part of it that a registrar sees, and the conditions under which such
+//! maps are a registry. It is all in `specs/`: `Registry`, `View`, `Standards`, `WellFormed`. `Lapse`
+//! has what time alone changes, with its laws in `LapseLaws`; `Money` has what one call does to
+//! accounts, and `MoneyLaws` has the same for many calls.
 #![tactic(auto)]
 
 mod laws;

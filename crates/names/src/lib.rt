@@ -1,9 +1,9 @@
-//! Names of domains and hosts, and addresses of hosts: which texts are one, in which canonical form
-//! it's kept, and which names the zone keeps.
+//! Names of domains and hosts, and addresses of hosts: which texts are valid, their canonical forms, and
+//! which names belong in the zone.
 //!
-//! A name is looked at in two steps. `NameFault::Syntax` says that a text is no name, and
-//! `NameFault::Policy` that it's a name which the zone doesn't keep. Both stand in the definitions of
-//! `specs/Names.antt`, and those of an address in `specs/Addresses.antt`.
+//! A text is checked in two steps. `NameFault::Syntax` means that it isn't a name. `NameFault::Policy`
+//! means that it is a name, but one that the zone doesn't keep. `specs/Names.antt` defines both, and
+//! `specs/Addresses.antt` defines addresses.
 #![tactic(auto)]
 
 mod address;

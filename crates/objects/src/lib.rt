@@ -1,8 +1,8 @@
-//! The objects that a registry keeps: domains (RFC 5731), hosts (RFC 5732) and contacts (RFC 5733),
-//! with their statuses, their transfers, and what of them a registrar sees.
+//! The objects of a registry: domains (RFC 5731), hosts (RFC 5732) and contacts (RFC 5733), with their
+//! statuses and transfers, and the part of them that a registrar sees.
 //!
-//! Every struct and enum here is its own type in contracts: what a definition says of a `Domain` it
-//! says of this record.
+//! In contracts each struct and enum is its own type: a definition about a `Domain` is about this
+//! record.
 #![tactic(auto)]
 
 mod contact;

@@ -1,4 +1,4 @@
-//! The tables of the schema before this one, which are read alone, and copied into those of today.
+//! The tables of the previous schema, which are only read, and copied into today's.
 #![tactic(auto)]
 
 mod copied;

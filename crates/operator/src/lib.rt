@@ -1,8 +1,9 @@
-//! The operator's port: orders, the zone, figures and statements of accounts over HTTP, for whoever has the token.
+//! The operator's port: orders, the zone, figures and statements of accounts over HTTP, for a client
+//! that has the token.
 //!
 //! - `request`: what a head asks for, by its token, its method and its target; `token` compares.
 //! - `hearing`: a request as a connection gives it, head and body.
-//! - `answer`: how an answer stands on the wire; `chunks`: one that goes out in pieces.
+//! - `answer`: an answer as bytes; `chunks`: an answer in pieces.
 //! - `orders`: what becomes of an order; `figures`: a text for Prometheus.
 //! - `serving`: one request, from its head to its answer.
 #![tactic(auto)]

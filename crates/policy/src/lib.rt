@@ -1,12 +1,11 @@
-//! The policy of the registry, as the operator writes it in a TOML file: the zone, the lengths of
-//! its periods in days, its prices in cents, the zone's start of authority, and who may log in.
+//! The policy of the registry, which the operator writes in a TOML file: the zone, its periods in days,
+//! its prices in cents, its start of authority, and the registrars that may log in.
 //!
-//! [`Policy::read`] takes a whole file or names its first fault, in the order of [`Key`]. Every key
-//! is required, and keys that aren't listed are ignored. [`Terms`] are the part of a policy that
-//! may not change while a registry keeps its book, but for registrars that are added at the end, and
-//! lengths of periods that begin later.
-//! Reading takes time linear in the file but for the comparison of each id with those after it, of
-//! which there are at most 1,000.
+//! [`Policy::read`] reads a whole file, or returns its first fault, in the order of [`Key`]. Every key
+//! is required; other keys are ignored. [`Terms`] are the part of a policy that a registry keeps as long
+//! as it lives, with two exceptions: registrars may be added at the end, and new periods may begin
+//! later. Reading takes time linear in the file, except that each id is compared with those after it (at
+//! most 1,000).
 #![tactic(auto)]
 
 mod dated;

@@ -1,5 +1,5 @@
-//! What registrars and the operator ask, and what they are answered, as plain records: commands
-//! (RFC 5730 to 5733), orders, result codes (RFC 5730, 3) and replies.
+//! What registrars and the operator ask, and the answers, as plain records: commands (RFC 5730 to 5733),
+//! orders, result codes (RFC 5730, 3) and replies.
 #![tactic(auto)]
 
 mod code;

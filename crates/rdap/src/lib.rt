@@ -1,10 +1,10 @@
-//! Answers of RDAP (RFC 7480, RFC 9082, RFC 9083): to the head of an HTTP request, of the faces of
-//! domains, hosts and contacts.
+//! Answers of RDAP (RFC 7480, RFC 9082, RFC 9083) to the head of an HTTP request, from the faces of
+//! domains, hosts and contacts (a face is the public part of an object).
 //!
-//! - `head`: the head that bytes begin with.
+//! - `head`: the head at the beginning of the bytes.
 //! - `request`: what its method and its target ask for, by the paths of `routes`.
-//! - `answering`: the answer, by a `source` of faces; `wire`: how it stands on the wire.
-//! - `domain`, `nameserver`, `entity`: the bodies, of `body` and the words of `status`.
+//! - `answering`: the answer, from a `source` of faces; `wire`: the answer as bytes.
+//! - `domain`, `nameserver`, `entity`: the bodies, made of `body` and the words of `status`.
 //! - `laws`: an answer is a function of the head, the policy and the faces.
 #![tactic(auto)]
 

@@ -1,5 +1,5 @@
-//! The registry that registrars and the operator talk to: one command or order is one transaction
-//! and one step of the rules. What a registrar is answered hangs on nothing that it may not see: the
+//! The registry that registrars and the operator use: a command or an order is one transaction and one
+//! step of the rules. A registrar's reply depends on nothing that the registrar may not see: see the
 //! clause `isolation` of [`Registry::execute`].
 #![tactic(auto)]
 

@@ -1,5 +1,5 @@
-//! Runs: a registry is asked one thing after another, with settlements between. What the contracts of
-//! its calls say of one step is said here of as many as there are. Nothing here is run.
+//! Runs: a registry is asked one thing after another, with settlements in between. The contracts of its
+//! calls speak of one step; the laws here speak of any number. No code here runs.
 #![tactic(auto)]
 
 mod crashes;

@@ -1,8 +1,7 @@
-//! The registry on a port: connections come in, and each is served by the protocol that its first
-//! byte tells.
+//! The registry on a port: each connection is served by the protocol that its first byte shows.
 //!
-//! [`serve_one`] serves one connection, by any reader, writer and clock, and hands the registry back
-//! for the next one: a session of EPP, or one request of HTTP. [`zone_on`] writes the zone of a registry.
+//! [`serve_one`] serves one connection, over any reader, writer and clock, and returns the registry for
+//! the next one: a session of EPP, or one request of HTTP. [`zone_on`] writes the zone of a registry.
 #![tactic(auto)]
 
 mod at_moment;

@@ -1,12 +1,12 @@
-//! The accounts of registrars over the rows of a database: what they count, their lines, their
-//! balances, and the messages that wait.
+//! The accounts of registrars over the rows of a database: their counters, lines, balances and waiting
+//! messages.
 //!
-//! Each account keeps its balance, and how many messages wait, in its own row. No call adds up lines.
-//! A question is answered where these sums are right, and each change keeps them right. A registrar's
-//! queue is in the order of its rows' columns.
+//! An account's row has its balance and its number of waiting messages, so no call adds up lines. A
+//! question is answered where these sums are right, and each change keeps them right. A registrar's
+//! queue has the order of its rows' columns.
 //!
-//! Each call is some statements by an index. The lines on a domain are found by its columns, and only the
-//! taking out of a deposit and the question for all lines go over all lines of an account.
+//! Each call is a few statements by an index. The lines of a domain are found by its columns. Only two
+//! calls go over all lines of an account: the removal of a deposit, and the question for all lines.
 #![tactic(auto)]
 
 mod account;

@@ -1,5 +1,4 @@
-//! A book over rows: what rows mean to it, and its changes, each of which leaves the stored sums as right
-//! as they were.
+//! A book over rows: what rows mean to it, and its changes, each of which keeps the stored sums right.
 #![tactic(auto)]
 
 mod book;

@@ -1,7 +1,7 @@
-//! How values of the registry lie in the columns of its tables, and how they are read back.
+//! How values of the registry are stored in the columns of its tables, and read back.
 //!
-//! Each value has a function that gives its column, or its row, and one that reads it. What was
-//! written is read back, and a column that no value has reads as none.
+//! Each value has a function that returns its column or its row, and one that reads it. What was written
+//! is read back; a column that no value has reads as none.
 #![tactic(auto)]
 
 mod above;

@@ -1,14 +1,14 @@
-//! What is stored beside domains and has to stay right: when domains and contacts are due, and how many
-//! domains each registrar holds.
+//! What is stored with domains and contacts and has to stay right: the moment when each is due, and how
+//! many domains each registrar holds.
 //!
-//! The row of each object has a column for when it is due, and what is due by a moment is found by these
-//! columns, without a look at the others. A contact reads only where its column is right. A domain's
-//! column hangs on the days of the terms as well: it is no later than the moment when time next changes
-//! the domain, and each call here refuses other days than those that the rows were written under.
+//! The row of an object has a column for the moment when it is due, so what is due by a moment is found
+//! without a look at other rows. A contact is read only if its column is right. A domain's column
+//! depends on the periods too: it is no later than the moment when time next changes the domain. Each
+//! call refuses periods other than those under which the rows were written.
 //!
-//! How many domains a registrar holds is a number in its account's row, and no call counts. The question
-//! is answered where these numbers are right, and a change of a domain keeps them right, by one or two
-//! statements for each registrar concerned.
+//! An account's row has the number of domains that the registrar holds, so no call counts them. The
+//! question is answered where these numbers are right. A change of a domain keeps them right, with one
+//! or two statements for each registrar concerned.
 #![tactic(auto)]
 
 mod by_names;

@@ -1,6 +1,5 @@
-//! Domains over the store of rows: what rows mean is said in `specs/Domains.antt`, and each call answers
-//! from the rows that its name or number finds, or refuses (`BookFault::Store`) where one of them doesn't
-//! read.
+//! Domains over the store of rows. `specs/Domains.antt` defines what rows mean. Each call reads the rows
+//! of its name or number, and returns `BookFault::Store` if one of them can't be read.
 #![tactic(auto)]
 
 mod below;

@@ -1,18 +1,16 @@
-//! Contacts and hosts over the store of rows: what rows mean is said in `specs/Objects.antt`, and each
-//! question answers from the rows that its name or number finds, or refuses (`BookFault::Store`) where
-//! one of them doesn't read.
+//! Contacts and hosts over the store of rows. `specs/Objects.antt` defines what rows mean. Each question
+//! reads the rows of its name or number, and returns `BookFault::Store` if one of them can't be read.
 //!
 //! Each change writes the row of one name and its children: a contact's transfer, a host's addresses
-//! (`specs/Changes.antt`). An object that wouldn't be read back is refused. What else stands is as it
-//! was, and no number leads to another name than before.
+//! (`specs/Changes.antt`). An object that could not be read back is refused. Nothing else changes, and
+//! each number keeps its name.
 //!
-//! A host's row also says who sponsors the host (`specs/Sponsors.antt`): that is written with the host,
-//! and `set_sponsor_below` writes it where the domain above is to have another sponsor. A row in which it is wrong
-//! is refused, so that no change mends it unseen.
+//! A host's row also has the host's sponsor (`specs/Sponsors.antt`), which is written with the host.
+//! `set_sponsor_below` writes it when the domain above gets another sponsor. A row whose sponsor is
+//! wrong is refused, so no change mends it unseen.
 //!
-//! The last transfer of a domain lies in the same table as a contact's, so both are put here
-//! (`Transferable`).
-//! Rows that have names, those of domains too, are found and put in one way (`NamedRow`).
+//! The last transfer of a domain is in the same table as a contact's, so both are put here
+//! (`Transferable`). Rows with names, those of domains too, are found and put in one way (`NamedRow`).
 #![tactic(auto)]
 
 mod addresses;

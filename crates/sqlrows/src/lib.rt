@@ -1,7 +1,7 @@
-//! Typed rows of a SQL database: a record stands for a row of its table, a query gives the records that
-//! pass, an upsert puts one by its key, a removal takes those that pass. What a statement means is
-//! computed from its text. Beside them are the words for what a call on rows leaves, said of what the
-//! rows mean, and the reading of a list that may have one row at most.
+//! Typed rows of a SQL database. A record is a row of its table; a query returns the records that match,
+//! an upsert puts one by its key, and a removal takes those that match. A statement's meaning is
+//! computed from its text. Here are also the terms for what a call leaves in rows, said of the registry
+//! that the rows mean, and a reader for lists of one row at most.
 #![tactic(auto)]
 
 mod definition;

@@ -1,5 +1,5 @@
-//! The clock and the terms of a registry over the rows of a database: what the one row of `meta` says,
-//! the tables of lengths of periods, and the registrars' ids, which are in the rows of their accounts.
+//! The clock and the terms of a registry over the rows of a database: the one row of `meta`, the tables
+//! of periods, and the ids of registrars, which are in the rows of their accounts.
 #![tactic(auto)]
 
 mod counts;

@@ -1,6 +1,6 @@
-//! The statement of a registrar's account, as a table of comma-separated values (RFC 4180).
+//! The statement of a registrar's account, as comma-separated values (RFC 4180).
 //!
-//! - `extract`: which lines of which account are asked for, by the pieces of a target.
+//! - `extract`: the lines and the account that a target asks for.
 //! - `in_time`: the lines of an account in the order of their moments.
 //! - `table`: the rows of lines, each with the balance after it.
 #![tactic(auto)]

@@ -1,5 +1,5 @@
-//! What keeps records in transactions: how it stands, what each call on it leaves, why one gives up.
-//! The same words serve rows of a database and the registry that they mean.
+//! The state of anything that keeps records in transactions, what each call leaves, and why a call gives
+//! up. The words are the same for rows of a database and for the registry that the rows mean.
 #![tactic(auto)]
 
 mod fault;

@@ -1,4 +1,4 @@
-//! A registry of the schema before this one, taken over into the tables of today.
+//! A registry of the previous schema is taken over into today's tables.
 #![tactic(auto)]
 
 mod graces;

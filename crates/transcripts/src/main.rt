@@ -1,10 +1,10 @@
-//! Runs what lies in files as data: transcripts, which are scripts with the replies that must follow; cases, of
-//! what comes over connections and what must be told; lines of which each call on the book is refused; and pairs
-//! of scripts that differ in what others hide. `docs/TRANSCRIPTS.md` describes the four kinds of files.
+//! Runs files of data: transcripts, which are scripts with the replies that must follow; cases, with
+//! what comes over connections and the answers; lines whose calls on the book are refused one by one;
+//! and pairs of scripts that differ in what others hide. `docs/TRANSCRIPTS.md` describes the four kinds.
 //!
-//! The arguments name the files, and each is run by what its name ends with. The status is 1 where anything
-//! differs. `find FILE rows|maps PLACE [stops]` sends one line of a file of refusals, while memory may be refused
-//! to it from outside, and prints what was found then (`.ci/refused`); with `stops`, it stops before the line.
+//! The arguments name the files; a file's ending tells its kind. The status is 1 if anything differs.
+//! `find FILE rows|maps PLACE [stops]` sends one line of a file of refusals while memory may be refused
+//! from outside, and prints what was found then (`.ci/refused`); with `stops`, it stops before the line.
 #![tactic(auto)]
 
 mod bars;

@@ -1,11 +1,10 @@
-//! Connections of a port, none of which can keep the others.
+//! Connections of a port, none of which can hold the others up.
 //!
-//! They wait in a [`Room`], each until its first byte is there, so that silent ones keep nobody waiting; a
-//! [`Door`] waits until somebody comes. [`Rooms`] are those of one port, or of two, which have their turns one by
-//! one. A [`Wire`] reads and writes one whose turn it is, within [`Limits`],
-//! which are narrower while another waits: by what it sees of frames alone, it knows where a session stands
-//! ([`progress`]). A read or a write that takes longer fails, as where a peer is gone. And a [`Log`] prints what
-//! is asked and told, and counts it.
+//! They wait in a [`Room`] until their first bytes arrive, so silent ones delay nobody; a [`Door`] waits
+//! for new ones. [`Rooms`] are those of one port, or of two, which take turns. A [`Wire`] reads and
+//! writes the connection whose turn it is, within [`Limits`], which are narrower while another waits. It
+//! knows from the frames alone how far a session is ([`progress`]). A read or a write that takes longer
+//! fails, as if the peer were gone. A [`Log`] prints what is asked and answered, and counts it.
 #![tactic(auto)]
 
 mod asks;
