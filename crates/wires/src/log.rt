@@ -25,6 +25,9 @@ const OPERATIONS: &[&str] = &[
 
 const OFFICE_TARGETS: &[&str] = &["/orders", "/zone", "/metrics"];
 
+/// The beginning of a statement's target, before the registrar's id and the moments.
+const STATEMENT: &[u8] = b"/statement/";
+
 /// The most bytes of a frame or of a head that are kept: those of a frame.
 const MOST_ASKED: usize = 65_540;
 
@@ -158,13 +161,16 @@ impl<'l, M: time::Clock + Print> Log<'l, M> {
         }
     }
 
-    /// The target that a head asks for. On the operator's port one that there isn't may be a slip, so it isn't told.
+    /// The target that a head asks for. On the operator's port an unknown one may be a slip, so it isn't printed, and
+    /// of a statement's only the beginning is.
     fn name_of<'h>(&self, head: &'h [u8]) -> &'h [u8] {
         let target = target_of(head);
-        if self.is_office.get() && !is_office_target(target) {
-            b""
-        } else {
+        if !self.is_office.get() || is_office_target(target) {
             target
+        } else if target.starts_with(STATEMENT) {
+            STATEMENT
+        } else {
+            b""
         }
     }
 
