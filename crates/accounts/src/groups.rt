@@ -12,7 +12,7 @@ use std::alloc::{AllocError, Global};
 use std::collections::BTreeMap;
 use std::marker::Model;
 
-/// Lines in an order that says nothing: one that stands for another comes last.
+/// Lines in an order that says nothing: one that replaces another comes last.
 #[derive(Drop)]
 struct Group {
     lines: Vec<Line>,
@@ -203,7 +203,7 @@ impl Groups {
         }
     }
 
-    /// One line for another, as often as the change makes another of one. It looks at the lines of the
+    /// One line for another, wherever the change makes another of it. It reads the lines of the
     /// change's domain alone.
     pub(crate) fn swaps<C: LineChange>(&self, change: &C) -> Result<Vec<LineSwap>, AllocError>
         ensures { IfOk result (λ swaps. spec.swapped_all swaps.items self.now

@@ -32,7 +32,7 @@ pub struct Line {
     pub refunded: Option<Moment>,
 }
 
-/// A line that stands for another from now on.
+/// A line that replaces another from now on.
 #[derive(Clone, Copy, Drop)]
 pub struct LineSwap {
     pub from: Line,

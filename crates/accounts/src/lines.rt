@@ -69,7 +69,7 @@ impl Lines {
         self.groups.has(line)
     }
 
-    /// What makes of the lines what the change makes of them, one line for another. It looks at those of
+    /// What makes of the lines what the change makes of them, one line for another. It reads those of
     /// the change's domain alone.
     pub fn swaps<C: LineChange>(&self, change: &C) -> Result<Vec<LineSwap>, AllocError>
         ensures { IfOk result (λ swaps. spec.swapped_all swaps.items self.now

@@ -41,7 +41,7 @@ pub enum Subject {
 }
 
 /// A message in a registrar's queue. Messages are ordered by moment; at one moment those of a lapse
-/// stand first, by their letter and then the object's name, and then those of commands by number.
+/// come first, by their letter and then the object's name, and then those of commands by number.
 #[derive(Clone, Drop)]
 pub struct Message {
     pub moment: Moment,
@@ -97,7 +97,7 @@ impl Origin {
         }
     }
 
-    /// Where the message stands among those of its class and moment.
+    /// The place of the message among those of its class and moment.
     fn number(self) -> u64
         ensures { result ≡ spec.number_of self }
     {

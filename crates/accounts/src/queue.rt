@@ -73,7 +73,7 @@ impl Queue {
         self.messages.remove(message);
     }
 
-    /// Takes the oldest message out where it has this identifier, and tells whether it has.
+    /// Takes the oldest message out where it has this identifier, and returns whether it has.
     pub fn ack(&mut self, alloc: Global, id: &Text) -> Result<bool, AllocError>
         ensures answer { IfOk result (λ done. done ≡ spec.is_oldest id.now self.old) }
         ensures ok { OnOk result (self.new ≡ spec.acked id.now self.old) }

@@ -140,7 +140,7 @@ impl<V: Drop> RegistrarMap<V> {
         self.tree.get(&place.place())
     }
 
-    /// The value at a place, to be changed where it stands.
+    /// The value at a place, to be changed in its place.
     pub fn get_mut(&mut self, place: RegistrarNo) -> Option<&mut V>
         ensures* writes_back { sem 𝓛 (LendsValue V.row self.entry place result) }
         ensures value { option_copied_mut result ≡ map.get self.old place }

@@ -32,7 +32,7 @@ impl Model for NameSet {
 }
 
 impl NameSet {
-    /// The names of a list, in whatever order and however often they stand there.
+    /// The names of a list, in any order and any number of times.
     pub fn of_list(names: Vec<Text>) -> NameSet
         ensures { result ≡ set.from_list names.items }
     {
@@ -65,7 +65,7 @@ impl NameSet {
     }
 }
 
-/// How a text of a list stands to a text that is looked for.
+/// The order of a text of a list and a text that is looked for.
 fn order_of(text: &Text, wanted: &str) -> Ordering
     ensures { result ≡ slice_cmp nat_cmp text.now wanted.now }
 {

@@ -75,7 +75,7 @@ fn move_clock<R: Records>(records: &mut R, moment: Moment) -> Result<(), BookFau
     records.set_clock(moment.later(clock))
 }
 
-/// The contact stands under its name.
+/// The contact is under its name.
 fn put_contact<R: Records>(records: &mut R, contact: Contact) -> Result<(), BookFault>
     requires { (R.kept records.old).is_open ≡ true }
     ensures { Makes result (contact_put contact.name (Some contact) (R.kept records.old).content)
@@ -85,7 +85,7 @@ fn put_contact<R: Records>(records: &mut R, contact: Contact) -> Result<(), Book
     records.put_contact(name, contact)
 }
 
-/// The domain stands under its name.
+/// The domain is under its name.
 fn put_domain<R: Records>(records: &mut R, domain: Domain, policy: &Policy) -> Result<(), BookFault>
     requires { (R.kept records.old).is_open ≡ true }
     ensures { Makes result (domain_put domain.name (Some domain) (R.kept records.old).content)
@@ -95,7 +95,7 @@ fn put_domain<R: Records>(records: &mut R, domain: Domain, policy: &Policy) -> R
     records.put_domain(name, domain, policy)
 }
 
-/// What time left of a contact stands under its name.
+/// What time left of a contact is under its name.
 fn leave_contact<R: Records>(
     records: &mut R,
     name: Text,
@@ -111,7 +111,7 @@ fn leave_contact<R: Records>(
     }
 }
 
-/// What time left of a domain stands under its name.
+/// What time left of a domain is under its name.
 fn leave_domain<R: Records>(
     records: &mut R,
     name: Text,

@@ -28,7 +28,7 @@ use states::{BookFault, Ready};
 pub trait Book {
     ghost use Rattle.books.specs.Book.{BookState};
 
-    /// How it stands.
+    /// Its state.
     ghost state: { Self → BookState };
 
     /// Whether what keeps it may refuse a call.
@@ -66,7 +66,7 @@ pub trait Book {
     ) -> Result<Facts, BookFault>
         ensures { BookFinds result (facts policy.now caller command.now (state self.old).content.registry) (state self.old) (state self.new) };
 
-    /// The object of a kind that stands under a name.
+    /// The object of a kind under a name.
     fn object_at(&mut self, kind: ObjectKind, name: &Text) -> Result<Option<Object>, BookFault>
         ensures { BookFinds result (object_at (state self.old).content.registry kind name.now) (state self.old) (state self.new) };
 

@@ -85,7 +85,7 @@ fn picked<R: Records>(
     picked_by(records, caller, names, &meant, due)
 }
 
-/// The same, told what is meant by the names.
+/// The same, given what the names mean.
 fn picked_by<R: Records>(
     records: &mut R,
     caller: &Option<RegistrarNo>,
@@ -214,7 +214,7 @@ fn contacts_meant<R: Records>(records: &mut R, names: &[Text]) -> Result<Seq<Tex
     Ok(meant)
 }
 
-/// The name that the contact bears which stands under one.
+/// The name of the contact that is under a name.
 fn name_of_contact<R: Records>(records: &mut R, name: &Text) -> Result<Option<Text>, BookFault>
     ensures { Finds result
         (option_map spec.contact_name (finmap.get (R.kept records.old).content.registry.contacts

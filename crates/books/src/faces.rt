@@ -85,7 +85,7 @@ fn face_of_found_host<R: Records>(
     }
 }
 
-/// The face of a host, told whether a domain names it.
+/// The face of a host, given whether a domain names it.
 fn face_of_host<R: Records>(
     records: &mut R,
     name: &Text,
@@ -152,7 +152,7 @@ fn face_of_found_contact<R: Records>(
     }
 }
 
-/// The face of a contact, told whether a domain names it.
+/// The face of a contact, given whether a domain names it.
 fn face_of_contact(
     alloc: Global,
     linked: bool,

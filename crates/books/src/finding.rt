@@ -312,7 +312,7 @@ fn domain_facts_of<R: Records>(
     }
 }
 
-/// What the facts of a domain's name say beside what is seen there: the name, the hosts below it and
+/// What the facts of a domain's name say besides what is seen there: the name, the hosts below it and
 /// what is given back.
 fn beside_domain<R: Records>(
     records: &mut R,
@@ -533,7 +533,7 @@ fn is_linked_host<R: Records>(
     records.is_linked_host(name)
 }
 
-/// What the domain is of a host's last two labels, as far as its hosts hang on it.
+/// What the domain is of a host's last two labels, as far as its hosts depend on it.
 pub(crate) fn superordinate<R: Records>(
     records: &mut R,
     host: &Text,
@@ -660,7 +660,7 @@ fn holding_limit_reached<R: Records>(
 
 // ---- the object of an order
 
-/// The object of a kind that stands under a name.
+/// The object of a kind under a name.
 pub(crate) fn object_at<R: Records>(
     records: &mut R,
     kind: ObjectKind,

@@ -29,7 +29,7 @@ pub struct OnceBook<B> {
 }
 
 impl<B> OnceBook<B> {
-    /// A book that refuses one call, behind so many others; with `u64::MAX` none.
+    /// A book that refuses one call, after so many others; with `u64::MAX` none.
     pub fn new(inner: B, place: u64) -> OnceBook<B>
         ensures inner { result.inner ≡ inner }
         ensures place { result.place ≡ place }

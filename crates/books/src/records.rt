@@ -37,7 +37,7 @@ pub trait Records {
     ghost use Rattle.books.specs.Records.{RecordsState};
     ghost use Rattle.states.specs.States.{IsIdle};
 
-    /// How they stand.
+    /// Their state.
     ghost kept: { Self → RecordsState };
 
     ghost idle: { (r : Self) → IsIdle (kept r) };
@@ -82,7 +82,7 @@ pub trait Records {
     fn lines(&mut self, registrar: RegistrarNo) -> Result<Lines, BookFault>
         ensures { Finds result (account_of registrar (kept self.old).content.registry).lines (kept self.old) (kept self.new) };
 
-    /// What makes of a registrar's lines what a change makes of them, one line for another. It looks at
+    /// What makes of a registrar's lines what a change makes of them, one line for another. It reads
     /// those of the change's domain alone.
     fn swaps<C: LineChange>(
         &mut self,
@@ -116,7 +116,7 @@ pub trait Records {
     fn has_host(&mut self, name: &Text) -> Result<bool, BookFault>
         ensures { Finds result (has_host (kept self.old).content.registry name.now) (kept self.old) (kept self.new) };
 
-    /// Of a domain, what its hosts hang on.
+    /// Of a domain, what its hosts depend on.
     fn superordinate(&mut self, domain: &Text) -> Result<Option<Superordinate>, BookFault>
         ensures { Finds result (option_map facts.superordinate_of_domain (finmap.get (kept self.old).content.registry.domains domain.now)) (kept self.old) (kept self.new) };
 
@@ -200,7 +200,7 @@ pub trait Records {
         requires { (kept self.old).is_open ≡ true }
         ensures { Makes result (tables.message_taken registrar message (kept self.old).content) (kept self.old) (kept self.new) };
 
-    /// The contact stands under this name.
+    /// The contact is under this name.
     fn put_contact(&mut self, name: Text, contact: Contact) -> Result<(), BookFault>
         requires { (kept self.old).is_open ≡ true }
         ensures { Makes result (tables.contact_put name (Some contact) (kept self.old).content) (kept self.old) (kept self.new) };
@@ -209,17 +209,17 @@ pub trait Records {
         requires { (kept self.old).is_open ≡ true }
         ensures { Makes result (tables.contact_put name None (kept self.old).content) (kept self.old) (kept self.new) };
 
-    /// The domain stands under this name.
+    /// The domain is under this name.
     fn put_domain(&mut self, name: Text, domain: Domain, policy: &Policy) -> Result<(), BookFault>
         requires { (kept self.old).is_open ≡ true }
         ensures { Makes result (tables.domain_put name (Some domain) (kept self.old).content) (kept self.old) (kept self.new) };
 
-    /// No domain stands under this name.
+    /// No domain is under this name.
     fn drop_domain(&mut self, name: Text, policy: &Policy) -> Result<(), BookFault>
         requires { (kept self.old).is_open ≡ true }
         ensures { Makes result (tables.domain_put name None (kept self.old).content) (kept self.old) (kept self.new) };
 
-    /// The host stands under its name.
+    /// The host is under its name.
     fn put_host(&mut self, host: Host) -> Result<(), BookFault>
         requires { (kept self.old).is_open ≡ true }
         ensures { Makes result (tables.host_put host.name (Some host) (kept self.old).content) (kept self.old) (kept self.new) };

@@ -156,7 +156,7 @@ impl Moment {
         self.rank_after(years) > other.rank_after(other_years)
     }
 
-    /// Where the moment so many years later stands in the order of time.
+    /// The place of the moment so many years later in the order of time.
     #[tactic(auto, unfolding(crate::specs::Ranks::rank))]
     fn rank_after(&self, years: u64) -> u128
         ensures { result ≡ rank (years_later (date_of (self.now / 86_400)) years)
@@ -243,7 +243,7 @@ impl Moment {
         }
     }
 
-    /// The same, by the numbers that stand in the text.
+    /// The same, by the numbers in the text.
     fn read_parts(text: &str) -> Option<Moment>
         ensures found { IfSome result (λ m. text.now ≡ moment_text m) }
         ensures only { (m : ℕ) → IsMoment m → text.now ≡ moment_text m → result ≡ Some m }

@@ -12,15 +12,15 @@ use std::alloc::{AllocError, Global};
 /// operation on everything else.
 #[derive(Drop)]
 pub enum Change {
-    /// The contact stands under its name.
+    /// The contact is under its name.
     PutContact(ContactRecord),
     /// There is no such contact any more.
     DropContact(Text),
-    /// The domain stands under its name.
+    /// The domain is under its name.
     PutDomain(DomainRecord),
     /// There is no such domain any more.
     DropDomain(Text),
-    /// The host stands under its name.
+    /// The host is under its name.
     PutHost(HostRecord),
     /// There is no such host any more.
     DropHost(Text),

@@ -104,7 +104,7 @@ fn with_count(
     Ok(changes)
 }
 
-/// What a command changes that was answered this code, beside its caller's counter.
+/// What a command changes that was answered this code, besides its caller's counter.
 #[tactic(auto, unfolding(crate::specs::Decisions::changes_after))]
 fn changes_after(
     alloc: Global,

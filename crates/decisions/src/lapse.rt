@@ -14,7 +14,7 @@ use objects::{Contact, Domain};
 use policy::Policy;
 use std::alloc::{AllocError, Global};
 
-/// What stands under a name lapses up to a moment. A host doesn't.
+/// What is under a name lapses up to a moment. A host doesn't.
 pub fn lapse_changes(
     alloc: Global,
     name: &Text,

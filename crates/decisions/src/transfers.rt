@@ -83,7 +83,7 @@ pub(crate) fn transfer_contact(
     }
 }
 
-/// A contact whose transfer stands so after the operation.
+/// A contact whose transfer has this state after the operation.
 fn contact_transferred(
     alloc: Global,
     op: TransferOp,
@@ -145,7 +145,7 @@ pub(crate) fn transfer_domain(
     }
 }
 
-/// A domain whose transfer stands so after the operation.
+/// A domain whose transfer has this state after the operation.
 fn domain_transferred(
     alloc: Global,
     facts: &Facts,
@@ -199,7 +199,7 @@ fn transfer_line(
     }
 }
 
-/// A transfer is asked for and charged, and the sponsor is told.
+/// A transfer is asked for and charged, and the sponsor gets a message.
 fn domain_requested(
     alloc: Global,
     caller: RegistrarNo,
@@ -261,7 +261,7 @@ fn domain_approved(
     three(alloc, begun, put, told)
 }
 
-/// The domain stays, its requester gets its charge back, and a registrar is told.
+/// The domain stays, its requester gets its charge back, and a registrar gets a message.
 fn domain_kept(
     alloc: Global,
     registrar: RegistrarNo,

@@ -1,4 +1,4 @@
-//! The members of commands and orders, and where they stand.
+//! The members of commands and orders, and their sections.
 ghost use Rattle.std.specs.Prelude.{◌≡◌};
 ghost use Rattle.eppforms.specs.Member as spec;
 
@@ -97,7 +97,7 @@ impl Member {
     }
 }
 
-/// Where a member stands: in the command, or in a part of it.
+/// The section of a member: in the command, or in a part of it.
 #[derive(Clone, Copy, PartialEq, Eq)]
 pub enum Section {
     Top,

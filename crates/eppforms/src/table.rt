@@ -1,5 +1,5 @@
 //! The table of the commands: the members that each has, and what each member has to be. A member
-//! that `must` stand is required where its section is, and one that `may` stand isn't. The
+//! that `must` be there is required where its section is, and one that `may` be there isn't. The
 //! definitions read this table too: nothing else says which members a command has.
 ghost use Rattle.std.specs.Prelude.{◌≡◌};
 ghost use Rattle.eppforms.specs.Table as spec;
@@ -205,7 +205,7 @@ macro_rules! transfer {
     };
 }
 
-/// What has a `cmd` with an `op`, and no `op` that is known. It stands behind those that are.
+/// What has a `cmd` with an `op`, and no `op` that is known. It comes after those that are.
 macro_rules! no_op {
     ($cmd:ident) => {
         Choice {

@@ -31,7 +31,7 @@ pub fn found(value: &Value, field: Field) -> Option<&Value>
     value_at(value, field.section, field.member)
 }
 
-/// The value of a member that stands in a section.
+/// The value of a member in a section.
 pub fn value_at(value: &Value, section: Section, at: Member) -> Option<&Value>
     ensures { option_map (λ v. view v.now) result ≡ spec.value_at section at (view value.now) }
 {

@@ -10,7 +10,7 @@ use protocol::Code;
 use serde_json::Value;
 use std::alloc::{AllocError, Global};
 
-/// What stands in place of a number where no command is counted.
+/// What is printed in place of a number where no command is counted.
 const NOBODY: &str = "ANON";
 
 /// The reply of nobody's command: a code, and its text.

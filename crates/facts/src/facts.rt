@@ -17,7 +17,7 @@ use std::alloc::{AllocError, Global};
 /// A registrar that holds so many domains gets no other (RFC 5730, 3, code 2308).
 pub const HOLDING_LIMIT: usize = 1_000_000;
 
-/// The caller's account, as far as commands hang on it.
+/// The caller's account, as far as commands depend on it.
 #[derive(Clone, Copy, Drop)]
 pub struct AccountFacts {
     pub commands: u64,

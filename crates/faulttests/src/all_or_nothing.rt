@@ -1,4 +1,4 @@
-//! What is found where a file stops or stumbles behind each number of calls: all or nothing, a test for each case.
+//! What is found where a file stops or stumbles after each number of calls: all or nothing, a test for each case.
 
 use crate::cases::{
     acknowledgement, approval, create, first_opening, one_registrar_more, other_days, rename,

@@ -38,7 +38,7 @@ impl<D: Disk + Drop> Left<D> {
 }
 
 /// What is done with a registry: it is opened under a policy, answers a script, and where that didn't print
-/// what was to be told another one.
+/// what was meant for another one.
 #[derive(Clone, Copy)]
 pub struct Work<'a> {
     pub under: Under,

@@ -106,7 +106,7 @@ fn earlier_image(alloc: Global, case: &Case) -> Result<Image, Fail> {
     Ok(image)
 }
 
-/// What is told by the registry in which that lies.
+/// What the registry in which that lies answers.
 fn seen(alloc: Global, image: &Image, looks: &[Look]) -> Result<String, Fail> {
     let mut told = String::new(alloc);
     for (under, script) in looks.iter().copied() {

@@ -6,7 +6,7 @@ use calendar::Moment;
 use std::collections::VecDeque;
 use std::marker::Model;
 
-/// What tells the moment.
+/// A clock, which tells the moment.
 pub trait Clock {
     /// The moments that it will tell, one after the other, where they are known.
     ghost moments: { Self → Option (List ℕ) };

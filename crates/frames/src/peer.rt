@@ -1,4 +1,4 @@
-//! What stands behind a session.
+//! What answers a session.
 ghost use Rattle.std.specs.Prelude.{List, ℕ};
 ghost use Rattle.frames.specs.Outcomes.{Outcome, outcome_of};
 

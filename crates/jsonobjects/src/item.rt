@@ -32,7 +32,7 @@ pub enum Item<'a> {
     Absent,
 }
 
-/// The object of these members, which stand in the order of their names. One without a value is
+/// The object of these members, which are in the order of their names. One without a value is
 /// left out.
 pub fn object(
     alloc: Global,
@@ -73,7 +73,7 @@ fn value_of_item(alloc: Global, item: Item<'_>) -> Result<Option<Value>, AllocEr
     })
 }
 
-/// The states of grace of a domain that stands so.
+/// The states of grace of a domain in this state.
 pub fn states(alloc: Global, standing: Standing) -> Result<Value, AllocError>
     ensures { IfOk result (λ v. view v ≡ texts_value (map rgp_text (states_of standing))) }
 {

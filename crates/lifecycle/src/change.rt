@@ -1,4 +1,4 @@
-//! What commands, orders and time do to an account: words, and the one change that looks at the policy.
+//! What commands, orders and time do to an account: words, and the one change that reads the policy.
 ghost use Rattle.std.specs.Prelude.{◌≡◌};
 ghost use Rattle.lifecycle.specs.Changes as spec;
 

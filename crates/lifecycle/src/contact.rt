@@ -12,7 +12,7 @@ use calendar::Moment;
 use objects::{Contact, Transfer};
 use std::alloc::{AllocError, Global};
 
-/// Tells both sides of the completion of a transfer.
+/// Gives both sides a message that a transfer is completed.
 fn post_completion(
     transfer: &Transfer,
     contact: &Contact,

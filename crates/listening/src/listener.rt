@@ -99,7 +99,7 @@ fn word_of(end: ConnectionEnd, is_late: bool) -> &'static str {
     }
 }
 
-/// Lets a connection go. Behind one that took longer than it may, replies that its client hasn't read yet
+/// Closes a connection. After one that took longer than it may, replies that its client hasn't read yet
 /// aren't lost.
 fn end_of_turn(alloc: Global, stream: &TcpStream, is_late: bool, end: ConnectionEnd) {
     if is_late {

@@ -144,7 +144,7 @@ fn serve_office<M: time::Clock + Print, B: Book + Drop>(
     registry
 }
 
-/// What the program tells of itself.
+/// The figures of the program.
 #[derive(Drop)]
 struct Told<'t, M: time::Clock + Print> {
     log: &'t Log<'t, M>,

@@ -86,7 +86,7 @@ impl Content {
         }
     }
 
-    /// What puts back what stands at the key of an edit.
+    /// The edit that puts back the value at the key of an edit.
     fn as_it_was(&self, edit: &Edit) -> Result<Edit, AllocError>
         ensures { IfOk result (λ inverse. inverse ≡ inner_spec.inverse edit.now (content_of self.now)) }
     {

@@ -91,7 +91,7 @@ impl Content {
 // ---- domains and hosts
 
 impl Content {
-    /// Of a domain, what its hosts hang on.
+    /// Of a domain, what its hosts depend on.
     pub fn superordinate(&self, domain: &Text) -> Option<Superordinate>
         ensures { result ≡ option_map facts.superordinate_of_domain
             (finmap.get (registry_in self.now).domains domain.now) }

@@ -109,7 +109,7 @@ pub(crate) fn terms_put(terms: &Option<BookTerms>) -> Result<Edit, AllocError>
     Ok(Edit::Terms(copy_terms(terms)?))
 }
 
-/// Puts a value under a name, or takes away what stands there.
+/// Puts a value under a name, or takes away the one there.
 pub(crate) fn put_named<V: Drop>(
     map: &mut NameMap<V>,
     name: Text,

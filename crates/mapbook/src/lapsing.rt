@@ -84,12 +84,12 @@ impl Content {
     }
 }
 
-/// A moment after all that a lapse looks at.
+/// A moment after all that a lapse reads.
 fn last_moment() -> Moment {
     Moment::first().plus_years_capped(u32::MAX)
 }
 
-/// Until when nothing is due after an edit, where that is known. When a domain is due hangs on the
+/// Until when nothing is due after an edit, where that is known. When a domain is due depends on the
 /// policy, so one that is put makes it unknown, and so do other terms.
 pub(crate) fn quiet_after(quiet: Option<Moment>, edit: &Edit) -> Option<Moment>
     ensures { result ≡ quiet_after quiet edit.now }

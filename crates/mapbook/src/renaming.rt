@@ -43,7 +43,7 @@ impl Plain {
         self.put_named(host)
     }
 
-    /// A host stands under its name.
+    /// A host is under its name.
     pub(crate) fn put_named(&mut self, host: Host) -> Result<(), BookFault>
         requires { self.old.is_open ≡ true }
         ensures { Makes result (host_put host.name (Some host) (plain_records self.old).content)

@@ -30,7 +30,7 @@ impl Model for HostName {
 }
 
 impl HostName {
-    /// The host name that a text stands for.
+    /// The host name that a text means.
     #[tactic(auto, unfolding(crate::specs::Names::host_of))]
     pub fn read(alloc: Global, text: &str, zone: &Zone) -> Result<HostName, NameFault>
         ensures { Gives (λ name. name) result (host_of zone.now text.now) }

@@ -31,7 +31,7 @@ fn pair(high: u8, low: u8) -> u16
     digit(high) * 16 + digit(low)
 }
 
-/// What a group of up to four hexadecimal digits stands for.
+/// The value of a group of up to four hexadecimal digits.
 fn group(text: &[u8]) -> u16
     ensures { result ≡ spec.group_of text.now }
 {
@@ -92,7 +92,7 @@ fn side(alloc: Global, text: &str) -> Result<Vec<u16>, NameFault>
     groups(alloc, text)
 }
 
-/// What stands before the first `::`, and what after it.
+/// The parts before and after the first `::`.
 fn cut_at_gap(text: &str) -> Option<(&str, &str)>
     ensures { option_map (λ sides. (sides.0.now, sides.1.now)) result ≡ spec.cut_at_gap text.now }
 {

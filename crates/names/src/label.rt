@@ -22,7 +22,7 @@ fn has_label_bytes(label: &[u8]) -> bool
     label.iter().all(|byte| is_label_byte(*byte))
 }
 
-/// Whether hyphens stand in places 3 and 4.
+/// Whether places 3 and 4 have hyphens.
 fn has_hyphens(label: &[u8]) -> bool
     ensures { result ≡ spec.has_hyphens label.now }
 {

@@ -29,7 +29,7 @@ impl Model for RequestedName {
 }
 
 impl RequestedName {
-    /// The name that a text stands for.
+    /// The name that a text means.
     pub fn read(alloc: Global, text: &str) -> Result<RequestedName, NameFault>
         ensures { Gives (λ name. name) result (canonical text.now) }
     {

@@ -91,7 +91,7 @@ impl Contact {
         }
     }
 
-    /// Whether it shows the status, told whether it is linked.
+    /// Whether it shows the status, given whether it is linked.
     pub fn shows(&self, linked: bool, status: Status) -> bool
         ensures { result ≡ spec.contact_shows linked self.now status }
     {
@@ -191,7 +191,7 @@ impl Contact {
     }
 }
 
-/// The statuses that a contact shows, told whether it is linked.
+/// The statuses that a contact shows, given whether it is linked.
 pub fn shown_contact(
     alloc: Global,
     contact: &Contact,

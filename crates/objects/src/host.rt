@@ -40,7 +40,7 @@ pub struct HostFace {
 }
 
 impl Host {
-    /// Whether it shows the status, told whether it is linked.
+    /// Whether it shows the status, given whether it is linked.
     pub fn shows(&self, linked: bool, status: Status) -> bool
         ensures { result ≡ spec.host_shows linked self.now status }
     {
@@ -54,7 +54,7 @@ impl Host {
         }
     }
 
-    /// What everyone may know of it, told its sponsor and whether it is linked.
+    /// What everyone may know of it, given its sponsor and whether it is linked.
     pub fn face(
         &self,
         alloc: Global,
@@ -75,7 +75,7 @@ impl Host {
     }
 }
 
-/// The statuses that a host shows, told whether it is linked.
+/// The statuses that a host shows, given whether it is linked.
 pub fn shown_host(alloc: Global, host: &Host, linked: bool) -> Result<Seq<Status>, AllocError>
     ensures { IfOk result (λ statuses. statuses ≡ spec.host_shown linked host.now) }
 {

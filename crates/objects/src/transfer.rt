@@ -5,7 +5,7 @@ ghost use Rattle.objects.specs.Transfers as spec;
 use basis::registrar::RegistrarNo;
 use calendar::Moment;
 
-/// How a transfer stands.
+/// The state of a transfer.
 #[derive(Clone, Copy, Debug, PartialEq, Eq, Drop)]
 pub enum TransferState {
     Pending,

@@ -15,7 +15,7 @@ const END: &str = "0\r\n\r\n";
 const PIECE: usize = 16_384;
 
 /// Gathers the text of a zone as it is written, and sends it in pieces. The head goes with the first one, so that a
-/// fault before it can be told. A text that breaks off has no last chunk, by which its reader sees that it isn't
+/// fault before it can be answered. A text that breaks off has no last chunk, by which its reader sees that it isn't
 /// whole.
 #[derive(Drop)]
 pub(crate) struct Chunks<W: Write + Drop> {

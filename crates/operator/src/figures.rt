@@ -5,7 +5,7 @@ ghost use Rattle.operator.specs.Answers.{clock_figure};
 use calendar::Moment;
 use std::alloc::{AllocError, Global};
 
-/// What a program tells of itself.
+/// The figures of a program.
 pub trait Figures {
     /// Writes lines of Prometheus' text format.
     fn write(&self, alloc: Global, text: &mut String) -> Result<(), AllocError>;

@@ -31,7 +31,7 @@ pub enum Unheard {
     Lost,
 }
 
-/// Reads a request: its head, and behind it the body of an order.
+/// Reads a request: its head, and after it the body of an order.
 pub fn hear<R: Read>(
     alloc: Global,
     policy: &Policy,

@@ -12,7 +12,7 @@ use registry::Registry;
 use script::{Exit, order_on};
 use std::alloc::Global;
 
-/// What becomes of an order, and the text that tells it.
+/// What becomes of an order, and the text of its answer.
 #[derive(Drop)]
 pub(crate) struct Ordered {
     pub outcome: Outcome,

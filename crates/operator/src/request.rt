@@ -40,7 +40,7 @@ pub enum Refusal {
     Token,
     /// There is no such target.
     Target,
-    /// What stands behind its question mark are no two moments.
+    /// The query isn't one or two moments.
     Query,
     /// Its target has the method GET alone.
     OnlyGet,

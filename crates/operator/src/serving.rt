@@ -37,7 +37,7 @@ pub enum RequestEnd {
 }
 
 /// Serves one request of whoever has these credentials, up to its answer. What it asks for is done, and kept,
-/// before its answer goes out. Who doesn't have them is told so, and nothing is done.
+/// before its answer goes out. Who doesn't have them is refused, and nothing is done.
 pub fn serve_request<R: Read, W: Write, C: Clock, F: Figures, B: Book + Drop>(
     alloc: Global,
     credentials: &[u8],
@@ -151,7 +151,7 @@ fn write_zone<W: Write, B: Book + Drop>(
     end_of_zone(told, chunks)
 }
 
-/// Sends the end of a zone, if it was told whole.
+/// Sends the end of a zone, if all of it was sent.
 fn end_of_zone<W: Write + Drop>(told: Result<(), ZoneExportFault>, chunks: Chunks<W>) -> Written {
     let mut chunks = chunks;
     match told {
@@ -255,7 +255,7 @@ fn send_figures<W: Write, F: Figures>(
     }
 }
 
-/// The registry's clock: what it tells at the first moment of all.
+/// The registry's clock: what it shows at the first moment of all.
 fn clock_of<B: Book + Drop>(registry: &mut Registry<B>) -> Option<Moment>
     ensures told { IfSome result (λ clock. spec.IsClock (B.state registry.old.book)
         (B.state registry.new.book) clock) }

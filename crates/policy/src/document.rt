@@ -1,4 +1,4 @@
-//! What stands at a key of the document.
+//! The values at the keys of the document.
 ghost use Rattle.std.specs.Prelude.{◌≡◌, ◌≤◌, IfOk, map, option_map};
 ghost use Rattle.std.specs.List.{list_any};
 ghost use Rattle.toml.specs.Data.{as_array, get_member};
@@ -40,7 +40,7 @@ fn or_missing(value: Option<&Value>, key: Key) -> Result<&Value, PolicyFault>
     }
 }
 
-/// What stands at a key.
+/// The value at a key.
 #[tactic(auto, unfolding(crate::specs::Reading::value_at))]
 pub(crate) fn value_at(document: &Table, key: Key) -> Result<&Value, PolicyFault>
     ensures { Gives (λ value. view value.now) result (spec.value_at (table_view document.now) key) }
@@ -57,7 +57,7 @@ pub(crate) fn value_at(document: &Table, key: Key) -> Result<&Value, PolicyFault
     or_missing(get(table, key.name()), key)
 }
 
-/// The whole number from `low` to `high` that stands at a key.
+/// The whole number from `low` to `high` at a key.
 #[tactic(auto, unfolding(crate::specs::Reading::whole_at))]
 pub(crate) fn whole_at(document: &Table, key: Key, low: u32, high: u32) -> Result<u32, PolicyFault>
     ensures read { Gives (λ n. n) result (spec.whole_at (table_view document.now) key low high) }

@@ -31,7 +31,7 @@ pub enum Key {
 }
 
 impl Key {
-    /// The table in which the key stands, if it isn't a key of the document.
+    /// The table of the key, if it isn't a key of the document.
     pub fn table(self) -> Option<&'static str>
         ensures { option_copied result ≡ spec.table_of self }
     {

@@ -93,7 +93,7 @@ fn is_among(id: &str, others: &[Text]) -> bool
     others.iter().any(|other| other.as_str() == id)
 }
 
-/// The first id that stands again after it.
+/// The first id that comes again after it.
 fn first_twice(ids: &[Text]) -> Option<&Text>
     ensures { option_copied result ≡ spec.first_twice ids.now }
 {

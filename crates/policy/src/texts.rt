@@ -48,7 +48,7 @@ fn is_password(text: &str) -> bool
     text.len() >= 6 && text.len() <= 16 && is_visible(text.as_bytes())
 }
 
-/// Whether the text may stand at the key.
+/// Whether the key may have the text.
 fn fits(alloc: Global, key: Key, text: &str) -> Result<bool, AllocError>
     ensures { IfOk result (λ fit. fit ≡ spec.fits key text.now) }
 {
@@ -60,7 +60,7 @@ fn fits(alloc: Global, key: Key, text: &str) -> Result<bool, AllocError>
     }
 }
 
-/// The text, if it may stand at the key.
+/// The text, if the key may have it.
 fn as_text(alloc: Global, text: Option<&str>, key: Key) -> Result<Text, PolicyFault>
     ensures read { Gives (λ text. text) result
         (spec.as_text key (option_map (λ text. text.now) text.entry)) }
@@ -85,7 +85,7 @@ pub(crate) fn text_at(alloc: Global, document: &Table, key: Key) -> Result<Text,
     as_text(alloc, value.as_str(), key)
 }
 
-/// The text at a key of an entry, or the entry itself where the key stands in no table.
+/// The text at a key of an entry, or the entry itself where the key is in no table.
 fn text_in(entry: &Value, key: Key) -> Option<&str>
     ensures { option_map (λ text. text.now) result ≡ spec.text_in key (view entry.now) }
 {

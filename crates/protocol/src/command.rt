@@ -159,7 +159,7 @@ pub struct NewContact {
     pub secret: Text,
 }
 
-/// What a new domain is to have. The lists stand as they were sent.
+/// What a new domain is to have. The lists are as they were sent.
 #[derive(Drop)]
 pub struct NewDomain {
     pub name: RequestedName,
@@ -171,7 +171,7 @@ pub struct NewDomain {
     pub secret: Text,
 }
 
-/// What a new host is to have. The addresses stand as they were sent, in canonical text.
+/// What a new host is to have. The addresses are as they were sent, in canonical text.
 #[derive(Drop)]
 pub struct NewHost {
     pub name: RequestedName,

@@ -24,7 +24,7 @@ pub struct SvTrid {
     pub number: u64,
 }
 
-/// What a reply tells beside its code.
+/// The data of a reply, besides its code.
 #[derive(Drop)]
 pub enum Data {
     /// In the order in which the names were sent.
@@ -36,7 +36,7 @@ pub enum Data {
     Renewed(Renewed),
     /// A domain.
     Deleted(Deleted),
-    /// How a transfer stands.
+    /// The state of a transfer.
     Transferred(Transferred),
     /// The oldest message.
     Polled(Polled),
@@ -113,7 +113,7 @@ pub struct Polled {
     pub count: u64,
 }
 
-/// What info tells of a contact.
+/// The answer to an info of a contact.
 #[derive(Drop)]
 pub struct ContactInfo {
     /// With `linked` among its statuses while a domain names it.
@@ -126,7 +126,7 @@ pub struct ContactInfo {
 /// What the face of a contact leaves out.
 #[derive(Drop)]
 pub struct ContactHidden {
-    /// Told to the sponsor alone.
+    /// Only the sponsor gets it.
     pub secret: Option<Text>,
     pub postal: Postal,
     pub voice: Option<Text>,
@@ -134,7 +134,7 @@ pub struct ContactHidden {
     pub transfer: Option<TransferInfo>,
 }
 
-/// What info tells of a host.
+/// The answer to an info of a host.
 #[derive(Drop)]
 pub struct HostInfo {
     pub face: HostFace,
@@ -142,7 +142,7 @@ pub struct HostInfo {
     pub sponsor: Text,
 }
 
-/// What info tells of a domain.
+/// The answer to an info of a domain.
 #[derive(Drop)]
 pub struct DomainInfo {
     pub face: DomainFace,
@@ -156,7 +156,7 @@ pub struct DomainInfo {
 /// What the face of a domain leaves out.
 #[derive(Drop)]
 pub struct DomainHidden {
-    /// Told to the sponsor alone.
+    /// Only the sponsor gets it.
     pub secret: Option<Text>,
     pub transfer: Option<TransferInfo>,
     pub deletion: Option<Deletion>,

@@ -9,7 +9,7 @@ use crate::command::Action;
 pub enum TransferOp {
     /// The object is to come to the caller.
     Request,
-    /// How the last transfer stands.
+    /// The state of the last transfer.
     Query,
     /// The sponsor lets the object go.
     Approve,

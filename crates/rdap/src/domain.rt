@@ -25,7 +25,7 @@ pub enum Role {
     Registrar,
 }
 
-/// The roles of contacts, in the order in which they are told.
+/// The roles of contacts, in the order in which they are printed.
 const CONTACT_ROLES: [Role; 3] = [Role::Registrant, Role::Administrative, Role::Technical];
 
 impl Shown for Role {
@@ -43,7 +43,7 @@ impl Shown for Role {
     }
 }
 
-/// The body that tells of the domain with this name and face.
+/// The body for the domain with this name and face.
 pub fn domain_body(
     alloc: Global,
     policy: &Policy,
@@ -100,7 +100,7 @@ fn unicode_value(alloc: Global, name: &DomainName) -> Result<Value, AllocError>
     }
 }
 
-/// The words of the statuses, and of the states of grace of a domain that stands so.
+/// The words of the statuses, and of the states of grace of a domain in this state.
 fn status_value(alloc: Global, statuses: &[Status], standing: Standing) -> Result<Value, AllocError>
     ensures { IfOk result (λ v. view v ≡ spec.standing_value statuses.now standing) }
 {

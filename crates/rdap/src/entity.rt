@@ -9,7 +9,7 @@ use objects::ContactFace;
 use serde_json::Value;
 use std::alloc::{AllocError, Global};
 
-/// The body that tells of the contact with this face. The statuses are those that it shows, `linked`
+/// The body for the contact with this face. The statuses are those that it shows, `linked`
 /// among them where a domain names it.
 pub fn contact_body(alloc: Global, face: &ContactFace) -> Result<Vec<u8>, AllocError>
     ensures { IfOk result (λ body. body.items ≡ spec.contact_text face.now) }

@@ -12,7 +12,7 @@ use objects::HostFace;
 use serde_json::Value;
 use std::alloc::{AllocError, Global};
 
-/// The body that tells of the host with this name and face.
+/// The body for the host with this name and face.
 pub fn nameserver_body(
     alloc: Global,
     name: &HostName,

@@ -12,7 +12,7 @@ use http::method::MethodError;
 use std::alloc::{AllocError, Global};
 use std::str;
 
-/// What a request asks for. Names and handles stand as they were given.
+/// What a request asks for. Names and handles are as they were given.
 #[derive(Drop)]
 pub enum Request {
     Domain(Text),
@@ -24,7 +24,7 @@ pub enum Request {
     Refused(Outcome),
 }
 
-/// What is asked for by a method and a target. Another method than GET is told before a target that
+/// What is asked for by a method and a target. Another method than GET is refused before a target that
 /// can't be read, and that before a path that isn't there.
 #[tactic(auto, unfolding(crate::specs::Requests::request_of))]
 pub fn request_of(
@@ -55,7 +55,7 @@ fn is_get(alloc: Global, method: &[u8]) -> Result<bool, AllocError>
     }
 }
 
-/// What stands before the query.
+/// The part before the query.
 fn path_of(target: &[u8]) -> &[u8]
     ensures { result.now ≡ spec.path_of target.now }
 {

@@ -6,7 +6,7 @@ use objects::{ContactFace, DomainFace, HostFace};
 use policy::Policy;
 use std::alloc::AllocError;
 
-/// What gives the faces of objects at one moment, and the policy. Each look-up tells what it leaves.
+/// What gives the faces of objects at one moment, and the policy. Each look-up says what it leaves.
 pub trait FaceSource {
     ghost use Rattle.std.specs.Prelude.{◌≡◌, IfOk};
     ghost use Rattle.policy.specs.Rules.{PolicyRules};

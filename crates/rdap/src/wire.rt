@@ -27,7 +27,7 @@ impl Outcome {
         }
     }
 
-    /// The field that tells the methods there are, where another was asked (RFC 9110, 15.5.6).
+    /// The field with the allowed methods, where another was asked for (RFC 9110, 15.5.6).
     fn allow_field(self) -> &'static str
         ensures { result.now ≡ spec.allow_field_of self }
     {

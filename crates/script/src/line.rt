@@ -12,7 +12,7 @@ use calendar::Moment;
 use policy::Policy;
 use std::str;
 
-/// What stands for the operator where a registrar's id would stand. No registrar has it as its id.
+/// What names the operator in place of a registrar's id. No registrar has it as its id.
 const OPERATOR: &str = "operator";
 
 /// Who sends a line's payload.
@@ -111,7 +111,7 @@ fn moment_in(bytes: &[u8]) -> Option<Moment>
     }
 }
 
-/// Where the first blank stands.
+/// The place of the first blank.
 fn blank_in(text: &[u8]) -> Option<usize>
     ensures { result ≡ position is_blank text.now }
 {

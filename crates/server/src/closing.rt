@@ -11,7 +11,7 @@ use std::io::{ErrorKind, Read};
 use std::net::{Shutdown, TcpStream};
 use std::time::Duration;
 
-/// How many reads are made behind the end of a connection.
+/// How many reads are made after the end of a connection.
 const MOST_READS: u32 = 100;
 
 /// How many bytes each of them takes at most.
@@ -21,7 +21,7 @@ const MOST_PIECE: usize = 65_536;
 const MOST_WAIT: u64 = 10;
 
 /// Lets a connection go that ended so. A machine that lets one go with bytes unread resets it, and what
-/// was written and not yet read is lost to the client. So what a client sent behind the end is read and
+/// was written and not yet read is lost to the client. So what a client sent after the end is read and
 /// thrown away until it ends its side, a hundred times 65,536 bytes or ten milliseconds at most.
 pub fn let_go(alloc: Global, stream: &TcpStream, end: ConnectionEnd) {
     if may_have_more(end) {
@@ -44,7 +44,7 @@ pub fn let_go_with_more(alloc: Global, stream: &TcpStream) {
     }
 }
 
-/// Whether a client may have sent more than was read, behind what ended its connection.
+/// Whether a client may have sent more than was read, after what ended its connection.
 fn may_have_more(end: ConnectionEnd) -> bool
     ensures { result ≡ spec.may_have_more end }
 {

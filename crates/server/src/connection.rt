@@ -30,7 +30,7 @@ pub enum ConnectionEnd {
     Unread,
 }
 
-/// A registry behind a connection that ended.
+/// A registry after a connection that ended.
 #[derive(Drop)]
 pub struct Served<B: Book> {
     /// The registry, for the next connection.
@@ -39,7 +39,7 @@ pub struct Served<B: Book> {
     pub end: ConnectionEnd,
 }
 
-/// Serves one connection, on which nobody is logged in, up to its end. Its first byte tells the
+/// Serves one connection, on which nobody is logged in, up to its end. Its first byte shows the
 /// protocol: a frame of EPP begins with 0, and what begins otherwise is a request of HTTP, which is
 /// answered by what everyone may know of the registry at the clock's moment.
 pub fn serve_one<R: Read, W: Write, C: Clock, B: Book + Drop>(

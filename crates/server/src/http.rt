@@ -23,7 +23,7 @@ pub enum HttpEnd {
     WriteFault,
 }
 
-/// A registry behind a connection of HTTP that ended.
+/// A registry after a connection of HTTP that ended.
 #[derive(Drop)]
 pub(crate) struct HttpServed<B: Book> {
     pub registry: Registry<B>,

@@ -1,4 +1,4 @@
-//! What the first byte of a connection tells, and what everyone can tell.
+//! The protocol that the first byte of a connection shows, and what everyone can learn.
 ghost use Rattle.server.specs.Connections.{FramesBeginConnections};
 ghost use Rattle.server.specs.Public.{PublicTextsAgree};
 ghost use Rattle.server.specs.SessionRuns.{SessionsAreAnswered, SessionsAreRuns, SessionsAreSentTheSame};

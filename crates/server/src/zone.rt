@@ -85,7 +85,7 @@ fn write_at<B: Book + Drop, W: Write>(
 /// How many serial numbers there are (RFC 1982, 3).
 const SERIALS: u64 = 0x1_0000_0000;
 
-/// The serial number of a zone as it stands at a moment.
+/// The serial number of a zone at a moment.
 fn serial_of(moment: Moment) -> u32
     ensures { result ≡ serial_of moment }
 {

@@ -66,7 +66,7 @@ fn read(alloc: Global, rows: &[LineRow]) -> Result<Lines, BookFault>
     Ok(lines)
 }
 
-/// What makes of a registrar's lines what a change makes of them, one line for another. It looks at
+/// What makes of a registrar's lines what a change makes of them, one line for another. It reads
 /// those of the change's domain alone.
 pub fn swaps<C: LineChange, S: Alter>(
     store: &mut RowStore<S>,

@@ -44,7 +44,7 @@ fn cents_of(row: Option<AccountRow>) -> i128
 
 /// Adds a line to a registrar's account, and what it is worth to the balance. Refused are an account
 /// that was never opened, and a line that no row can have: on another object than a domain, or of
-/// 2 ^ 63 cents or more. When the line's grace ends is written beside it.
+/// 2 ^ 63 cents or more. When the line's grace ends is written with it.
 pub fn add_line<S: Alter>(
     store: &mut RowStore<S>,
     registrar: RegistrarNo,
@@ -64,7 +64,7 @@ pub fn add_line<S: Alter>(
 }
 
 /// Takes a line out of a registrar's account, if it is there, and what it is worth off the balance. An
-/// account that was never opened is refused. It looks at the lines on the line's domain alone, and of
+/// account that was never opened is refused. It reads the lines on the line's domain alone, and of
 /// a deposit at all lines of the account.
 pub fn take_line<S: Alter>(
     store: &mut RowStore<S>,

@@ -106,7 +106,7 @@ pub fn adopt<S: Alter + Drop>(
 }
 
 /// Gives the connection under a book back, as it is. Whatever a crash may leave of its database is one of
-/// what the book told.
+/// what the book returned.
 pub fn into_connection<S: Alter, O: Provenance<S> + Drop>(book: SqlBook<S, O>) -> Connection<S>
     ensures honest { (state S.Store result).is_clean ≡ book.records.store.is_honest }
     ensures covers { HasCleanDisk (state S.Store result)

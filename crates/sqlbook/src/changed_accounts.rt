@@ -44,7 +44,7 @@ pub fn set_counters<S: Alter>(
     Ok(())
 }
 
-/// Adds a line to a registrar's account, and beside it when its grace ends by the days of the book.
+/// Adds a line to a registrar's account, and with it when its grace ends by the days of the book.
 pub fn add_line<S: Alter>(
     store: &mut RowStore<S>,
     alloc: Global,

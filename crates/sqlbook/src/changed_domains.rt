@@ -20,7 +20,7 @@ use sqltables::RowStore;
 use states::BookFault;
 use std::alloc::Global;
 
-/// The domain stands under this name, which has to be its own. Refused is a policy with other days than
+/// The domain is under this name, which has to be its own. Refused is a policy with other days than
 /// those that were put down.
 pub fn put_domain<S: Alter>(
     store: &mut RowStore<S>,
@@ -37,7 +37,7 @@ pub fn put_domain<S: Alter>(
     replace(store, alloc, &name, &Some(domain), due, policy)
 }
 
-/// No domain stands under this name.
+/// No domain is under this name.
 pub fn drop_domain<S: Alter>(
     store: &mut RowStore<S>,
     alloc: Global,
@@ -51,7 +51,7 @@ pub fn drop_domain<S: Alter>(
     replace(store, alloc, &name, &None, Moment::first(), policy)
 }
 
-/// The domain that stands under a name, whose row was right, under the days that were put down.
+/// The domain under a name, whose row was right, under the days that were put down.
 fn found<S: Alter>(
     store: &mut RowStore<S>,
     alloc: Global,
@@ -65,7 +65,7 @@ fn found<S: Alter>(
     checked_domain(store, alloc, name, policy)
 }
 
-/// One domain, or none, stands in the place of another, or of none, and the hosts below have its sponsor.
+/// One domain, or none, takes the place of another, or of none, and the hosts below have its sponsor.
 fn replace<S: Alter>(
     store: &mut RowStore<S>,
     alloc: Global,
@@ -91,7 +91,7 @@ pub(crate) fn sponsor_of(domain: &Option<Domain>) -> Option<RegistrarNo>
     }
 }
 
-/// One domain, or none, stands in the place of that which stands under the name.
+/// One domain, or none, takes the place of the one under the name.
 fn exchange_there<S: Alter>(
     store: &mut RowStore<S>,
     alloc: Global,
@@ -112,7 +112,7 @@ fn exchange_there<S: Alter>(
     Ok(())
 }
 
-/// One domain, or none, stands in the place of another, or of none.
+/// One domain, or none, takes the place of another, or of none.
 pub(crate) fn exchange<S: Alter>(
     store: &mut RowStore<S>,
     alloc: Global,

@@ -11,7 +11,7 @@ use sqltables::RowStore;
 use states::BookFault;
 use std::alloc::Global;
 
-/// The contact stands under this name, which has to be its own.
+/// The contact is under this name, which has to be its own.
 pub fn put_contact<S: Alter>(
     store: &mut RowStore<S>,
     alloc: Global,
@@ -25,7 +25,7 @@ pub fn put_contact<S: Alter>(
     sqlobjects::put_contact(store, alloc, name, contact)
 }
 
-/// No contact stands under this name.
+/// No contact is under this name.
 pub fn drop_contact<S: Alter>(
     store: &mut RowStore<S>,
     alloc: Global,
@@ -38,7 +38,7 @@ pub fn drop_contact<S: Alter>(
     sqlobjects::drop_contact(store, alloc, name)
 }
 
-/// The host stands under its name.
+/// The host is under its name.
 pub fn put_host<S: Alter>(
     store: &mut RowStore<S>,
     alloc: Global,
@@ -51,7 +51,7 @@ pub fn put_host<S: Alter>(
     sqlobjects::put_host(store, alloc, host)
 }
 
-/// No host stands under this name.
+/// No host is under this name.
 pub fn drop_host<S: Alter>(
     store: &mut RowStore<S>,
     alloc: Global,

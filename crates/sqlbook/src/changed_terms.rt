@@ -52,7 +52,7 @@ pub fn set_terms<S: Alter>(
     set
 }
 
-/// The same, told which days were put down before.
+/// The same, given which days were put down before.
 fn set_over<S: Alter>(
     store: &mut RowStore<S>,
     alloc: Global,

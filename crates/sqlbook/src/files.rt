@@ -12,7 +12,7 @@ use sqlite_disk::{Disk, Files};
 use sqlite_store::FileStore;
 
 /// Gives the files under a book back; a transaction that is open is undone. Whatever a crash may leave
-/// of them is, once it is opened and adopted, one of what the book told.
+/// of them is, once it is opened and adopted, one of what the book returned.
 pub fn into_files<D: Disk + Drop, O: Provenance<FileStore<D>> + Drop>(
     book: SqlBook<FileStore<D>, O>,
 ) -> Files<D>

@@ -30,7 +30,7 @@ pub fn counters<S: Alter>(
     sqlaccounts::counts(store, registrar)
 }
 
-/// Of a domain, what its hosts hang on.
+/// Of a domain, what its hosts depend on.
 pub fn superordinate<S: Alter>(
     store: &mut RowStore<S>,
     alloc: Global,

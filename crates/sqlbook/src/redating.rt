@@ -54,7 +54,7 @@ fn redate_all<S: Alter>(
     Ok(())
 }
 
-/// The same for the deleted domain of a name. It is put again as it is, beside another moment.
+/// The same for the deleted domain of a name. It is put again as it is, with another moment.
 fn redate_one<S: Alter>(
     store: &mut RowStore<S>,
     alloc: Global,
@@ -89,7 +89,7 @@ fn earlier_end(domain: &Domain, days: &Schedule, others: &Schedule) -> Option<Mo
     Some(end_of_deletion(deletion, days).min(end_of_deletion(deletion, others)))
 }
 
-/// A deleted domain stands in the place of itself, and the hosts below have its sponsor.
+/// A deleted domain takes the place of itself, and the hosts below have its sponsor.
 fn replace<S: Alter>(
     store: &mut RowStore<S>,
     alloc: Global,
@@ -125,7 +125,7 @@ fn exchange_there<S: Alter>(
     Ok(())
 }
 
-/// The deleted domain that stands under a name, whose row was right, under the days that were put down.
+/// The deleted domain under a name, whose row was right, under the days that were put down.
 fn found<S: Alter>(
     store: &mut RowStore<S>,
     alloc: Global,

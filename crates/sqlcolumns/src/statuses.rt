@@ -22,7 +22,7 @@ pub fn statuses_column(alloc: Global, statuses: &[Status]) -> Result<String, All
     Ok(text)
 }
 
-/// Puts each behind a blank.
+/// Puts each after a blank.
 fn push_statuses(text: &mut String, statuses: &[Status]) -> Result<(), AllocError>
     ensures { OnOk result (string_bytes text.new ≡ spec.after_each status_text 32
         (string_bytes text.old) statuses.now) }

@@ -35,7 +35,7 @@ fn has_feed(line: &Text) -> bool
     line.as_str().as_bytes().iter().any(|byte| *byte == b'\n')
 }
 
-/// Puts each behind a line feed.
+/// Puts each after a line feed.
 fn push_lines(text: &mut String, lines: &[Text]) -> Result<(), AllocError>
     ensures { OnOk result (string_bytes text.new ≡ spec.after_each (λ line. line) 10
         (string_bytes text.old) lines.now) }

@@ -41,7 +41,7 @@ fn last_moment() -> Moment {
     Moment::first().plus_years_capped(u32::MAX)
 }
 
-/// The domain that stands under a name. Refused is a row whose column is later than the domain is due.
+/// The domain under a name. Refused is a row whose column is later than the domain is due.
 pub fn checked_domain<S: Alter>(
     store: &mut RowStore<S>,
     alloc: Global,

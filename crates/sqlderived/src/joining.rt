@@ -1,4 +1,4 @@
-//! Lists of rows, one behind another.
+//! Lists of rows, one after another.
 ghost use Rattle.std.specs.Prelude.{◌≡◌, ◌++◌, IfOk};
 
 use basis::list::Seq;

@@ -148,7 +148,7 @@ fn names_of_deleted(alloc: Global, rows: &[DomainRow]) -> Result<Seq<Text>, Allo
     Ok(names)
 }
 
-/// The deleted domain that stands under a name. Refused is one that isn't deleted, and a row whose
+/// The deleted domain under a name. Refused is one that isn't deleted, and a row whose
 /// column is later than the deletion ends by these lengths.
 pub fn deleted<S: Alter>(
     store: &mut RowStore<S>,

@@ -75,7 +75,7 @@ fn names_below(alloc: Global, domain: &Text, rows: Seq<HostRow>) -> Result<Seq<T
     Ok(names)
 }
 
-/// These names, under which a host has to stand.
+/// These names, each of which a host has to have.
 fn with_hosts<S: Alter>(
     store: &mut RowStore<S>,
     alloc: Global,

@@ -1,4 +1,4 @@
-//! What a domain's rows of links lead to, beside what it is to name.
+//! A domain's rows of links, compared with what it is to name.
 ghost use Rattle.std.specs.Prelude.{◌≡◌, true, filter};
 ghost use Rattle.sqltables.specs.Link.{link_with_domain};
 ghost use Rattle.states.specs.States.{FindsSome};
@@ -13,7 +13,7 @@ use sqltables::{DomainRow, LinkRow, RowStore};
 use states::BookFault;
 use std::alloc::Global;
 
-/// What the rows that lead from a domain lead to, beside what it is to name.
+/// The rows that lead from a domain, compared with what it is to name.
 #[derive(Clone, Copy, Drop)]
 pub(crate) enum LinkComparison {
     /// There are none.
@@ -26,7 +26,7 @@ pub(crate) enum LinkComparison {
     Different,
 }
 
-/// What the rows lead to that lead from the domain in this row, beside what it is to name.
+/// The rows that lead from the domain in this row, compared with what it is to name.
 pub(crate) fn compare_links<S: Alter>(
     store: &mut RowStore<S>,
     alloc: Global,

@@ -18,7 +18,7 @@ use sqltables::{DomainRow, RowStore};
 use states::BookFault;
 use std::alloc::Global;
 
-/// The domain stands under this name, which has to be its own, and its row is due at this moment. What
+/// The domain is under this name, which has to be its own, and its row is due at this moment. What
 /// it names has to be there.
 pub fn put_domain<S: Alter>(
     store: &mut RowStore<S>,
@@ -36,7 +36,7 @@ pub fn put_domain<S: Alter>(
     put(store, alloc, domain, due)
 }
 
-/// The domain stands under its name.
+/// The domain is under its name.
 fn put<S: Alter>(
     store: &mut RowStore<S>,
     alloc: Global,
@@ -52,7 +52,7 @@ fn put<S: Alter>(
     put_beside(store, alloc, &beside, domain)
 }
 
-/// The number of the domain's registrant. It is looked for by its name only where the row that stands
+/// The number of the domain's registrant. It is looked for by its name only where the row
 /// under the domain's name has another one's.
 fn registrant_number<S: Alter>(store: &mut RowStore<S>, domain: &Domain) -> Result<i64, BookFault>
     ensures { FindsSome result (λ id. contact_name store.old.content id
@@ -79,7 +79,7 @@ fn number_or<S: Alter>(store: &mut RowStore<S>, id: i64, name: &Text) -> Result<
     Ok(id)
 }
 
-/// The same, told its registrant's number. One that wouldn't be read back is refused.
+/// The same, given its registrant's number. One that wouldn't be read back is refused.
 fn put_beside<S: Alter>(
     store: &mut RowStore<S>,
     alloc: Global,
@@ -103,7 +103,7 @@ fn put_beside<S: Alter>(
     Ok(())
 }
 
-/// No domain stands under this name.
+/// No domain is under this name.
 pub fn drop_domain<S: Alter>(store: &mut RowStore<S>, name: &Text) -> Result<(), BookFault>
     requires { store.old.is_open ≡ true }
     ensures { Changes result (IsDomainPut name.now None None) store.old store.new }

@@ -21,7 +21,7 @@ use std::alloc::Global;
 
 /// The domain that lies in this row names this, in place of what it named. Its registrant is in its row.
 /// Hosts in another order than that of their names wouldn't be read back and are refused. Rows that
-/// lead to this already stay, and are told when the domain is due.
+/// lead to this already stay, and get the moment when the domain is due.
 pub(crate) fn put_links<S: Alter>(
     store: &mut RowStore<S>,
     alloc: Global,
@@ -37,7 +37,7 @@ pub(crate) fn put_links<S: Alter>(
     put_over(store, domain, links, there)
 }
 
-/// The same, told what the rows that lead from the domain lead to.
+/// The same, given how the rows that lead from the domain compare.
 fn put_over<S: Alter>(
     store: &mut RowStore<S>,
     domain: &DomainRow,
@@ -125,7 +125,7 @@ fn add_names<S: Alter>(
     Ok(())
 }
 
-/// The domain names one thing more. A name under which nothing stands is refused.
+/// The domain names one thing more. A name that nothing has is refused.
 fn add_name<S: Alter>(
     store: &mut RowStore<S>,
     domain: &DomainRow,

@@ -14,7 +14,7 @@ use sqltables::RowStore;
 use states::BookFault;
 use std::alloc::Global;
 
-/// The contact stands under this name, which has to be its own.
+/// The contact is under this name, which has to be its own.
 pub fn put_contact<S: Alter>(
     store: &mut RowStore<S>,
     alloc: Global,
@@ -42,7 +42,7 @@ fn put_named<S: Alter>(
     put(store, alloc, contact)
 }
 
-/// The contact stands under its name. One that wouldn't be read back is refused.
+/// The contact is under its name. One that wouldn't be read back is refused.
 fn put<S: Alter>(store: &mut RowStore<S>, alloc: Global, contact: &Contact) -> Result<(), BookFault>
     requires { store.old.is_open ≡ true }
     ensures { Changes result (IsContactPut contact.now.name (Some contact.now)) store.old store.new }
@@ -57,7 +57,7 @@ fn put<S: Alter>(store: &mut RowStore<S>, alloc: Global, contact: &Contact) -> R
     Ok(())
 }
 
-/// No contact stands under this name.
+/// No contact is under this name.
 pub fn drop_contact<S: Alter>(
     store: &mut RowStore<S>,
     alloc: Global,

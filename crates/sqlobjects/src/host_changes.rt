@@ -13,7 +13,7 @@ use sqltables::RowStore;
 use states::BookFault;
 use std::alloc::Global;
 
-/// The host stands under its name. Refused is what replaces a row with a wrong sponsor.
+/// The host is under its name. Refused is what replaces a row with a wrong sponsor.
 pub fn put_host<S: Alter>(
     store: &mut RowStore<S>,
     alloc: Global,
@@ -40,7 +40,7 @@ fn put<S: Alter>(store: &mut RowStore<S>, alloc: Global, host: &Host) -> Result<
     Ok(())
 }
 
-/// No host stands under this name. Refused is what removes a row with a wrong sponsor.
+/// No host is under this name. Refused is what removes a row with a wrong sponsor.
 pub fn drop_host<S: Alter>(
     store: &mut RowStore<S>,
     alloc: Global,

@@ -17,7 +17,7 @@ use sqltables::{HostRow, RowStore};
 use states::BookFault;
 use std::alloc::Global;
 
-/// The row of the host of this name is that of another host, under whose name none stands, and keeps its
+/// The row of the host of this name is that of another host, whose name none has, and keeps its
 /// number. So what leads to the one leads to the other. Refused is what replaces a row with a wrong
 /// sponsor.
 pub fn rename_row<S: Alter>(

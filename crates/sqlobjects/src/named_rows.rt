@@ -32,7 +32,7 @@ pub trait NamedRow: Sized + Drop {
     fn by_name<S: Alter>(store: &mut RowStore<S>, name: &str) -> Result<Seq<Self>, BookFault>
         ensures { Finds result (rows_named table name.now store.old.content) store.old store.new };
 
-    /// Puts it in the place of the row with its number, or beside all others.
+    /// Puts it in the place of the row with its number, or after all others.
     fn put<S: Alter>(&self, store: &mut RowStore<S>) -> Result<(), BookFault>
         requires { store.old.is_open ≡ true }
         ensures { Makes result (with_row table self.now store.old.content) store.old store.new };

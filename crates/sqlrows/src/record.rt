@@ -12,7 +12,7 @@ ghost use Rattle.sqlrows.specs.inner.Layouts.{command_of, writes_tables};
 use sqlite::types::ValueRef;
 use sqlite::{Alter, Connection, Error, Row};
 
-/// What a row of a table stands for.
+/// What a row of a table means.
 pub trait Record: Sized + Drop {
     ghost shown: { Self → SqlRow };
 

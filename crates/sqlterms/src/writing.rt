@@ -16,7 +16,7 @@ use sqltables::RowStore;
 use states::BookFault;
 use std::alloc::Global;
 
-/// Sets the clock. Nothing is written where it stands there already.
+/// Sets the clock. Nothing is written if it is there already.
 pub fn set_clock<S: Alter>(
     store: &mut RowStore<S>,
     alloc: Global,

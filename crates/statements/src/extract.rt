@@ -57,7 +57,7 @@ fn bounds_in(query: &[u8]) -> Option<Bounds>
 }
 
 impl Bounds {
-    /// With the bound that a parameter tells. Each is told once.
+    /// With the bound that a parameter gives. Each is given once.
     fn with_parameter(self, text: &[u8]) -> Option<Bounds>
         ensures { result ≡ spec.with_parameter text.now self }
     {
@@ -95,7 +95,7 @@ impl Bounds {
 
 // ---- pieces of a target
 
-/// Where a byte stands first.
+/// The first place of a byte.
 fn place_of(text: &[u8], byte: u8) -> Option<usize>
     ensures value { result ≡ position (spec.is_byte byte) text.now }
     ensures bound { IfSome result (λ at. at < length text.now) }
@@ -103,7 +103,7 @@ fn place_of(text: &[u8], byte: u8) -> Option<usize>
     text.iter().position(|other| *other == byte)
 }
 
-/// What stands before the first such byte, or all.
+/// The part before the first such byte, or all.
 fn front_of(text: &[u8], byte: u8) -> &[u8]
     ensures { result.now ≡ spec.front_of text.now byte }
 {
@@ -113,7 +113,7 @@ fn front_of(text: &[u8], byte: u8) -> &[u8]
     }
 }
 
-/// What stands behind it, if there is one.
+/// The part after it, if there is one.
 fn behind(text: &[u8], byte: u8) -> Option<&[u8]>
     ensures { option_map (λ rest. rest.now) result ≡ spec.behind text.now byte }
 {

@@ -159,7 +159,7 @@ fn copy_others<S: Alter, T: Alter>(
     copy_tables(&OTHERS, from, to)
 }
 
-/// Copies the lines, each beside the end of its grace.
+/// Copies the lines, each with the end of its grace.
 fn copy_lines<S: Alter, T: Alter>(
     alloc: Global,
     from: &mut OldRows<S>,

@@ -64,7 +64,7 @@ pub enum Job {
     },
 }
 
-/// A task, and what the options beside it say.
+/// A task, and what its options say.
 #[derive(Drop)]
 pub struct Asked {
     pub task: Task,
@@ -138,7 +138,7 @@ fn task_of(words: Args) -> Result<Task, Exit>
     }
 }
 
-/// `run POLICY`, of the words behind the first.
+/// `run POLICY`, of the words after the first.
 fn run_of(words: Args) -> Result<Task, Exit>
     ensures { spec.Reads (spec.Asks (codes "run" ∷ spec.texts words)) result }
 {
@@ -176,7 +176,7 @@ fn serve_of(words: Args) -> Result<Task, Exit>
     })
 }
 
-/// A port to serve, and what the words behind it say of the operator's.
+/// A port to serve, and what the words after it say of the operator's.
 fn serving_of(port: u16, words: Args) -> Result<Job, Exit>
     ensures { spec.Reads (spec.AsksServing port (spec.texts words)) result }
 {

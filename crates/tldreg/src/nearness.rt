@@ -11,7 +11,7 @@ use script::Exit;
 const DAY: u64 = 86_400;
 
 /// Refuses a moment that is further from a registry's clock than so many days. Nothing is changed: a registry
-/// that is asked at the first moment of all tells its clock.
+/// that is asked at the first moment of all shows its clock.
 pub fn require_near<B: Book + Drop>(
     registry: &mut Registry<B>,
     moment: Moment,

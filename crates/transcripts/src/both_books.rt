@@ -1,4 +1,4 @@
-//! The two books that everything here runs over. What knows a book of the database by its kind stands in
+//! The two books that everything here runs over. What knows a book of the database by its kind is in
 //! one function: each such function costs the prover much.
 ghost use Rattle.std.specs.Prelude.{◌≡◌, false};
 
@@ -29,9 +29,9 @@ pub enum Job<'a> {
     Chapters(&'a [Chapter<'a>]),
     /// A case, whose last block moves in that way, under a policy.
     Case(&'a [u8], &'a Case, Way),
-    /// A line, with the call behind so many others refused.
+    /// A line, with the call after so many others refused.
     Refuse(&'a Refusal<'a>, u64),
-    /// A line that is refused at three places, behind so many calls, and then passes.
+    /// A line that is refused at three places, after so many calls, and then passes.
     RefuseThrice(&'a Refusal<'a>, u64),
     /// A line, while memory may be refused from outside; with `true` it isn't sent.
     Find(&'a Refusal<'a>, &'a Tried, &'a Tried, bool),

@@ -36,7 +36,7 @@ impl<'a> Wire<'a> {
         })
     }
 
-    /// Has a registry answer, and tells how that ended.
+    /// Has a registry answer, and returns how that ended.
     pub fn carried<B: Book + Drop>(
         &mut self,
         exchange: &Exchange,
@@ -107,7 +107,7 @@ impl<'a> Wire<'a> {
         self.word(session_word(end))
     }
 
-    /// Keeps what is told.
+    /// Keeps what is answered.
     fn told(&mut self, told: Result<Vec<u8>>) -> Result<String> {
         self.writer.bytes.extend_from_slice(&told?)?;
         self.word("done")

@@ -138,7 +138,7 @@ impl Case {
         Ok(())
     }
 
-    /// Those in which a write fails behind so many, as an error and as one that takes no byte.
+    /// Those in which a write fails after so many, as an error and as one that takes no byte.
     fn add_writes(&self, ways: &mut Vec<Way>, writes: usize) -> Result<()> {
         let writes = Some(writes);
         let fails = true;

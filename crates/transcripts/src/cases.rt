@@ -41,7 +41,7 @@ fn add_line(alloc: Global, cases: &mut Vec<Case>, number: usize, line: &[u8]) ->
     }
 }
 
-/// The mark of a line, and what stands behind it.
+/// The mark of a line, and the part after it.
 pub fn cut(line: &[u8]) -> (&[u8], &[u8]) {
     let is_bytes = matches!(line.first(), Some(b'<' | b'>'));
     let end = if is_bytes { b' ' } else { b':' };

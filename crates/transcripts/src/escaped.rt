@@ -1,8 +1,8 @@
-//! Texts of bytes, as they stand in a line. Behind `~` stands
+//! Texts of bytes, as a line has them. After `~` comes
 //!
 //! - `r`, `n`, `0` or `~`: CR, a line feed, a zero byte or `~` itself,
 //! - `x` and two digits: the byte of that hexadecimal number,
-//! - `N(`: what follows up to `~)`, N times, and `A-B(`: once for each number from A to B, which `~#` tells.
+//! - `N(`: what follows up to `~)`, N times, and `A-B(`: once for each number from A to B, which `~#` prints.
 
 use anyhow::{Context, Result, bail};
 use std::alloc::Global;
@@ -33,7 +33,7 @@ pub fn add_bytes(alloc: Global, bytes: &mut Vec<u8>, text: &[u8]) -> Result<()> 
     Ok(())
 }
 
-/// Adds what stands behind `~`.
+/// Adds what comes after `~`.
 fn add_escaped(bytes: &mut Vec<u8>, text: &[u8]) -> Result<()> {
     let Some((first, others)) = text.split_first() else {
         bail!("nothing behind ~");
@@ -81,7 +81,7 @@ fn repeated(alloc: Global, text: &str) -> Result<String> {
     Ok(whole)
 }
 
-/// Adds what stands before a part, and the part as often as it is.
+/// Adds what comes before a part, and the part as often as it is.
 fn add_piece(alloc: Global, whole: &mut String, piece: &str) -> Result<()> {
     let Some((front, part)) = piece.rsplit_once('(') else {
         bail!("nothing begins before ~)");

@@ -12,7 +12,7 @@ use std::str;
 /// What is done with the bytes that are sent.
 #[derive(Clone, Copy, PartialEq, Eq)]
 pub enum Kind {
-    /// They come over a connection, whose first byte tells the protocol.
+    /// They come over a connection, whose first byte shows the protocol.
     Connection,
     /// They come in a session of EPP.
     Session,
@@ -104,7 +104,7 @@ impl Exchange {
         Ok(ListClock::of_list(moments))
     }
 
-    /// Takes a line of the block, and tells whether it is one.
+    /// Takes a line of the block, and returns whether it is one.
     pub fn take(&mut self, alloc: Global, mark: &[u8], text: &[u8]) -> Result<bool> {
         match mark {
             b"at" => self.moments.push(moment_of(text)?)?,

@@ -16,7 +16,7 @@ pub enum Mark<'a> {
     Policy(&'a [u8]),
     /// The file with the policy under which the book is opened again.
     Reopen(&'a [u8]),
-    /// What stands in the policy, and what takes its place.
+    /// A text of the policy, and what takes its place.
     Change(&'a [u8]),
     /// The file whose lines are sent before.
     Prelude(&'a [u8]),
@@ -63,7 +63,7 @@ impl<'a> Mark<'a> {
     }
 }
 
-/// What stands behind a mark, of a text that begins with it.
+/// The part after a mark, of a text that begins with it.
 fn behind<'a>(mark: &[u8], text: &'a [u8]) -> Option<&'a [u8]>
     ensures { MatchOption result ((rest : List ℕ)
         → text.now ≢ mark.now ++ rest) (λ rest. text.now ≡ mark.now ++ rest.now) }

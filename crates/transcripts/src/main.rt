@@ -54,7 +54,7 @@ fn run_one(
     Ok(outcome.differences.is_empty())
 }
 
-/// What running it gives, under its policies and behind its prelude.
+/// What running it gives, under its policies and after its prelude.
 fn outcome_of(rt: &(impl Files + AllocGlobal), transcript: Transcript<'_>) -> Result<Outcome> {
     let alloc = rt.alloc();
     let mut parts = Vec::new(alloc);
@@ -178,7 +178,7 @@ fn run_transcripts(rt: &(impl Files + Print + AllocGlobal), file: &str) -> Resul
     Ok(all_well)
 }
 
-/// Runs the pairs of a file, and says whether alfa is told the same by both of each.
+/// Runs the pairs of a file, and says whether both of each answer alfa alike.
 fn run_pairs(rt: &(impl Files + Print + AllocGlobal), file: &str) -> Result<bool> {
     let alloc = rt.alloc();
     let text = read_named(rt, file.as_bytes())?;

@@ -5,10 +5,10 @@ use calendar::Moment;
 use std::alloc::Global;
 use std::str;
 
-/// What is told where there is no moment.
+/// What is printed where there is no moment.
 const NONE: &str = "none";
 
-/// What is told of lines of a moment and years: the moment that many years after each.
+/// What is printed for lines of a moment and years: the moment that many years after each.
 pub fn sums_of(alloc: Global, lines: &[u8]) -> Result<Vec<u8>> {
     let mut told = Vec::new(alloc);
     for line in lines_of(lines)?.split('\n') {
@@ -29,7 +29,7 @@ fn years_after(text: &str, years: u32) -> Option<Moment> {
     Moment::read(text)?.plus_years(years).ok()
 }
 
-/// What is told of lines: of seconds since 1970 the text of their moment and its date, and of all else the seconds
+/// What is printed for lines: of seconds since 1970 the text of their moment and its date, and of all else the seconds
 /// of the moment that it spells.
 pub fn texts_of(alloc: Global, lines: &[u8]) -> Result<Vec<u8>> {
     let mut told = Vec::new(alloc);

@@ -1,4 +1,4 @@
-//! Pairs of scripts that differ in nothing but what others than alfa hide: alfa is told the same by both, byte for
+//! Pairs of scripts that differ in nothing but what others than alfa hide: both answer alfa alike, byte for
 //! byte, and each other line begins with the same code.
 
 use crate::both_books::{Done, Job, Kind, over};
@@ -9,7 +9,7 @@ use script::Exit;
 use std::alloc::Global;
 use std::str;
 
-/// A script, what is hidden in it with what takes its place in the other script, and how many lines alfa is told.
+/// A script, what is hidden in it with what takes its place in the other script, and how many lines answer alfa.
 #[derive(Drop)]
 pub struct Pair {
     pub name: String,
@@ -87,7 +87,7 @@ impl Pair {
         Ok(())
     }
 
-    /// Whether alfa is told the same over both books.
+    /// Whether alfa is answered alike over both books.
     pub fn is_hidden(&self, alloc: Global, policy: &[u8]) -> Result<bool> {
         let over_rows = self.is_hidden_over(alloc, Kind::Rows, policy)?;
         Ok(over_rows && self.is_hidden_over(alloc, Kind::Maps, policy)?)
@@ -101,7 +101,7 @@ impl Pair {
     }
 }
 
-/// What a script prints: all that alfa is told, line by line, and with what code each line begins that is
+/// What a script prints: all that answers alfa, line by line, and with what code each line begins that is
 /// another's.
 #[derive(Drop)]
 struct Told {
@@ -110,7 +110,7 @@ struct Told {
     codes: String,
 }
 
-/// What is told by a script that ends well.
+/// What a script that ends well prints.
 fn told_by(alloc: Global, kind: Kind, policy: &[u8], script: &str) -> Result<Told> {
     let script = Vec::from_slice(alloc, script.as_bytes())?;
     let chapters = [Chapter { policy, script }];
@@ -123,7 +123,7 @@ fn told_by(alloc: Global, kind: Kind, policy: &[u8], script: &str) -> Result<Tol
     told_of(alloc, str::from_utf8(&printed)?)
 }
 
-/// The lines that are told alfa, and the codes of the others.
+/// The lines that answer alfa, and the codes of the others.
 fn told_of(alloc: Global, printed: &str) -> Result<Told> {
     let mut alfa = String::new(alloc);
     let mut codes = String::new(alloc);

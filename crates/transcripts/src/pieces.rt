@@ -19,7 +19,7 @@ pub struct Way {
     pub writes: Option<usize>,
     /// Whether a write that fails is an error, and not one that takes no byte.
     pub fails: bool,
-    /// Whether the writes behind it pass.
+    /// Whether the writes after it pass.
     pub recovers: bool,
     /// Whether a signal interrupts each read and write once.
     pub is_interrupted: bool,

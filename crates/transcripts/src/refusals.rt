@@ -1,6 +1,6 @@
 //! Lines of which each call on the book is refused once. Nothing may be left of a line in which a call was
 //! refused: sent again it is answered as if nothing had been refused, to the byte, and so is everything that is
-//! looked at behind it.
+//! looked at after it.
 
 use crate::both_books::{Done, Job, Kind, over};
 use crate::cases::cut;
@@ -14,12 +14,12 @@ use std::str;
 pub struct Trial {
     pub name: String,
     line: Vec<u8>,
-    /// The steps at which it is refused, where that is done three times, and what is told then.
+    /// The steps at which it is refused, where that is done three times, and what is answered then.
     places: Vec<u64>,
     told: Vec<u8>,
 }
 
-/// The lines of a file, and what is sent before and looked at behind each.
+/// The lines of a file, and what is sent before and looked at after each.
 #[derive(Drop)]
 pub struct Trials {
     /// The file with the policy.
@@ -101,7 +101,7 @@ impl Trials {
         Ok(end.saturating_sub(first))
     }
 
-    /// Refuses a line at three places, and compares what is told then with what was worked out by hand.
+    /// Refuses a line at three places, and compares what is answered then with what was worked out by hand.
     pub fn refuse_thrice(
         &self,
         alloc: Global,
@@ -180,7 +180,7 @@ fn add_line(lines: &mut Vec<u8>, text: &[u8]) -> Result<()> {
     Ok(())
 }
 
-/// Sends a line to a registry whose book refuses the call behind so many.
+/// Sends a line to a registry whose book refuses the call after so many.
 fn tried(alloc: Global, kind: Kind, refusal: &Refusal<'_>, place: u64) -> Result<Tried> {
     match over(alloc, kind, Job::Refuse(refusal, place))? {
         Done::Tried(tried) => Ok(tried),

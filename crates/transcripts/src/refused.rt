@@ -72,7 +72,7 @@ fn opened<B: Book + Drop>(alloc: Global, book: B, policy: &[u8]) -> Result<Regis
     }
 }
 
-/// Sends a line to a registry whose book refuses the call behind so many.
+/// Sends a line to a registry whose book refuses the call after so many.
 pub fn refuse<B: Book + Drop>(
     alloc: Global,
     book: B,
@@ -164,7 +164,7 @@ fn said_by<B: Book + Drop>(
     Ok((reply, looks))
 }
 
-/// Sends a line, and again where it couldn't be carried out, and tells what is found then: what is left of one
+/// Sends a line, and again where it couldn't be carried out, and returns what is found then: what is left of one
 /// that was sent once, or twice. Where it `stops` it doesn't send it, so that one can tell where its own part begins.
 pub fn find<B: Book + Drop>(
     alloc: Global,
@@ -221,11 +221,11 @@ fn replies_to<B: Book + Drop>(
     }
 }
 
-/// What stands in the place of the reply to a line that couldn't be carried out.
+/// What is printed in place of the reply to a line that couldn't be carried out.
 const FAILED: &[u8] = b"{\"code\":2400,\"msg\":\"Command failed\",\"svTRID\":\"ANON\"}\n";
 
 /// The replies to lines. With none, a call on the book was refused to the one line, or memory was: the fixed text
-/// is printed, or where memory lacked for that which stands around it nothing is.
+/// is printed, or where memory lacked for the text around it nothing is.
 fn sent<B: Book + Drop>(
     alloc: Global,
     registry: &mut Registry<B>,

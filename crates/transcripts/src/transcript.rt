@@ -14,7 +14,7 @@ use std::str;
 
 const LINE_FEED: u8 = b'\n';
 
-/// A transcript's lines, behind the one with its name.
+/// A transcript's lines, after the one with its name.
 #[derive(Clone, Copy)]
 pub struct Transcript<'a> {
     lines: &'a [Line<'a>],
@@ -117,7 +117,7 @@ pub struct Prepared<'a> {
     pub part: Part<'a>,
 }
 
-/// A text in which `NEW` of `OLD => NEW` takes the place of `OLD`, which stands there. Where `NEW` has
+/// A text in which `NEW` of `OLD => NEW` takes the place of `OLD`, which is there. Where `NEW` has
 /// `\\n`, a line ends.
 fn changed(alloc: Global, text: &[u8], change: &[u8]) -> Result<Vec<u8>> {
     let text = str::from_utf8(text).context("a policy with changes is no text")?;
@@ -152,7 +152,7 @@ enum Settled {
 }
 
 impl Settled {
-    /// The operator's line behind its moment, if there is one.
+    /// The operator's line after its moment, if there is one.
     fn order(self) -> Option<&'static [u8]> {
         match self {
             Settled::Nothing => None,
@@ -170,8 +170,8 @@ impl Settled {
     }
 }
 
-/// Runs a transcript, part by part, behind the lines of its prelude. Where its script is to end well, it is run
-/// with settlements before each of its lines, too: no reply hangs on them but those that tell how much a settlement
+/// Runs a transcript, part by part, after the lines of its prelude. Where its script is to end well, it is run
+/// with settlements before each of its lines, too: no reply depends on them but those that say how much a settlement
 /// did.
 pub fn run_transcript(
     alloc: Global,
@@ -237,7 +237,7 @@ impl<'a> Run<'a> {
         Ok(chapters)
     }
 
-    /// How many replies of what was printed, behind those of the prelude, are as written; what differs is added.
+    /// How many replies of what was printed, after those of the prelude, are as written; what differs is added.
     fn judge(
         self,
         alloc: Global,
@@ -293,7 +293,7 @@ fn add_script(script: &mut Vec<u8>, lines: &[Line<'_>], settled: Settled) -> Res
     Ok(())
 }
 
-/// The moment of a line of a script: what stands before its first blank.
+/// The moment of a line of a script: the part before its first blank.
 fn moment_of(sent: &[u8]) -> &[u8] {
     match sent.iter().position(|byte| *byte == b' ') {
         Some(end) => &sent[..end],
@@ -301,7 +301,7 @@ fn moment_of(sent: &[u8]) -> &[u8] {
     }
 }
 
-/// Whether a reply tells how much a settlement did.
+/// Whether a reply says how much a settlement did.
 fn tells_what_is_settled(reply: &[u8]) -> bool {
     reply.starts_with(b"{\"code\":1000,\"data\":{\"done\":")
 }
@@ -311,7 +311,7 @@ fn replies_of(lines: &[Line<'_>]) -> usize {
     lines.iter().filter(|line| line.is_reply()).count()
 }
 
-/// Where the first line feed stands.
+/// The place of the first line feed.
 fn line_feed(text: &[u8]) -> Option<usize>
     ensures { result ≡ position (λ b. b == LINE_FEED) text.now }
 {
@@ -339,7 +339,7 @@ fn after_replies(printed: &[u8], replies: usize) -> &[u8] {
 }
 
 /// Compares what was printed, and the end, with what must follow; counts the replies that are as written.
-/// Behind settlements it isn't asked how much another one did.
+/// After settlements it isn't asked how much another one did.
 fn compare(
     alloc: Global,
     transcript: Transcript<'_>,

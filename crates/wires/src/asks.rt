@@ -1,4 +1,4 @@
-//! What a client asks for, as far as it may stand in a log: no secret and nothing of a contact but its name.
+//! What a client asks for, as far as a log may have it: no secret and nothing of a contact but its name.
 
 /// Members of a command's JSON object, and of no object in it. What isn't there is empty.
 #[derive(Clone, Copy)]
@@ -55,7 +55,7 @@ pub(crate) fn members_of(payload: &[u8]) -> Members<'_> {
     scan.members
 }
 
-/// Where a walk over a payload stands.
+/// The place of a walk over a payload.
 #[derive(Drop)]
 struct Scan<'p> {
     payload: &'p [u8],
@@ -66,7 +66,7 @@ struct Scan<'p> {
     is_in_text: bool,
     start: usize,
     is_escaped: bool,
-    /// The last text of the outermost object, and the one behind which a colon stood.
+    /// The last text of the outermost object, and the one before a colon.
     text: Option<&'p [u8]>,
     key: Option<&'p [u8]>,
 }
@@ -132,7 +132,7 @@ impl<'p> Scan<'p> {
     }
 }
 
-/// The target of a request of HTTP, without what stands behind a question mark.
+/// The target of a request of HTTP, without the part after a question mark.
 pub(crate) fn target_of(head: &[u8]) -> &[u8] {
     let mut words = head.split(|byte| *byte == b' ' || *byte == b'\r' || *byte == b'\n');
     let _method = words.next();

@@ -48,7 +48,7 @@ fn write_counts(alloc: Global, counts: &[Tally], text: &mut String) -> Result<()
     )
 }
 
-/// Writes what is told of connections.
+/// Writes the figures of connections.
 fn write_connections<M: time::Clock + Print>(
     alloc: Global,
     log: &Log<'_, M>,

@@ -1,4 +1,4 @@
-//! A log: a line for each command and for each connection, of what is asked and told; and counts of these.
+//! A log: a line for each command and for each connection, of what is asked and answered; and counts of these.
 
 use crate::asks::{Members, members_of, target_of};
 use crate::counts::{Tally, count};
@@ -100,7 +100,7 @@ impl<'l, M: time::Clock + Print> Log<'l, M> {
         self.registrar.set(Vec::new(self.alloc));
     }
 
-    /// Whether nothing is made of what is asked and told.
+    /// Whether nothing is made of what is asked and answered.
     fn is_idle(&self) -> bool {
         self.is_quiet && !self.is_counting
     }
@@ -339,7 +339,7 @@ fn is_office_target(target: &[u8]) -> bool {
     false
 }
 
-/// Whether a command had another form than it may, so that a secret may stand in the place of a name.
+/// Whether a command had another form than it may, so that a secret may be in the place of a name.
 fn is_fault_of_form(code: Option<u16>) -> bool {
     matches!(code, Some(2000..=2005))
 }

@@ -1,4 +1,4 @@
-//! Where a connection stands, by the bytes that came and went.
+//! The state of a connection, by the bytes that came and went.
 
 use crate::limits::Limits;
 use crate::replies::code_of;
@@ -10,7 +10,7 @@ const HEADER: usize = 4;
 /// The code of a reply to a login that opens a session.
 const COMPLETED: u16 = 1_000;
 
-/// How much of a frame was moved: its bytes so far, and its length as far as it was told.
+/// How much of a frame was moved: its bytes so far, and its length as far as it came.
 #[derive(Clone, Copy)]
 struct Part {
     count: usize,
@@ -60,7 +60,7 @@ pub(crate) enum Given {
     Part,
 }
 
-/// Where a connection stands.
+/// The state of a connection.
 #[derive(Clone, Copy)]
 pub(crate) struct Progress {
     phase: Phase,

@@ -1,20 +1,20 @@
 //! What the bytes of a reply tell.
 
-/// What stands before a reply's code. No text of JSON holds it, since a quote in one is escaped.
+/// The text before a reply's code. No text of JSON holds it, since a quote in one is escaped.
 const CODE: &[u8] = b"\"code\":";
 
-/// So many bytes of a reply are looked at for its code, which stands behind a client's number at most.
+/// So many bytes of a reply are looked at for its code, which comes after a client's number at most.
 const FRONT: usize = 512;
 
 /// How many digits a code has.
 const DIGITS: usize = 4;
 
-/// What stands before the code of an answer over HTTP, and how many digits it has.
+/// The text before the code of an answer over HTTP, and how many digits it has.
 const VERSION: &[u8] = b"HTTP/1.1 ";
 
 const HTTP_DIGITS: usize = 3;
 
-/// What stands behind the server's number, and how many bytes from the end on it begins at most.
+/// The text after the server's number, and how many bytes from the end on it begins at most.
 const END: &[u8] = b"\"}";
 
 const TAIL: usize = 96;

@@ -72,7 +72,7 @@ impl<'w, M: time::Clock + Print> Wire<'w, M> {
         })
     }
 
-    /// Tells that the connection's turn ended so.
+    /// Notes that the connection's turn ended so.
     pub fn end(&self, how: &str) {
         if let Ok(now) = self.machine.monotonic() {
             self.log.end(how, now);
@@ -103,7 +103,7 @@ impl<'w, M: time::Clock + Print> Wire<'w, M> {
         Ok(now)
     }
 
-    /// Tells that bytes came.
+    /// Notes that bytes came.
     fn take(&self, bytes: &[u8]) -> io::Result<()> {
         let mut progress = self.progress.get();
         self.log.hear(bytes, !progress.is_asked());
@@ -112,7 +112,7 @@ impl<'w, M: time::Clock + Print> Wire<'w, M> {
         Ok(())
     }
 
-    /// Tells which bytes are to go.
+    /// Notes which bytes are to go.
     fn give(&self, bytes: &[u8], now: Duration) {
         let mut progress = self.progress.get();
         let given = progress.give(bytes, now);
@@ -125,7 +125,7 @@ impl<'w, M: time::Clock + Print> Wire<'w, M> {
         self.progress.set(progress);
     }
 
-    /// Tells that bytes went.
+    /// Notes that bytes went.
     fn gave(&self, bytes: &[u8]) -> io::Result<()> {
         let mut progress = self.progress.get();
         self.log.gave(bytes.len());

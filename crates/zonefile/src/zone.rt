@@ -91,7 +91,7 @@ fn write_domains<S: ZoneSource, W: Write>(
     Ok(hosts)
 }
 
-/// Looks up the domains under these names at once, writes their name servers, and puts the zone's own
+/// Looks up the domains with these names at once, writes their name servers, and puts the zone's own
 /// hosts among them to those that are there.
 fn write_piece<S: ZoneSource, W: Write>(
     alloc: Global,
