@@ -83,7 +83,7 @@ begins_by None years moment most = false
 begins_by (Some started) years moment most = nat_lt started moment || ((started == moment) && nat_le years most)
 
 -- The grace of a completed transfer begins. One that began earlier stays as it is, and so it makes no
--- difference in which order the beginnings of several are told.
+-- difference in which order the beginnings of several are given.
 abbrev pub transfer_started : TransferStart → Line → Line
 transfer_started x l =
     if is_for_transfer x.roid l && not (begins_by l.started l.years x.moment x.years)

@@ -46,7 +46,7 @@ abbrev pub subject_rank : Subject → ℕ
 subject_rank Contact = 0
 subject_rank Domain = 1
 
--- a lapse's messages stand before those of commands
+-- a lapse's messages come before those of commands
 abbrev pub class_of : Origin → ℕ
 class_of (Lapse notice) = 0
 class_of (Command number notice) = 1

@@ -1,4 +1,4 @@
--- How a book stands, and what each of its calls leaves.
+-- The state of a book, and what each of its calls leaves.
 use Rattle.std.specs.Prelude.{◌≡◌, ℕ, ◌<◌, ◌≤◌, ◌⊎◌, Bool, true, false, if◌then◌else◌, Option, Some, None, Result, Ok, Err, OnErr, OnOk, List, []}
 use Rattle.policy.specs.declared.terms.Terms.{Terms}
 use Rattle.policy.specs.Rules.{PolicyRules}
@@ -45,7 +45,7 @@ pub record LeavesSame (old new : BookState) : Type 0 where
   pub ready : new.readiness ≡ old.readiness
 
 -- What was held in the transaction may be left by a crash: once it is kept it alone, and there is a book from
--- then on; else beside what might have been left before. What keeps the book answered until then.
+-- then on; else besides what might have been left before. What keeps the book answered until then.
 pub record LeavesHeld {A E : Type 0} (result : Result A E) (old new : BookState) : Type 0 where
   pub honest : new.is_honest ≡ true → old.is_honest ≡ true
   pub answered : new.is_honest ≡ true → old.is_clean ≡ true

@@ -1,4 +1,4 @@
--- How a book stands that is made of records.
+-- The state of a book that is made of records.
 use Rattle.std.specs.Prelude.{◌≡◌, ℕ, ◌≤◌, Bool, true, false, if◌then◌else◌}
 use Rattle.std.proofs.Common.{ap}
 use Rattle.states.specs.declared.fault.BookFault.{BookFault}
@@ -22,7 +22,7 @@ stands s refused = record {
 abbrev pub refusals_of : Bool → ℕ → ℕ
 refusals_of refuses refused = if refuses then refused else 0
 
--- how a book stands whose records may refuse, or can't, and were refused so often
+-- the state of a book whose records may refuse, or can't, and refused so often
 abbrev pub state_of : RecordsState → Bool → ℕ → BookState
 state_of s refuses refused = stands s (refusals_of refuses refused)
 

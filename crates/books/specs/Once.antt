@@ -2,7 +2,7 @@
 use Rattle.std.specs.Prelude.{◌≡◌, ℕ, ◌+◌, min, true, ◌&&◌, nat_eq}
 use Rattle.books.specs.Book.{BookState, Follows, HasRefused, IsBack, LeavesSame}
 
--- how a book stands that refused so often besides, for no cause
+-- the state of a book that refused so often besides, for no cause
 abbrev pub with_refusals : ℕ → BookState → BookState
 with_refusals refused s = record s {
   refused = min (s.refused + refused) 0xFFFF_FFFF_FFFF_FFFF;

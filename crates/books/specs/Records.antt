@@ -1,4 +1,4 @@
--- How the records of a book stand.
+-- The state of the records of a book.
 use Rattle.states.specs.States.{StateOf}
 use Rattle.books.specs.Book.{Stored}
 

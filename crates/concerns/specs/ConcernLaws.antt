@@ -44,7 +44,7 @@ LeavesWhatItWould =
     → IsSettledIn p (concerned (Some r) (named_by c) s) s
     → now p (effect p r c s) ≡ now p (effect p r c (now p s))
 
--- what an info of an object concerns decides what stands under its name
+-- what an info of an object concerns decides what is under its name
 abbrev pub StandsAsNow : Type 0
 StandsAsNow =
     (p : PolicyRules) (kind : ObjectKind) (name : List ℕ) (s : Registry)

@@ -32,9 +32,9 @@ abbrev pub is_about : Option ℕ → ℕ → Option Transfer → Bool
 is_about None sponsor transfer = false
 is_about (Some r) sponsor transfer = (sponsor == r) || is_at_stake r transfer
 
--- ---- what is named, and what stands there
+-- ---- what is named, and what is there
 
--- what is read off the objects that stand under these names
+-- what is read off the objects under these names
 abbrev pub read_at : {X A : Type 0} → (X → A) → FinMap (slice_cmp nat_cmp) X → List (List ℕ)
     → List A
 read_at of m names = filter_map (λ n. option_map of (get m n)) names

@@ -25,7 +25,7 @@ with_account r f s = record s { accounts = insert s.accounts r (f (account_of r 
 abbrev pub itself : Account → Account
 itself account = account
 
--- among a domain's hosts, one stands under its new name
+-- among a domain's hosts, one has its new name
 abbrev pub renamed : List ℕ → List ℕ → List (List ℕ) → List (List ℕ)
 renamed old new hosts = if has_name hosts old then add (precedes (slice_cmp nat_cmp)) new (filter (λ host. not (bytes_eq host old)) hosts) else hosts
 

@@ -15,7 +15,7 @@ use Rattle.model.specs.WellFormed.{IsRegistry}
 --
 -- In every registry that does so, what the registrar sees afterwards is the same again. Both are to meet
 -- the standards, as the command finds them: a face shows graces, which are read off the account of the object's
--- sponsor, so a change of sponsor shows the registrar a face that hangs on an account that it doesn't see. Say
+-- sponsor, so a change of sponsor shows the registrar a face that depends on an account that it doesn't see. Say
 -- alfa approves the transfer of a domain to beta. In a value of the maps where beta's account holds a line on the
 -- domain whose grace began after the request, alfa's next face of it shows that grace; in another value, which
 -- showed alfa the same before, beta has no such line. No registry has one. Every well formed registry is found so.

@@ -22,7 +22,7 @@ contact_changes name l = LapseContact name l.object ∷ map posting_change l.pos
 abbrev pub domain_changes : List ℕ → Lapsed Domain → List Change
 domain_changes name l = LapseDomain name l.object ∷ map posting_change l.postings
 
--- what stands under a name lapses up to a moment; a host doesn't
+-- what is under a name lapses up to a moment; a host doesn't
 abbrev pub lapse_changes : PolicyRules → ℕ → List ℕ → Option Object → List Change
 lapse_changes p t name None = []
 lapse_changes p t name (Some (objects.Contact c)) = contact_changes name (lapse_contact t c)

@@ -93,7 +93,7 @@ contact_transfer_changes p r t op (Some (Public face)) = []
 abbrev pub domain_with_transfer : Transfer → Domain → Domain
 domain_with_transfer x d = record d { transfer = Some x }
 
--- its transfer stands so after the operation; its subordinate hosts have its sponsor (RFC 5732, 1.1)
+-- its transfer has this state after the operation; its subordinate hosts have its sponsor (RFC 5732, 1.1)
 abbrev pub domain_transferred : PolicyRules → ℕ → ℕ → TransferOp → Request → Facts → Transfer
     → Domain → List Change
 domain_transferred p r t ops.Request q f x d =

@@ -45,7 +45,7 @@ is_number most text = within (record { least = 1; most = most }) (length text) &
 abbrev pub is_dot : ℕ → Bool
 is_dot b = b == 46
 
--- what stands before the first dot is a country's number, what follows it a subscriber's
+-- what comes before the first dot is a country's number, what follows it a subscriber's
 abbrev pub is_dialled : List ℕ → Bool
 is_dialled text = some_and (λ dot. is_number 3 (take dot text) && is_number 14 (drop (suc dot) text)) (position is_dot text)
 

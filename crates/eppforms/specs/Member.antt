@@ -1,4 +1,4 @@
--- The members of commands and orders, and where they stand.
+-- The members of commands and orders, and their sections.
 use Rattle.std.specs.Prelude.{ℕ, Bool, true, false, List, Option, Some, option_and_then, codes}
 use Rattle.serde_json.specs.Data.{Data}
 use Rattle.serde_json.specs.Find.{get, as_str}
@@ -76,7 +76,7 @@ part_at Rem d = member_at members.Rem d
 part_at Chg d = member_at members.Chg d
 part_at ChgPostal d = option_and_then (member_at members.Postal) (member_at members.Chg d)
 
--- the value of a member that stands in a section
+-- the value of a member in a section
 abbrev pub value_at : Section → Member → Data → Option Data
 value_at section m d = option_and_then (member_at m) (part_at section d)
 

@@ -165,7 +165,7 @@ postal_value p = object (members_with (postal_members p))
 abbrev pub contact_transfer_of : ContactInfo → Option TransferInfo
 contact_transfer_of c = option_and_then (λ h. h.transfer) c.hidden
 
--- what the face leaves out has no member where it isn't told
+-- what the face leaves out has no member where it isn't given
 abbrev pub contact_members : ContactInfo → List (List ℕ × Option Data)
 contact_members c =
     (codes "clID", Some (string c.sponsor))

@@ -25,7 +25,7 @@ use Rattle.books.specs.Book.{BookState, Follows}
 
 -- ---- replies
 
--- an answer's text is told, unless it finds no memory
+-- an answer's text is sent, unless it finds no memory
 abbrev pub Tells : Outcome → Outcome → Type 0
 Tells wanted outcome = (outcome ≡ wanted) ⊎ (outcome ≡ lost)
 

@@ -1,4 +1,4 @@
--- What a registrar is sent hangs on nothing that it may not see.
+-- What a registrar is sent depends on nothing that it may not see.
 use Rattle.std.specs.Prelude.{◌≡◌, ◌⊎◌, ℕ, true, List, [], map}
 use Rattle.eppcommands.specs.Session.{in_session}
 use Rattle.frames.specs.Texts.{closing_text, failed_text}

@@ -53,7 +53,7 @@ is_linked_host s name = list_any (λ d. names_host name d.links) (values s.domai
 abbrev pub held : ℕ → Registry → ℕ
 held r s = length (filter (λ d. is_party r d.sponsor d.transfer) (values s.domains))
 
--- of a domain, what its hosts hang on
+-- of a domain, what its hosts depend on
 abbrev pub superordinate_of_domain : Domain → Superordinate
 superordinate_of_domain d = record { sponsor = d.sponsor; is_deleted = is_some d.deletion }
 

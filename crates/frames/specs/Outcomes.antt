@@ -26,7 +26,7 @@ outcome_of answers.Lost = lost
 abbrev pub has_frame : List ℕ → Bool
 has_frame reply = nat_lt (length reply + 4) (2 ^ 32)
 
--- a reply, or what stands for one that has no frame
+-- a reply, or the one in place of a reply that has no frame
 abbrev pub framed : List ℕ → List ℕ
 framed reply = if has_frame reply then reply else closing_text
 

@@ -9,7 +9,7 @@ use Rattle.frames.specs.Outcomes.{Outcome, sent, end_with}
 use Rattle.frames.specs.declared.session.SessionEnd.{SessionEnd}
 use Rattle.frames.specs.declared.session.SessionEnd.TheVariants.{Logout, End, Cut, Length, ReadFault, WriteFault, Lost}
 
--- where a session stands: what its input and its clock have yet to give, where that is known, and
+-- the state of a session: what its input and its clock have yet to give, where that is known, and
 -- the state of its peer
 pub record SessionState (S : Type 0) : Type 0 where
   pub input : Option (List ℕ)
@@ -49,7 +49,7 @@ pub record Rests {S : Type 0} (before after : SessionState S) : Type 0 where
 abbrev pub IsAt : {S : Type 0} → Ending → SessionState S → Type 0
 IsAt ending state = IfSome state.input (λ input. front input ≡ over ending)
 
--- What a session writes last, and where it then stands, after a run of these turns.
+-- What a session writes last, and its state then, after a run of these turns.
 abbrev pub Ends : {S : Type 0} → (S → ℕ → List ℕ → Outcome → S → Type 0) → SessionEnd → List Turn → SessionState S → List ℕ → SessionState S → Type 0
 Ends answers End turns before last after = IsAt closed before × (last ≡ []) × Rests before after
 Ends answers Cut turns before last after = IsAt cut before × (last ≡ []) × Rests before after

@@ -1,4 +1,4 @@
--- In what two lists of questions may differ, for a registrar to be told the same.
+-- How two lists of questions may differ when a registrar is answered alike.
 use Rattle.std.specs.Prelude.{◌≡◌, ◌≢◌, ℕ, ℤ, Bool, true, false, ◌&&◌, ◌||◌, List, [], ◌∷◌, map, Option, Some, None, is_none}
 use Rattle.std.specs.FinMap.{get}
 use Rattle.std.specs.List.{list_any}
@@ -140,7 +140,7 @@ PresentsNoneFor r touched date s = Unit {0}
 PresentsNoneFor r touched look_up s = Unit {0}
 
 -- What differs is others'. What the registrar can't have asked is answered by one code in both. And in
--- neither does the registrar present a right secret of what is touched, as the registries stand then.
+-- neither does the registrar present a right secret of what is touched, as the registries are then.
 pub record IsAlike (p : PolicyRules) (r : ℕ) (touched : Objects) (pair : Pair) (s t : Registry) : Type 0 where
   pub elsewhere : DiffersElsewhere p r pair
   pub codes : is_asked_by r (first pair) ≡ false

@@ -9,7 +9,7 @@ use Rattle.isolation.specs.Runs.{Answer, Question, answer_to, effect_of, is_aske
 
 -- ---- one call
 
--- The registrar is told the same in another registry, by another question, and what both leave is one but
+-- The registrar is answered alike in another registry, by another question, and what both leave is one but
 -- for what is touched then.
 pub record GoOnAlike (p : PolicyRules) (r : ℕ) (touched : Objects) (moment : ℕ) (pair : Pair) (before after : Registry) (a : Answer) (other : Registry) : Type 0 where
   pub left : AreOne r (touched_by p pair (lapsed p moment before) touched) (now p after) (now p (left_by p (moment, second pair) other))

@@ -59,7 +59,7 @@ is_asked_by r look_up = false
 abbrev pub left_by : PolicyRules → ℕ × Question → Registry → Registry
 left_by p x s = effect_of p x.1 (lapsed p x.0 s)
 
--- what a registrar is told, in a run from a registry on
+-- what a registrar is answered, in a run from a registry on
 abbrev pub told : PolicyRules → ℕ → List (ℕ × Question) → Registry → List Answer
 told p r [] s = []
 told p r (x ∷ xs) s =

@@ -16,7 +16,7 @@ abbrev pub members_with : List (List ℕ × Option Data) → Members
 members_with [] = no_members
 members_with (m ∷ ms) = with_some m.0 m.1 (members_with ms)
 
--- the names stand in the order of their bytes, each once
+-- the names are in the order of their bytes, each once
 abbrev pub are_in_order : List (List ℕ × Option Data) → Bool
 are_in_order [] = true
 are_in_order (m ∷ ms) =

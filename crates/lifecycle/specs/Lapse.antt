@@ -50,7 +50,7 @@ tell registrar moment notice d = told registrar moment notice d.name subjects.Do
 abbrev pub renewal_charge : PolicyRules → ℕ → Domain → Posting
 renewal_charge p moment d = record { registrar = d.sponsor; what = Renewal (record { roid = d.roid; moment = moment; cents = p.prices.renew }) }
 
--- the turn at the end of the domain's years and k more: its sponsor is charged and told
+-- the turn at the end of the domain's years and k more: its sponsor is charged and gets a message
 abbrev pub turn : PolicyRules → Domain → ℕ → List Posting
 turn p d k =
     renewal_charge p (plus_years d.created (d.years + k)) d
@@ -92,7 +92,7 @@ moved x d = handed_over (approved x) (gained d x.ac_date) d
 abbrev pub transfer_start : Transfer → ℕ → Domain → Posting
 transfer_start x years d = record { registrar = x.requester; what = Start (record { roid = d.roid; moment = x.ac_date; years = years }) }
 
--- the grace of the transfer begins, and both sides are told
+-- the grace of the transfer begins, and both sides get a message
 abbrev pub completion : Transfer → ℕ → Domain → List Posting
 completion x years d =
     transfer_start x years d

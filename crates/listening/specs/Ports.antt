@@ -1,5 +1,5 @@
 -- Connections of two ports, one after the other: sessions and look-ups by the one, the operator's requests by the
--- other. Of what a socket gives and takes nothing is known; so this tells what becomes of the registry.
+-- other. Of what a socket gives and takes nothing is known; so this says what becomes of the registry.
 use Rattle.std.specs.Prelude.{◌≡◌, ℕ, List, [], ◌∷◌, None}
 use Rattle.operator.specs.Operations.{Operates}
 use Rattle.operator.specs.declared.serving.RequestEnd.{RequestEnd}

@@ -11,7 +11,7 @@ use Rattle.model.specs.declared.object.Object.{Object}
 use Rattle.model.specs.declared.object.Object.TheVariants as objects
 use Rattle.model.specs.Registry.{Registry}
 
--- the object of a kind that stands under a name
+-- the object of a kind under a name
 abbrev pub object_at : Registry → ObjectKind → List ℕ → Option Object
 object_at s kinds.Contact name = option_map objects.Contact (get s.contacts name)
 object_at s kinds.Domain name = option_map objects.Domain (get s.domains name)

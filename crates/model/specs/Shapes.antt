@@ -23,7 +23,7 @@ pub record IsHostName (zone : ZoneRules) (name : List ℕ) : Type 0 where
   pub canonical : IsCanonical name
   pub kept : keeps_host zone name ≡ true
 
--- texts in the order of their bytes, of which none stands twice
+-- texts in the order of their bytes, of which none comes twice
 abbrev pub IsOrderedSet : List (List ℕ) → Type 0
 IsOrderedSet texts = IsStrictlySortedBy (slice_cmp nat_cmp) texts
 

@@ -13,7 +13,7 @@ use Rattle.policy.specs.Rules.{PolicyRules}
 use Rattle.model.specs.Registry.{Registry, account_of}
 use Rattle.model.specs.WellFormed.{HasIdentities, HasMessages, IsContactAt, IsDomainAt, IsHostOf, IsLater, IsLineOf, IsRegistry, IsTransferRecord, begins_after, last_clock}
 
--- a contact stands under its name, and its transfer is a record of one (RFC 5733, 2)
+-- a contact is under its name, and its transfer is a record of one (RFC 5733, 2)
 pub record IsStandardContact (p : PolicyRules) (s : Registry) (name : List ℕ) (c : Contact) : Type 0 where
   pub stands : IsContactAt p s name c
   pub transfer : IfSome c.transfer (IsTransferRecord p s)
@@ -25,7 +25,7 @@ pub record IsStandardRequest (s : Registry) (d : Domain) (t : Transfer) : Type 0
   pub transferred : IsLater t.requested d.transferred
   pub charge : length (filter (waits d.roid) (account_of t.requester s).lines) ≡ 1
 
--- A domain stands under its name (RFC 5731, 2), and its transfer is a record of one. The graces of a sponsor end with
+-- A domain is under its name (RFC 5731, 2), and its transfer is a record of one. The graces of a sponsor end with
 -- its sponsorship: nobody else has one that began after the last transfer (RFC 3915, 3.1).
 pub record IsStandardDomain (p : PolicyRules) (s : Registry) (name : List ℕ) (d : Domain) : Type 0 where
   pub stands : IsDomainAt p s name d
@@ -34,7 +34,7 @@ pub record IsStandardDomain (p : PolicyRules) (s : Registry) (name : List ℕ) (
   pub elsewhere : (r : ℕ) → r ≢ d.sponsor
       → list_any (begins_after d.roid d.transferred) (account_of r s).lines ≡ false
 
--- Exactly the policy's registrars have accounts. Objects stand under their names; a host in the zone has its
+-- Exactly the policy's registrars have accounts. Objects are under their names; a host in the zone has its
 -- superordinate domain (RFC 5732, 1.1); and no two objects of a kind share a ROID (RFC 5730, 2.8). No call is
 -- taken later than the last moment.
 pub record MeetsStandards (p : PolicyRules) (s : Registry) : Type 0 where

@@ -1,4 +1,4 @@
--- How a domain stands at the registry's clock: the graces that run, and the phase of its deletion
+-- The state of a domain at the registry's clock: the graces that run, and the phase of its deletion
 -- (RFC 3915, 3.1).
 use Rattle.lifecycle.specs.Graces.{graces, standing}
 use Rattle.objects.specs.declared.domain.Domain.{Domain}

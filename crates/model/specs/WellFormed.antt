@@ -152,7 +152,7 @@ pub record HasIdentities (p : PolicyRules) (s : Registry) : Type 0 where
   pub host_roids : AreApart host_roid s.hosts
   pub domain_roids : AreApart domain_roid s.domains
 
--- each object stands under its name, and domains name what is there
+-- each object is under its name, and domains name what is there
 pub record HasObjects (p : PolicyRules) (s : Registry) : Type 0 where
   pub identities : HasIdentities p s
   pub contacts : (name : List ℕ) (c : Contact) → get s.contacts name ≡ Some c
@@ -223,7 +223,7 @@ pub record HasLines (p : PolicyRules) (s : Registry) : Type 0 where
   pub each : (r : ℕ) → All (IsLineOf p s) (account_of r s).lines
   pub domains : (name : List ℕ) (d : Domain) → get s.domains name ≡ Some d → HasLinesOn s d
 
--- ---- what registrars are told
+-- ---- messages to registrars
 
 -- a message is of a moment that has come
 abbrev pub HasCome : ℕ → Message → Type 0
@@ -232,7 +232,7 @@ HasCome t m = m.moment ≤ t
 abbrev pub HasMessages : Registry → Type 0
 HasMessages s = (r : ℕ) → All (HasCome s.clock) (account_of r s).queue
 
--- the latest moment at which a clock stands, as no call is taken later: 2099-12-31T23:59:59Z
+-- the latest moment of a clock, as no call is taken later: 2099-12-31T23:59:59Z
 abbrev pub last_clock : ℕ
 last_clock = 4_102_444_799
 

@@ -15,14 +15,14 @@ is_colon b = b == 58
 abbrev pub is_group : List ℕ → Bool
 is_group text = is_in_range 1 4 (length text) && list_all is_ascii_hexdigit text
 
--- what a hexadecimal digit stands for
+-- the value of a hexadecimal digit
 abbrev pub digit_of : ℕ → ℕ
 digit_of b = if is_ascii_digit b then b - 48 else (if is_in_range 97 102 b then b - 87 else (if is_in_range 65 70 b then b - 55 else 0))
 
 abbrev pub pair_of : ℕ → ℕ → ℕ
 pair_of a b = digit_of a * 16 + digit_of b
 
--- what a group stands for
+-- the value of a group
 abbrev pub group_of : List ℕ → ℕ
 group_of (a ∷ []) = digit_of a
 group_of (a ∷ b ∷ []) = pair_of a b
@@ -38,7 +38,7 @@ parts_of text = slice_split is_colon text
 unfoldable pub groups_of : List ℕ → Result (List ℕ) NameFault
 groups_of text = if list_all is_group (parts_of text) then Ok (map group_of (parts_of text)) else Err Syntax
 
--- the groups on one side of a `::`, where none need stand
+-- the groups on one side of a `::`, of which there may be none
 unfoldable pub side_of : List ℕ → Result (List ℕ) NameFault
 side_of text = if length text == 0 then Ok [] else groups_of text
 
@@ -46,7 +46,7 @@ side_of text = if length text == 0 then Ok [] else groups_of text
 abbrev pub begins_gap : ℕ → List ℕ → Bool
 begins_gap b rest = is_colon b && is_colon (slice_index rest 0)
 
--- what stands before the first `::`, and what after it
+-- the parts before and after the first `::`
 unfoldable pub cut_at_gap : List ℕ → Option (List ℕ × List ℕ)
 cut_at_gap [] = None
 cut_at_gap (b ∷ rest) = if begins_gap b rest then Some ([], drop 1 rest) else option_map (λ sides. (b ∷ sides.0, sides.1)) (cut_at_gap rest)

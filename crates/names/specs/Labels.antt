@@ -8,7 +8,7 @@ use Rattle.std.specs.List.{list_all, slice_split}
 abbrev pub is_label_byte : ℕ → Bool
 is_label_byte b = is_ascii_lowercase b || is_ascii_digit b || (b == 45)
 
--- hyphens stand in places 3 and 4
+-- places 3 and 4 have hyphens
 abbrev pub has_hyphens : List ℕ → Bool
 has_hyphens label = nat_le 4 (length label) && (slice_index label 2 == 45) && (slice_index label 3 == 45)
 

@@ -21,7 +21,7 @@ abbrev pub cut_before : ℕ → List ℕ → Option (List ℕ × List ℕ) → O
 cut_before b rest (Some parts) = Some (b ∷ parts.0, parts.1)
 cut_before b rest None = if is_dot b then Some ([], rest) else None
 
--- what stands before the last dot of a name, and its last label; none of a name of one label
+-- the part before the last dot of a name, and its last label; none of a name of one label
 unfoldable pub cut_last : List ℕ → Option (List ℕ × List ℕ)
 cut_last [] = None
 cut_last (b ∷ rest) = cut_before b rest (cut_last rest)

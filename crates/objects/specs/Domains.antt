@@ -33,7 +33,7 @@ shows d status = has_status d.statuses status
 abbrev pub shown : Domain → List Status
 shown d = filter (shows d) all_statuses
 
--- what everyone may know of a domain that stands so
+-- what everyone may know of a domain in this state
 abbrev pub face_of : Standing → Domain → DomainFace
 face_of standing d = record {
   name = d.name;

@@ -11,7 +11,7 @@ use Rattle.policy.specs.Rules.{PolicyRules}
 abbrev pub most_head : ℕ
 most_head = MOST_HEAD
 
--- an order has a body of the length that was told, and nothing else has one
+-- an order has a body of the length that was given, and nothing else has one
 abbrev pub IsBodyOf : Asked → List ℕ → Type 0
 IsBodyOf (Order n) body = length body ≡ n
 IsBodyOf Zone body = body ≡ []
@@ -19,7 +19,7 @@ IsBodyOf Metrics body = body ≡ []
 IsBodyOf (Statement extract) body = body ≡ []
 IsBodyOf (Refused why) body = body ≡ []
 
--- The input begins with a head by which this is asked, and with this body behind it. Of an input that isn't
+-- The input begins with a head by which this is asked, and with this body after it. Of an input that isn't
 -- known, some head is heard.
 pub record IsHeard (p : PolicyRules) (credentials : List ℕ) (input : Option (List ℕ)) (asked : Asked) (body : List ℕ) : Type 0 where
   pub head : RequestHead

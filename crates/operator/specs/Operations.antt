@@ -35,7 +35,7 @@ abbrev pub outcome_of_code : Code → Outcome
 outcome_of_code Completed = outcomes.Done
 outcome_of_code _ = outcomes.Conflict
 
--- an order that wasn't told of: what is no order is 400 (RFC 9110, 15.5.1), and all else 500 (RFC 9110, 15.6.1)
+-- an order that wasn't answered: what is no order is 400 (RFC 9110, 15.5.1), and all else 500 (RFC 9110, 15.6.1)
 abbrev pub outcome_of_exit : Exit → Outcome
 outcome_of_exit (exits.Script n) = outcomes.Malformed
 outcome_of_exit _ = outcomes.Failed
@@ -106,7 +106,7 @@ DoesStatement p x clock later old new before after end =
 
 -- ---- figures
 
--- what the registry's clock is told as
+-- the text of the registry's clock
 abbrev pub IsClock : (old new : BookState) → ℕ → Type 0
 IsClock old new clock = new.is_clean ≡ true → clock ≡ max first_moment old.content.registry.clock
 

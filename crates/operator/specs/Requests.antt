@@ -114,7 +114,7 @@ pub record IsAskedBy (p : PolicyRules) (credentials : List ℕ) (h : RequestHead
   pub told : IfSome length (IsLength (map name_and_value h.fields))
   pub is : asked ≡ asked_by p (bears credentials (map name_and_value h.fields)) h.method h.target length
 
--- the bytes begin with a head by which this is asked, and which ends behind so many of them
+-- the bytes begin with a head by which this is asked, and which ends after so many of them
 abbrev pub HasHead : PolicyRules → List ℕ → List ℕ → Asked → ℕ → Type 0
 HasHead p credentials bytes asked len =
     (h : RequestHead) × ReadsRequest bytes h (drop len bytes) × (len ≤ length bytes) × IsAskedBy p credentials h asked

@@ -1,4 +1,4 @@
--- What is told of a fault of the policy file.
+-- The text of a fault of the policy file.
 use Rattle.std.specs.Prelude.{ℕ, List, ◌++◌, codes}
 use Rattle.policy.specs.declared.fault.PolicyFault.{PolicyFault}
 use Rattle.policy.specs.declared.fault.PolicyFault.TheVariants.{NotToml, Missing, Range, Twice, Memory}

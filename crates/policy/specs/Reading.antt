@@ -1,4 +1,4 @@
--- What a policy file is read as, or its first fault: the lines of each `do` stand in the order of the faults.
+-- What a policy file is read as, or its first fault: the lines of each `do` are in the order of the faults.
 use Rattle.std.specs.Prelude.{◌≡◌, ℕ, ℤ, pos, Bool, true, false, not, ◌&&◌, ◌||◌, ◌==◌, nat_le, nat_lt, if◌then◌else◌, List, [], ◌∷◌, map, codes, length, Option, Some, None, is_some, is_none, option_and_then, unwrap_or, Result, Ok, Err, ok_or}
 use Rattle.std.specs.Char.{is_ascii_alphanumeric}
 use Rattle.std.specs.FinSet.{from_list}
@@ -65,7 +65,7 @@ abbrev pub value_in : Members → Key → Option (List ℕ) → Result Data Poli
 value_in doc key (Some table) = at_table key (get_member table doc)
 value_in doc key None = or_missing key (get_member (name_of key) doc)
 
--- what stands at a key
+-- the value at a key
 unfoldable pub value_at : Members → Key → Result Data PolicyFault
 value_at doc key = value_in doc key (table_of key)
 
@@ -329,7 +329,7 @@ entries_at doc = do
   values ← as_values RegistrarId (as_array value)
   some_entries values
 
--- the first id that stands again after it
+-- the first id that comes again after it
 unfoldable pub first_twice : List (List ℕ) → Option (List ℕ)
 first_twice [] = None
 first_twice (id ∷ ids) = if list_any (λ other. bytes_eq other id) ids then Some id else first_twice ids

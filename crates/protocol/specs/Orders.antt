@@ -11,7 +11,7 @@ abbrev pub if_read : Result (List ℕ) NameFault → Option (List ℕ)
 if_read (Ok name) = Some name
 if_read (Err fault) = None
 
--- the name that a text stands for, if it reads as one of an object of this kind
+-- the name that a text means, if it reads as one of an object of this kind
 abbrev pub named_by : ZoneRules → ObjectKind → List ℕ → Option (List ℕ)
 named_by zone Contact text = Some text
 named_by zone Domain text = if_read (domain_of zone text)

@@ -128,8 +128,8 @@ transfer_years transfer_ops.Approve = 0
 transfer_years transfer_ops.Reject = 0
 transfer_years transfer_ops.Cancel = 0
 
--- Info shows, and a delete is refused by, what hangs on the object (RFC 5731 to 5733, 3.1.2, 3.2.2).
--- What is charged needs a balance (RFC 5730, 3: 2104). What a deletion gives back hangs on the
+-- Info shows, and a delete is refused by, what depends on the object (RFC 5731 to 5733, 3.1.2, 3.2.2).
+-- What is charged needs a balance (RFC 5730, 3: 2104). What a deletion gives back depends on the
 -- graces that run (RFC 3915, 3.1).
 abbrev pub asks_of : Request → Asks
 asks_of Logout = only actions.Logout

@@ -23,7 +23,7 @@ pub record Faces : Type 0 where
   pub host : List ℕ → Option HostFace
   pub contact : List ℕ → Option ContactFace
 
--- the answer that tells of no object
+-- the answer that has no object
 abbrev pub without_object : Outcome → List ℕ
 without_object outcome = response outcome (fixed_body_of outcome)
 

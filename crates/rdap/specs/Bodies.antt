@@ -61,7 +61,7 @@ shown (Err fault) = None
 abbrev pub unicode_value : List ℕ → Option Data
 unicode_value name = shown (or_syntax (unicode_of name))
 
--- ---- nameservers (RFC 9083, 5.2), told by their names
+-- ---- nameservers (RFC 9083, 5.2), by their names
 
 -- an address of version 6 has a colon (RFC 3596, 2.1), and others are of version 4 (RFC 1035, 3.4.1)
 abbrev pub is_version_6 : List ℕ → Bool
@@ -107,7 +107,7 @@ nameserver_text name h = compact_text (nameserver_value name h)
 
 -- ---- entities (RFC 9083, 5.1)
 
--- a contact, told by its name
+-- a contact, by its name
 abbrev pub contact_members : ContactFace → List (List ℕ × Option Data)
 contact_members c =
     (codes "events", Some (events_value c.created None c.updated c.transferred))
@@ -122,7 +122,7 @@ contact_value c = object (members_with (contact_members c))
 abbrev pub contact_text : ContactFace → List ℕ
 contact_text c = compact_text (contact_value c)
 
--- ---- domains (RFC 9083, 5.3), told by their names
+-- ---- domains (RFC 9083, 5.3), by their names
 
 abbrev pub role_text : Role → List ℕ
 role_text Registrant = codes "registrant"

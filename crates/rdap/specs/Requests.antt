@@ -15,11 +15,11 @@ abbrev pub up_to : Option ℕ → List ℕ → List ℕ
 up_to None target = target
 up_to (Some end) target = take end target
 
--- what stands before the query (RFC 3986, 3.3)
+-- the part before the query (RFC 3986, 3.3)
 abbrev pub path_of : List ℕ → List ℕ
 path_of target = up_to (query_start target) target
 
--- a byte of a path that is read as it stands: none above 126, no number sign and no percent sign
+-- a byte of a path that is read as it is: none above 126, no number sign and no percent sign
 abbrev pub is_plain_byte : ℕ → Bool
 is_plain_byte b = nat_lt b 127 && not (b == 35) && not (b == 37)
 

@@ -9,7 +9,7 @@ use Rattle.rdap.specs.declared.request.Request.TheVariants as requests
 use Rattle.rdap.specs.declared.routes.Kind.{Kind}
 use Rattle.rdap.specs.declared.routes.Kind.TheVariants.{Domain, Nameserver, Entity, Help}
 
--- the row of a path that is asked for as it stands
+-- the row of a path that is asked for as it is
 abbrev pub whole : List ℕ → Kind → List ℕ × RouteOf Kind
 whole path kind = (path, record { pattern = path; text = path; names = []; value = kind })
 

@@ -28,7 +28,7 @@ CrashesLeaveRuns =
     (events : List Event) (old new : BookState) → IsTakenUp old → Happen events old new
     → ((left : Remains Stored) → may_leave new left → ComeTo (events ++ crash ∷ []) old.content left.content) × (new.is_clean ≡ true → ComeTo events old.content new.content)
 
--- The same, where it isn't told which of what might be left was found.
+-- The same, where it isn't known which of what might be left was found.
 abbrev pub CrashesLeftRuns : Type 0
 CrashesLeftRuns =
     (events : List Event) (old new : BookState) → IsTakenUp old → Happened events old new

@@ -42,7 +42,7 @@ pub data Event : Type 0 where
   crash : Event
 
 -- Which calls were made: all that answered, in their order; and of those that gave up before a crash, since
--- the last that answered, one or none. `shows` tells that one of these was, which the crash has to show.
+-- the last that answered, one or none. `shows` says that one of these was, which the crash has to show.
 abbrev pub WereMade : Bool → List Event → List Call → Type 0
 WereMade shows [] calls = (shows ≡ false) × (calls ≡ [])
 WereMade shows (answered call ∷ events) calls =

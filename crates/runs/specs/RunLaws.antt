@@ -90,7 +90,7 @@ RunsKeepMoney =
     → AreTurns p turns before after
     → IsRegistry p (now p before) → MoneyFollowsTurns p turns (now p before) (now p after)
 
--- ---- what a registrar is told
+-- ---- what a registrar is answered
 
 -- Two runs from one registry on, of alike lists, tell the registrar the same.
 abbrev pub AlikeRunsTellTheSame : Type 0

@@ -1,4 +1,4 @@
--- The operator's orders, given alone: how one ends that isn't told of.
+-- The operator's orders, given alone: how one ends that isn't answered.
 use Rattle.std.specs.Prelude.{ℕ, ◌⊎◌, List, Option}
 use Rattle.std.specs.Io.KnownBytes.{Keeps}
 use Rattle.policy.specs.Rules.{PolicyRules}
@@ -23,7 +23,7 @@ IsCarriedOut p (requests.Order order) moment old new =
 IsCarriedOut p (requests.Settle at_most) moment old new =
     (done : ℕ) × Settles p moment at_most done old new
 
--- How what is to be done ends that isn't told of: the registry gave up, and nothing is printed; or it was
+-- How what is to be done ends that isn't answered: the registry gave up, and nothing is printed; or it was
 -- done, but the output failed, or memory did; or memory failed before.
 abbrev pub EndsUntold : (BookState → BookState → Type 0)
     → (old new : BookState) → (before after : Option (List ℕ)) → Exit → Type 0

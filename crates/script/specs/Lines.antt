@@ -41,11 +41,11 @@ asked line = record { moment = line.moment; sender = line.sender; payload = line
 abbrev pub is_blank : ℕ → Bool
 is_blank byte = byte == 32
 
--- what stands before the first blank, and behind it
+-- the parts before and after the first blank
 abbrev pub cut : List ℕ → Option (List ℕ × List ℕ)
 cut text = option_map (λ index. (take index text, drop (index + 1) text)) (position is_blank text)
 
--- A line is cut at its first two blanks. All behind the second is the payload, whatever it is.
+-- A line is cut at its first two blanks. All after the second is the payload, whatever it is.
 pub record IsLine (p : PolicyRules) (text : List ℕ) (asked : Asked) : Type 0 where
   pub rest : List ℕ
   pub caller : List ℕ

@@ -38,7 +38,7 @@ IsNoOrder payload old new before after (exits.Script n) =
 IsNoOrder payload old new before after exits.Memory = IsUnchanged old new × Keeps before after
 IsNoOrder payload old new before after _ = ⊥
 
--- How a payload ends that isn't answered: it wasn't carried out, or it was and isn't told of.
+-- How a payload ends that isn't answered: it wasn't carried out, or it was and isn't answered.
 abbrev pub EndsUnanswered : PolicyRules → List ℕ → ℕ
     → (old new : BookState) → (before after : Option (List ℕ)) → Exit → Type 0
 EndsUnanswered p payload moment old new before after exit =

@@ -1,4 +1,4 @@
--- Connections to a registry, by the protocol that their first byte tells.
+-- Connections to a registry, by the protocol that their first byte shows.
 use Rattle.std.specs.Prelude.{◌≡◌, ℕ, Bool, true, false, nat_eq, List, [], ◌∷◌, ◌++◌, Option, None, IfSome}
 use Rattle.std.specs.Io.KnownBytes.{Appends}
 use Rattle.frames.specs.Frames.{frame, IsPayload}

@@ -1,5 +1,5 @@
 -- Connections of a listener, one after the other. Of what a socket gives and takes nothing is known, nor
--- of the machine's clock; so this tells what becomes of the registry.
+-- of the machine's clock; so this says what becomes of the registry.
 use Rattle.std.specs.Prelude.{◌≡◌, List, [], ◌∷◌, None}
 use Rattle.policy.specs.Rules.{PolicyRules}
 use Rattle.server.specs.Connections.{Serves}

@@ -1,4 +1,4 @@
--- What holds rows, as a book sees it: what the rows mean, and whether the sums that are stored beside
+-- What holds rows, as a book sees it: what the rows mean, and whether the sums that are stored with
 -- them were right when the transaction began, and are wherever a crash may leave them.
 use Rattle.std.specs.Prelude.{◌≡◌, Bool, true, ◌&&◌, List, map, Result, Ok, Err}
 use Rattle.std.specs.List.{list_all}

@@ -1,4 +1,4 @@
--- How a book over rows stands at the beginning.
+-- The state of a book over rows at the beginning.
 use Rattle.std.specs.Prelude.{◌≡◌, ◌≢◌, ℕ, true, false, [], ◌∷◌}
 use Rattle.sqlite_trees.specs.Objects.{catalog_tree}
 use Rattle.sqlite_trees.specs.Tree.{Trees}
@@ -30,7 +30,7 @@ IsTaken Used trees s = s ≡ stored_of (contents trees)
 IsTaken Empty trees s = s ≡ nothing
 IsTaken Other trees s = s ≡ nothing
 
--- No transaction is open, and while nothing wrong was taken it answers, tells what the database is, holds what
+-- No transaction is open, and while nothing wrong was taken it answers, says what the database is, holds what
 -- it did, and a crash leaves that alone.
 pub record IsTakenFrom (trees : Trees) (s : BookState) : Type 0 where
   pub idle : s.is_open ≡ false

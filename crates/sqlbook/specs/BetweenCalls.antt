@@ -1,4 +1,4 @@
--- How rows stand between the calls of a book.
+-- The state of rows between the calls of a book.
 use Rattle.std.specs.Prelude.{◌≡◌, Bool, true, Result, Ok, Err}
 use Rattle.states.specs.declared.fault.BookFault.{BookFault}
 use Rattle.states.specs.States.{Closes, IsIdle, StateOf}

@@ -22,7 +22,7 @@ use Rattle.sqlbook.specs.AsBook.{as_book}
 abbrev pub IsFoundIn : Image → Trees → Type 0
 IsFoundIn image trees = (db : Trees) → HoldsDatabase image db → trees ≡ db
 
--- whatever a crash leaves of the files is, once it is opened and adopted, one of what the book told
+-- whatever a crash leaves of the files is, once it is opened and adopted, one of what the book returned
 abbrev pub IsLeftIn : {D : Type 0} → Ghosts D → Files D → BookState → Type 0
 IsLeftIn g files old =
     (image : Image) → outcomes g files.log files.db image → (trees : Trees) → IsFoundIn image trees

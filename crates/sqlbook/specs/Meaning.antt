@@ -1,4 +1,4 @@
--- What rows mean to a book, and when the sums that are stored beside them are right.
+-- What rows mean to a book, and when the sums that are stored with them are right.
 use Rattle.std.specs.Prelude.{Bool, ◌&&◌}
 use Rattle.model.specs.Registry.{Registry}
 use Rattle.books.specs.Book.{Stored}

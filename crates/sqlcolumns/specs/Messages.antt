@@ -42,7 +42,7 @@ command_columns number notice = do
   n ← exact_column number
   Some (record { class = pos 1; number = n; notice = command_notice_column notice })
 
--- time's messages stand before those of commands, by letter; a command's by its number
+-- time's messages come before those of commands, by letter; a command's by its number
 abbrev pub origin_columns : Origin → Option OriginColumns
 origin_columns (Lapse notice) =
     Some (record { class = pos 0; number = lapse_notice_column notice; notice = pos 0 })

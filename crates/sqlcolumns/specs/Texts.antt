@@ -5,7 +5,7 @@ use Rattle.objects.specs.StatusTexts.{status_named, status_text}
 use Rattle.objects.specs.declared.status.Status.{Status}
 use Rattle.sqlcolumns.specs.Steps.{◌>>=◌}
 
--- each item's text behind a byte
+-- each item's text after a byte
 abbrev pub after_each : {X : Type 0} → (X → List ℕ) → ℕ → List ℕ → List X → List ℕ
 after_each show c text items = fold (λ t x. (t ++ c ∷ []) ++ show x) text items
 

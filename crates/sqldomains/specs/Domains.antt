@@ -32,7 +32,7 @@ placed name names =
 abbrev pub in_places : List (List ℕ) → List (List ℕ)
 in_places names = fold (λ all name. placed name all) [] names
 
--- with one thing more, in this role: a contact behind the others, and a host in the place of its name, so
+-- with one thing more, in this role: a contact after the others, and a host in the place of its name, so
 -- that a host's new name is one row's and no domain's
 abbrev pub with_name : Links → Role → List ℕ → Links
 with_name l roles.Admin name = record l { admin = l.admin ++ name ∷ [] }

@@ -88,7 +88,7 @@ dated_days_in row =
 abbrev pub dated_in : Day → Option DatedDays
 dated_in row = dated_made (moment_in row.starts) (dated_days_in row)
 
--- these tables, and those of the rows behind them, if each reads
+-- these tables, and those of the rows after them, if each reads
 abbrev pub dated_behind : List DatedDays → List Day → Option (List DatedDays)
 dated_behind tables [] = Some tables
 dated_behind tables (row ∷ rows) =
@@ -115,7 +115,7 @@ abbrev pub is_unnamed : List ℕ → Bool
 is_unnamed [] = false
 is_unnamed (b ∷ bs) = b == 35
 
--- the ids behind these, whose accounts have the numbers that follow
+-- the ids after these, whose accounts have the numbers that follow
 abbrev pub ids_behind : List (List ℕ) → List Account → Option (List (List ℕ))
 ids_behind ids [] = Some ids
 ids_behind ids (row ∷ rows) =

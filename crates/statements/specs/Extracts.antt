@@ -10,11 +10,11 @@ use Rattle.policy.specs.Rules.{PolicyRules, place_of}
 abbrev pub is_byte : ℕ → ℕ → Bool
 is_byte byte other = other == byte
 
--- what stands before the first such byte, or all
+-- the part before the first such byte, or all
 abbrev pub front_of : List ℕ → ℕ → List ℕ
 front_of text byte = unwrap_or (option_map (λ at. take at text) (position (is_byte byte) text)) text
 
--- what stands behind it, if there is one
+-- the part after it, if there is one
 abbrev pub behind : List ℕ → ℕ → Option (List ℕ)
 behind text byte = option_map (λ at. drop (at + 1) text) (position (is_byte byte) text)
 
@@ -34,7 +34,7 @@ registrar_in p text = if is_utf8 text then place_of text p else None
 abbrev pub no_bounds : Bounds
 no_bounds = record { from = None; to = None }
 
--- each bound is told once
+-- each bound is given once
 abbrev pub with_from : Option ℕ → Bounds → Option Bounds
 with_from None b = None
 with_from (Some moment) b = if is_some b.from then None else Some (record b { from = Some moment })
@@ -48,7 +48,7 @@ told (Some from) to b = with_from (moment_in from) b
 told None (Some to) b = with_to (moment_in to) b
 told None None b = None
 
--- a parameter tells a bound
+-- a parameter gives a bound
 abbrev pub with_parameter : List ℕ → Bounds → Option Bounds
 with_parameter text b = told (after (codes "from=") text) (after (codes "to=") text) b
 
@@ -63,10 +63,10 @@ bounds_in (Some query) = option_and_then (with_second (behind query 38)) (with_p
 
 -- ---- an account, and bounds
 
--- the registrar that stands before the question mark (63)
+-- the registrar before the question mark (63)
 abbrev pub account_asked : PolicyRules → List ℕ → Option ℕ
 account_asked p text = registrar_in p (front_of text 63)
 
--- the bounds that stand behind it
+-- the bounds after it
 abbrev pub bounds_asked : List ℕ → Option Bounds
 bounds_asked text = bounds_in (behind text 63)

@@ -1,4 +1,4 @@
--- How whatever keeps records in transactions stands, and what each call on it leaves.
+-- The state of anything that keeps records in transactions, and what each call on it leaves.
 use Rattle.std.specs.Prelude.{◌≡◌, ◌⊎◌, Bool, true, false, List, [], ◌∷◌, ◌++◌, Result, Ok, Err}
 use Rattle.states.specs.declared.readiness.Ready.{Ready}
 use Rattle.states.specs.declared.readiness.Ready.TheVariants.{Used}

@@ -26,7 +26,7 @@ fault_of faults.Store = Store
 abbrev pub numbered_anew : Content → Content
 numbered_anew xs = record xs { metas = map renumbered xs.metas }
 
--- each line beside the end of its grace
+-- each line with the end of its grace
 abbrev pub ended : Schedule → List Line → List Line
 ended days rows = map (with_grace_end days) rows
 

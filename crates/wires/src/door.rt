@@ -20,7 +20,7 @@ const WANT: u64 = 100;
 /// How many events are taken at once. They only tell that it is worth while to look.
 const EVENTS: usize = 16;
 
-/// The thing that shows that somebody comes.
+/// What shows that somebody comes.
 #[derive(Drop)]
 pub struct Door {
     poll: Poll,

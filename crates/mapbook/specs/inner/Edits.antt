@@ -25,7 +25,7 @@ line_back r line (Some a) = edit.RemoveLine r line
 abbrev pub notice_back : ℕ → Message → Option Account → Edit
 notice_back r m before = if lacks m before then edit.RemoveMessage r m else edit.Account r before
 
--- what takes an edit back: what stands at its key
+-- what takes an edit back: the value at its key
 abbrev pub inverse : Edit → Stored → Edit
 inverse (edit.Counters r x) s = counters_back r (option_map counters_of (get s.registry.accounts r))
 inverse (edit.Line r line) s = line_back r line (get s.registry.accounts r)

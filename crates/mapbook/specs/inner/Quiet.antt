@@ -15,7 +15,7 @@ sooner until (Some due) = min until due
 abbrev pub sooner_with : Contact → ℕ → ℕ
 sooner_with c until = sooner until (option_and_then (passed until) (completes_at c.transfer))
 
--- What is known after an edit. When a domain is due hangs on the policy, so one that is put makes it
+-- What is known after an edit. When a domain is due depends on the policy, so one that is put makes it
 -- unknown, and so do other terms.
 abbrev pub quiet_after : Option ℕ → Edit → Option ℕ
 quiet_after known (edit.Contact name (Some c)) = option_map (sooner_with c) known

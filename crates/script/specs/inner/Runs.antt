@@ -96,7 +96,7 @@ HaltsAt p line number old new exits.File = Unit {0}
 HaltsAt p line number old new exits.Memory = Unit {0}
 HaltsAt p line number old new _ = ⊥
 
--- the same behind bytes that were pending
+-- the same after bytes that were pending
 abbrev pub EndsBehind : PolicyRules → (before after : Registry) → List ℕ → Option (List ℕ) → List ℕ
     → Option (List ℕ) → Exit → Type 0
 EndsBehind p before after input old pending new exits.File =

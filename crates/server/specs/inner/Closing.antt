@@ -1,4 +1,4 @@
--- What is read behind the end of a connection, and thrown away, so that its client reads all that was written.
+-- What is read after the end of a connection, and thrown away, so that its client reads all that was written.
 use Rattle.std.specs.Prelude.{◌≤◌, ℕ, Bool, true, false, List, length, Option}
 use Rattle.std.specs.Io.KnownBytes.{Consumes}
 use Rattle.server.specs.declared.connection.ConnectionEnd.{ConnectionEnd}
@@ -8,7 +8,7 @@ use Rattle.server.specs.declared.http.HttpEnd.TheVariants.{Answered, Unanswered,
 use Rattle.frames.specs.declared.session.SessionEnd.{SessionEnd}
 use Rattle.frames.specs.declared.session.SessionEnd.TheVariants as session_ends
 
--- Behind a logout, a length that no frame has, or a frame or a reply that there was no memory for, a client may
+-- After a logout, a length that no frame has, or a frame or a reply that there was no memory for, a client may
 -- have sent more. Where its side ended, or a read or a write failed, nothing is left that could be read.
 abbrev pub session_may_have_more : SessionEnd → Bool
 session_may_have_more session_ends.Logout = true
@@ -19,7 +19,7 @@ session_may_have_more session_ends.Cut = false
 session_may_have_more session_ends.ReadFault = false
 session_may_have_more session_ends.WriteFault = false
 
--- Behind a head that was answered too. Where nothing was, nothing can be lost.
+-- After a head that was answered too. Where nothing was, nothing can be lost.
 abbrev pub request_may_have_more : HttpEnd → Bool
 request_may_have_more Answered = true
 request_may_have_more Unanswered = false
@@ -34,7 +34,7 @@ may_have_more ends.Unread = false
 abbrev pub most_piece : ℕ
 most_piece = 65536
 
--- how many bytes are read behind the end of a connection at most: a hundred pieces
+-- how many bytes are read after the end of a connection at most: a hundred pieces
 abbrev pub most_behind : ℕ
 most_behind = 6553600
 

@@ -14,7 +14,7 @@ use Rattle.sqlderived.specs.inner.Recounts.{IsRecounted}
 use Rattle.sqlobjects.specs.Sponsors.{IsSponsorSetBelow}
 use Rattle.sqlterms.specs.Terms.{days_of}
 
--- this domain, or none, stands under a name, its row's column is right, and no other days were put down
+-- this domain, or none, is under a name, its row's column is right, and no other days were put down
 pub record IsCheckedDomain (name : List ℕ) (days : Schedule) (xs : Content) (domain : Option Domain) : Type 0 where
   pub days_are : IfSome (days_of xs) (λ d. d ≡ days)
   pub domain_is : get (domains_of xs) name ≡ domain
@@ -32,7 +32,7 @@ pub record IsExchanged (name : List ℕ) (before after : Option Domain) (due : �
   pub counted : IsRecounted before after old mid
   pub put : IsDomainPut name after (due_with after due) mid new
 
--- the same with that which stands under the name
+-- the same with the one under the name
 pub record IsExchangedThere (name : List ℕ) (days : Schedule) (after : Option Domain) (due : ℕ) (old new : Content) : Type 0 where
   pub before : Option Domain
   pub whole : IsWhole old

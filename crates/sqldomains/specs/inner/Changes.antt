@@ -16,7 +16,7 @@ use Rattle.sqldomains.specs.Domains.{domain_of, domains_of}
 abbrev pub sponsor_in : Option Domain → Option ℕ
 sponsor_in value = option_map (λ (d : Domain). d.sponsor) value
 
--- Under a name stands this domain, or none. No other domain is changed, no contact, no host, and no row
+-- Under a name is this domain, or none. No other domain is changed, no contact, no host, and no row
 -- of another table but those of links and transfers. The row of the name, if there is one, is due then
 -- and has the domain's sponsor, and each other row is as it was and reads as before.
 pub record IsDomainPut (name : List ℕ) (value : Option Domain) (due : Option ℕ) (old new : Content) : Type 0 where

@@ -49,6 +49,6 @@ is_dotted name = nat_lt 0 (count_by (λ b. b == 46) name)
 abbrev pub rows_around : List ℕ → Content → List Host
 rows_around domain xs = if is_dotted domain then filter (host_with_above (above domain)) xs.hosts else xs.hosts
 
--- the name, if a host stands under it
+-- the name, if a host has it
 abbrev pub host_standing : Content → List ℕ → Option (List ℕ)
 host_standing xs name = if is_some (get (hosts_of xs) name) then Some name else None

@@ -85,7 +85,7 @@ pub record AreLinksPut (id due : ℤ) (links : Links) (old new : Content) : Type
 abbrev pub LeadTo : Content → Links → List Link → Type 0
 LeadTo xs links rows = with_links xs (registrant_alone links.registrant) rows ≡ Some links
 
--- what the rows that lead from a domain, which is due then, lead to beside what it is to name
+-- the rows that lead from a domain, which is due then, compared with what it is to name
 abbrev pub AreCompared : Content → ℤ → Links → List Link → LinkComparison → Type 0
 AreCompared xs due links rows comparisons.Absent = rows ≡ []
 AreCompared xs due links rows comparisons.Same = LeadTo xs links rows × (are_dated due rows ≡ true)
@@ -115,7 +115,7 @@ pub record AreOtherPartsKept (id : ℤ) (old new : Content) : Type 0 where
   pub contacts : (contact : ℤ) → filter (transfer_with_contact contact) new.transfers ≡ filter (transfer_with_contact contact) old.transfers
   pub rest : record new { domains = old.domains; links = old.links; transfers = old.transfers } ≡ old
 
--- the row of a domain, with this beside it
+-- the row of a domain, with these columns
 abbrev pub row_beside : ℤ → DerivedColumns → Domain → Option table.Domain
 row_beside id beside d = domain_row id beside.registrant beside.due d
 

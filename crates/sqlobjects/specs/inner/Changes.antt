@@ -16,13 +16,13 @@ use Rattle.sqlobjects.specs.Sponsors.{is_sponsor_right, sponsors_are_right}
 use Rattle.sqlobjects.specs.inner.Stages.{AreOthersKept}
 use Rattle.sqlobjects.specs.Changes.{contact_name, host_name}
 
--- under a name stands this, or nothing
+-- under a name is this, or nothing
 abbrev pub put : {X : Type 0} → FinMap (slice_cmp nat_cmp) X → List ℕ → Option X
     → FinMap (slice_cmp nat_cmp) X
 put m k None = remove m k
 put m k (Some x) = insert m k x
 
--- Under a name stands this contact, or none. No other contact is changed, no host, no domain's
+-- Under a name is this contact, or none. No other contact is changed, no host, no domain's
 -- transfer and no row of another table, and a number leads to no other name than before.
 pub record IsContactPut (name : List ℕ) (value : Option Contact) (old new : Content) : Type 0 where
   pub contacts : contacts_of new ≡ put (contacts_of old) name value

@@ -27,7 +27,7 @@ use Rattle.sqlobjects.specs.Objects.{addresses_of}
 use Rattle.sqlobjects.specs.Sponsors.{AreMoved, sponsor_of}
 use Rattle.sqlobjects.specs.inner.Transfers.{IsTransferCleared}
 
--- a change in a way that hangs on what is answered
+-- a change in a way that depends on what is answered
 abbrev pub ChangesGiving : {A C : Type 0} → Result A BookFault → (A → C → C → Type 0) → StateOf C
     → StateOf C → Type 0
 ChangesGiving (Ok it) way old new = HasChanged (way it) old new
@@ -103,7 +103,7 @@ domains = record {
 abbrev pub rows_named : {R : Type 0} → NamedTable R → List ℕ → Content → List R
 rows_named table n xs = filter (λ row. bytes_eq (table.name row) n) (table.rows xs)
 
--- with this row in the place of the one with its number, or beside all others
+-- with this row in the place of the one with its number, or after all others
 abbrev pub with_row : {R : Type 0} → NamedTable R → R → Content → Content
 with_row table row xs = table.with_rows (insert_by table.key (table.rows xs) row) xs
 

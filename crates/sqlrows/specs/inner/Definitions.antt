@@ -61,7 +61,7 @@ pub record IsUndone (old new : State) : Type 0 where
   pub undone : IsTrue new.is_open → (new.now ≡ old.committed) × (new.committed ≡ old.committed)
   pub autocommit : new.in_transaction ≡ false
 
--- the tables of the schema stand, with no row, and the transaction goes on; after an error it goes on with some of them, or is undone
+-- the tables of the schema are there, with no row, and the transaction goes on; after an error it goes on with some of them, or is undone
 pub record Makes (schema : Schema) (old new : State) (result : Result (Unit {0}) Error) : Type 0 where
   pub made : OnOk result (IsBlank schema new.now × Stays old new)
   pub err : OnErr result (Stays old new ⊎ IsUndone old new)

@@ -29,7 +29,7 @@ heads = Metas ∷ Accounts ∷ []
 abbrev pub others : List TableName
 others = Contacts ∷ Domains ∷ Hosts ∷ Addresses ∷ Links ∷ Messages ∷ Transfers ∷ []
 
--- lines, put beside those of another database with the ends of their graces
+-- lines, put with those of another database with the ends of their graces
 abbrev pub put_lines : Schedule → Content → Content → Content
 put_lines days from = lines_to (put_all lines.key (ended days from.lines))
 

@@ -35,7 +35,7 @@ IsCents word cents =
 
 -- ---- what words ask for
 
--- the words behind the port ask for this with it: nothing more, or the operator's port and the file of its token
+-- the words after the port ask for this with it: nothing more, or the operator's port and the file of its token
 abbrev pub AsksServing : ℕ → List (List ℕ) → Job → Type 0
 AsksServing port words (Serve served) = (words ≡ []) × (served ≡ port)
 AsksServing port words (ServeBoth served operator_port token_file) =
@@ -61,7 +61,7 @@ AsksJob words policy database (Deposit moment registrar cents) =
 AsksJob words policy database (Order moment json) =
     (word : List ℕ) × (words ≡ codes "order" ∷ policy ∷ database ∷ word ∷ string_bytes json ∷ []) × IsMomentText word moment
 
--- the words behind the program's name ask for this task
+-- the words after the program's name ask for this task
 abbrev pub Asks : List (List ℕ) → Task → Type 0
 Asks words Help = words ≡ codes "--help" ∷ []
 Asks words Version = words ≡ codes "--version" ∷ []
