@@ -7,8 +7,8 @@ use registry::OpenFault;
 use sqlbook::Unadopted;
 use states::BookFault;
 
-/// Why a registry in a file wasn't opened, by how far the opening came, with what it held there: `L` is what is
-/// left of the files, `W` what the connection was over, `B` the book.
+/// Why a registry in a file wasn't opened, by how far the opening came, with what it held there. `L` is
+/// what is left of the files, `W` what the connection was over, `B` the book.
 #[derive(Drop)]
 pub enum Unopened<L, W, B> {
     /// The files weren't opened: nothing was read or written.

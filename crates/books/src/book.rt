@@ -100,10 +100,10 @@ pub trait Book {
     fn due(&mut self, moment: Moment, policy: &Policy) -> Result<Seq<Due>, BookFault>
         ensures { BookFinds result (due_by policy.now moment (state self.old).content.registry) (state self.old) (state self.new) };
 
-    /// Of what is due by a moment, in the same order, what concerns a command: what its caller, if one
-    /// is given, sponsors, or what a pending transfer brings to it or takes away; what it names; the
-    /// domains that name a contact or host which it names; and the superordinate domains of the hosts
-    /// that it names.
+    /// Of what is due by a moment, in the same order, the part that concerns a command. That is what its
+    /// caller, if one is given, sponsors, and what a pending transfer brings to it or takes away. It is
+    /// also what the command names, the domains that name such a contact or host, and the superordinate
+    /// domains of such hosts.
     fn due_for(
         &mut self,
         caller: Option<RegistrarNo>,

@@ -104,8 +104,8 @@ pub struct ContactFacts {
     pub linked: bool,
 }
 
-/// What the caller sees at a domain's name, and of a domain that is there the hosts below it, and what
-/// the caller gets back if it deletes the domain, the last two where the command asks.
+/// What the caller sees at a domain's name. If the command asks for them, also the hosts below a domain
+/// that is there, and what the caller gets back if it deletes the domain.
 #[derive(Drop)]
 pub struct DomainFacts {
     pub name: Text,

@@ -1,6 +1,6 @@
-//! The columns that are sums or copies of other rows, as they lie in the tables after a script: what an
-//! account has, how many messages wait and how many domains it holds, who sponsors a domain and a host,
-//! and when a domain is due. What they have to be is worked out by hand.
+//! The columns that are sums or copies of other rows, as they are in the tables after a script. They are
+//! an account's balance, its waiting messages and its domains, the sponsors of domains and hosts, and the
+//! moment when a domain is due. What they have to be is worked out by hand.
 
 use crate::rows::{new_registry, printed};
 use books::{Book, BookFault};

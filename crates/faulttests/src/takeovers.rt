@@ -15,9 +15,9 @@ pub const TAKEN_OVER: &str = "taken over\n";
 
 pub const REFUSED: &str = "refused\n";
 
-/// What a program of that schema has in its tables where a domain with a host below it waits to be
-/// transferred: 1830297600 is the first second of 2028, 1861920000 that of 2029, 1869696000 that of
-/// 1 April 2029, and 1870128000 is five days after it.
+/// What a program of that schema has in its tables if a domain with a host below it waits to be
+/// transferred. 1830297600 is the first second of 2028, and 1861920000 that of 2029. 1869696000 is that
+/// of 1 April 2029, and 1870128000 is five days after it.
 const ROWS: &str = "INSERT INTO meta VALUES (1, 1, 1869696000, 'test', 'nic
 www', 5, 45, 5, 5, 30, 7, 5, 5, 60, 800, 800, 800);
 INSERT INTO account VALUES (1, 'alfa', 3, 1, 3, 1, X'00000000000000000000000000018380', 1);

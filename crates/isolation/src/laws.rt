@@ -1,9 +1,9 @@
 //! What a registrar learns over whole runs.
 ghost use Rattle.isolation.specs.Laws as spec;
 
-/// Two runs in which others gave their objects different secrets or data, or paid different sums, tell a
-/// registrar the same, as long as it presents no right secret of such an object: in each step, and in
-/// however many from one registry on.
+/// Two runs in which others gave their objects different secrets or data, or paid different sums, answer
+/// a registrar alike, as long as it presents no right secret of such an object. That holds for a step,
+/// and for any number of them from one registry on.
 pub fn alike_lists_tell_the_same()
     ensures calls { spec.CallsAreStepsOfTwo }
     ensures lists { spec.AlikeListsTellTheSame }

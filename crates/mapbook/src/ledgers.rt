@@ -1,5 +1,5 @@
-//! The accounts of a book in ordered maps: counters apart from lines and messages, and each line and each
-//! message put in and taken out in the account's place, so that no command copies what it leaves.
+//! The accounts of a book in ordered maps. Counters are apart from lines and messages. Each line and each
+//! message is put in and taken out in its place, so no command copies what it leaves.
 ghost use Rattle.std.specs.Prelude.{◌≡◌, true, [], length, slice_get, IfOk, OnOk, OnErr, is_some, option_map, unwrap_or};
 ghost use Rattle.std.specs.List.{filter};
 ghost use Rattle.std.specs.FinMap as map;

@@ -1,9 +1,9 @@
 //! What crashes of the machine come to.
 ghost use Rattle.runs.specs.CrashLaws as spec;
 
-/// Whatever a registry in a file is asked, whatever fails, and whenever the machine stops: what is found is
-/// what a run leaves over all calls that answered, in their order, and some of the others, each under the
-/// policy of its own opening. None is found in part.
+/// Whatever a registry in a file is asked, whatever fails, and whenever the machine stops, a run leads to
+/// what is found. The run has all calls that answered, in their order, and some of the others, each under
+/// the policy of its own opening. None is found in part.
 pub fn crashes_leave_runs()
     ensures leave { spec.CrashesLeaveRuns }
     ensures left { spec.CrashesLeftRuns }

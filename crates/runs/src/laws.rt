@@ -17,16 +17,17 @@ pub fn settlements_go_unnoticed()
     ensures unnoticed { spec.SettlementsGoUnnoticed }
 {}
 
-/// A run leaves a well formed registry, and in each of its turns the money of every account follows, in the
-/// registries that this very turn found and left: no line vanishes, each is given back once at most and
+/// A run leaves a well-formed registry. In each of its turns the money of every account follows, in the
+/// registries that this very turn found and left. No line vanishes, each is given back once at most and
 /// lawfully, and automatic renewals alone take a balance below zero.
 pub fn runs_keep_money()
     ensures registries { spec.RunsKeepRegistries }
     ensures money { spec.RunsKeepMoney }
 {}
 
-/// Two runs from one registry on, in which others gave their objects different secrets or data, or paid
-/// different sums, tell a registrar the same, as long as it presents no right secret of such an object.
+/// Take two runs from one registry on, in which others gave their objects different secrets or data, or
+/// paid different sums. They answer a registrar alike, as long as it presents no right secret of such an
+/// object.
 pub fn alike_runs_tell_the_same()
     ensures { spec.AlikeRunsTellTheSame }
 {}

@@ -19,9 +19,9 @@ use std::alloc::Global;
 use std::io::Write;
 
 /// Carries out what the operator sends at a moment, an order or a settlement, in a registry that is open,
-/// and prints the answer as a script prints it; a moment before the clock counts as the clock. It gives
-/// the code of the answer. A payload of another form is `Exit::Script` of line 1, as in a script of this
-/// line alone, whatever the moment. Then, and where the registry gives up, nothing is printed or changed.
+/// and prints the answer as a script does. A moment before the clock counts as the clock. It gives the
+/// code of the answer. A payload of another form is `Exit::Script` of line 1, as in a script of this line
+/// alone, whatever the moment. Then, and where the registry gives up, nothing is printed or changed.
 pub fn order_on<B: Book + Drop, W: Write>(
     alloc: Global,
     registry: &mut Registry<B>,

@@ -39,9 +39,9 @@ pub struct Served<B: Book> {
     pub end: ConnectionEnd,
 }
 
-/// Serves one connection, on which nobody is logged in, up to its end. Its first byte shows the
-/// protocol: a frame of EPP begins with 0, and what begins otherwise is a request of HTTP, which is
-/// answered by what everyone may know of the registry at the clock's moment.
+/// Serves one connection, on which nobody is logged in, up to its end. Its first byte shows the protocol:
+/// a frame of EPP begins with 0. All else is a request of HTTP, which is answered by what everyone may
+/// know of the registry at the clock's moment.
 pub fn serve_one<R: Read, W: Write, C: Clock, B: Book + Drop>(
     alloc: Global,
     routes: &Routes,

@@ -21,8 +21,8 @@ pub(crate) struct DomainColumns {
     pub serial: Option<i64>,
 }
 
-/// The row of a line, under its number and its account's, with the column for the end of its grace;
-/// none where the line is on a contact or a host, or its cents are too many.
+/// The row of a line, under its number and its account's, with the column for the end of its grace. There
+/// is none if the line is on a contact or a host, or its cents are too many.
 pub fn line_row(id: i64, account: i64, line: &Line, ends: Option<i64>) -> Option<LineRow>
     ensures { result ≡ inner_spec.line_row id account line.now ends }
 {

@@ -1,5 +1,5 @@
-//! The clock and the terms of a registry over the rows of a database: the one row of `meta`, the tables
-//! of periods, and the ids of registrars, which are in the rows of their accounts.
+//! The clock and the terms of a registry over the rows of a database. They are in the one row of `meta`,
+//! the tables of periods, and the rows of accounts, which have the ids of registrars.
 #![tactic(auto)]
 
 mod counts;

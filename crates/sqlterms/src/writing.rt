@@ -37,9 +37,8 @@ pub fn set_clock<S: Alter>(
 
 /// Puts terms down: the row of `meta`, the tables of lengths that aren't there yet, and the ident of each
 /// account whose registrar has a place among the ids. Nothing is written where these terms are there
-/// already. Refused are terms that don't read back as they are, such as those with a label that has a
-/// line feed, with an id of a registrar without an account, or with other tables than those that are
-/// there.
+/// already. Terms that don't read back as they are, are refused: a label with a line feed, an id of a
+/// registrar without an account, or other tables than those that are there.
 pub fn set_terms<S: Alter>(
     store: &mut RowStore<S>,
     alloc: Global,

@@ -1,6 +1,6 @@
-//! Runs files of data: transcripts, which are scripts with the replies that must follow; cases, with
-//! what comes over connections and the answers; lines whose calls on the book are refused one by one;
-//! and pairs of scripts that differ in what others hide. `docs/TRANSCRIPTS.md` describes the four kinds.
+//! Runs files of data. Transcripts are scripts with the replies that must follow. Cases are what comes
+//! over connections, with the answers. Refusals are lines whose calls on the book are refused one by one.
+//! Pairs are scripts that differ in what others hide. `docs/TRANSCRIPTS.md` describes the four kinds.
 //!
 //! The arguments name the files; a file's ending tells its kind. The status is 1 if anything differs.
 //! `find FILE rows|maps PLACE [stops]` sends one line of a file of refusals while memory may be refused

@@ -1,6 +1,6 @@
-//! Lines of which each call on the book is refused once. Nothing may be left of a line in which a call was
-//! refused: sent again it is answered as if nothing had been refused, to the byte, and so is everything that is
-//! looked at after it.
+//! Lines of which each call on the book is refused once. Nothing may be left of a line in which a call
+//! was refused. Sent again it is answered as if nothing had been refused, to the byte. So is everything
+//! that is looked at after it.
 
 use crate::both_books::{Done, Job, Kind, over};
 use crate::cases::cut;
