@@ -5,15 +5,9 @@ use Rattle.std.specs.List.{AllByRecursion}
 use Rattle.std.proofs.lemmas.Bool.Decides.{nat_tests}
 use Rattle.std.proofs.lemmas.Int.{ints}
 use Rattle.std.proofs.lemmas.List.{take_more}
-use Rattle.std.proofs.lemmas.Cmp.{nat_list_cmp_total}
-use Rattle.std.specs.Cmp.{IsTotalOrder}
-use Rattle.std.specs.Cmp.Lexicographic.{slice_cmp}
-use Rattle.std.specs.Ordering.{nat_cmp, is_le, ordering_reverse}
-use Rattle.std.specs.declared.cmp.Ordering.{Ordering}
-use Rattle.std.specs.declared.cmp.Ordering.TheVariants.{Less, Equal, Greater}
-use Rattle.std.specs.FinMap.{IsAntisymmetric, nat_cmp-IsAntisymmetric, slice_cmp-IsAntisymmetric}
 use Rattle.basis.specs.Bag.{IsLinear, add, bag_of, same}
 use Rattle.basis.proofs.BagLaws.{le-itself, same-is}
+use Rattle.basis.proofs.OrderLaws.{linear_by_numbers}
 use Rattle.objects.specs.declared.roid.ObjectKind.{ObjectKind}
 use Rattle.objects.specs.declared.roid.ObjectKind.TheVariants as objects
 use Rattle.objects.specs.declared.roid.Roid.{Roid}
@@ -22,32 +16,6 @@ use Rattle.accounts.specs.declared.line.LineKind.{LineKind}
 use Rattle.accounts.specs.declared.line.LineKind.TheVariants as kinds
 use Rattle.accounts.specs.Groups.{IsBounded, IsSmall}
 use Rattle.accounts.specs.Lines.{amount, amount_of, balance, in_order, is_kind, is_line, is_line_for, is_same_domain, is_same_number, is_same_roid, kind_rank, maybe_number, numbers, object_rank, roid_numbers}
-
--- ---- the order by an injective reading
-
-le_trans : {K : Type 0} (R : K → K → Ordering) → IsTotalOrder R → (x y z : K) (a b : Ordering) → R x y ≡ a → R y z ≡ b → is_le a ≡ true → is_le b ≡ true → is_le (R x z) ≡ true
-le_trans R h x y z Less Less e f p q = ap is_le (h.trans x y z e f)
-le_trans R h x y z Less Equal e f p q = ap is_le (h.antisymm x z ∙ ap ordering_reverse (sym (h.congr y z x f)) ∙ sym (h.antisymm x y) ∙ e)
-le_trans R h x y z Less Greater e f p q = cc
-le_trans R h x y z Equal b e f p q = ap is_le (h.congr x y z e ∙ f) ∙ q
-le_trans R h x y z Greater b e f p q = cc
-
-le_total : (a b : Ordering) → a ≡ ordering_reverse b → is_le b ≡ false → is_le a ≡ true
-le_total a Less e p = cc
-le_total a Equal e p = cc
-le_total a Greater e p = ap is_le e
-
-le_both : (a b : Ordering) → a ≡ ordering_reverse b → is_le a ≡ true → is_le b ≡ true → a ≡ Equal
-le_both a Less e p q = let never : true ≡ false = sym p ∙ ap is_le e in cc
-le_both a Equal e p q = e
-le_both a Greater e p q = cc
-
-linear_by : {A K : Type 0} (R : K → K → Ordering) (code : A → K) → IsTotalOrder R → IsAntisymmetric R → ((x y : A) → code x ≡ code y → x ≡ y) → IsLinear (λ x y. is_le (R (code x) (code y)))
-linear_by R code h anti only = record {
-  total = λ x y e. le_total (R (code y) (code x)) (R (code x) (code y)) (h.antisymm (code y) (code x)) e;
-  antisym = λ x y e f. only x y (anti (code x) (code y) (le_both (R (code x) (code y)) (R (code y) (code x)) (h.antisymm (code x) (code y)) e f));
-  trans = λ x y z e f. le_trans R h (code x) (code y) (code z) (R (code x) (code y)) (R (code y) (code z)) refl refl e f;
-}
 
 -- ---- the numbers tell a line
 
@@ -114,7 +82,7 @@ numbers_only a b e =
 
 pub lines_in_order : IsLinear in_order
 unfolding in_order
-lines_in_order = linear_by (slice_cmp nat_cmp) numbers nat_list_cmp_total (slice_cmp-IsAntisymmetric nat_cmp-IsAntisymmetric) numbers_only
+lines_in_order = linear_by_numbers numbers numbers_only
 
 -- ---- a line is told by what it says
 

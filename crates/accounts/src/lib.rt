@@ -17,7 +17,9 @@ mod queue;
 pub use account::{Account, saturating_next};
 pub use counters::Counters;
 pub use entries::{AutoRenewal, LapseEntry, Posting};
-pub use line::{Line, LineChange, LineKind, LineSwap, TransferRefund, TransferStart};
+pub use line::{
+    Line, LineChange, LineKind, LineSwap, TransferRefund, TransferStart, is_same_roid, object_rank,
+};
 pub use lines::Lines;
 pub use message::{CommandNotice, LapseNotice, Message, Origin, Subject};
 pub use queue::Queue;

@@ -40,7 +40,8 @@ pub struct LineSwap {
 }
 
 impl LineKind {
-    fn rank(self) -> u8
+    /// Its place among the kinds.
+    pub fn rank(self) -> u8
         ensures { result ≡ spec.kind_rank self }
     {
         match self {
@@ -61,7 +62,8 @@ impl LineKind {
     }
 }
 
-pub(crate) fn object_rank(kind: ObjectKind) -> u8
+/// The place of a kind of objects among the kinds.
+pub fn object_rank(kind: ObjectKind) -> u8
     ensures { result ≡ spec.object_rank kind }
 {
     match kind {
@@ -94,7 +96,7 @@ fn is_same_domain(a: &Option<Roid>, b: &Option<Roid>) -> bool
 }
 
 /// Whether two identifiers are one.
-fn is_same_roid(a: &Roid, b: &Roid) -> bool
+pub fn is_same_roid(a: &Roid, b: &Roid) -> bool
     ensures { result ≡ spec.is_same_roid a.now b.now }
 {
     object_rank(a.kind) == object_rank(b.kind) && a.creator == b.creator && a.serial == b.serial

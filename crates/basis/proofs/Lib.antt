@@ -1,5 +1,6 @@
 pub mod MapLemmas
 pub mod BagLaws
+pub mod OrderLaws
 pub mod SetLemmas
 pub mod SweepLaws
 pub mod ApartLaws

@@ -6,10 +6,11 @@ ghost use Rattle.objects.specs.Links.{names_contact, names_host};
 ghost use Rattle.concerns.specs.Concerns as spec;
 
 use crate::given::Names;
+use accounts::is_same_roid;
 use basis::list::Seq;
 use basis::registrar::RegistrarNo;
 use basis::text::Text;
-use objects::{Domain, Links, ObjectKind, Roid, Transfer};
+use objects::{Domain, Links, Roid, Transfer};
 
 /// What is meant by names: the names themselves with those that contacts and domains under them bear,
 /// and the identifiers of these domains.
@@ -82,21 +83,4 @@ fn has_roid(roids: &[Roid], roid: &Roid) -> bool
     ensures { result ≡ list_any (lines.is_same_roid roid.now) roids.now }
 {
     roids.iter().any(|other| is_same_roid(roid, other))
-}
-
-/// Whether two identifiers are one.
-fn is_same_roid(a: &Roid, b: &Roid) -> bool
-    ensures { result ≡ lines.is_same_roid a.now b.now }
-{
-    rank(a.kind) == rank(b.kind) && a.creator == b.creator && a.serial == b.serial
-}
-
-fn rank(kind: ObjectKind) -> u8
-    ensures { result ≡ lines.object_rank kind }
-{
-    match kind {
-        ObjectKind::Contact => 0,
-        ObjectKind::Domain => 1,
-        ObjectKind::Host => 2,
-    }
 }

@@ -1,16 +1,13 @@
 -- A host under its new name, among names that were put into their places one after another.
 use Rattle.std.proofs.Common.{◌≡◌, ◌⊎◌, inl, inr, ℕ, Bool, true, false, cond, not, ◌||◌, List, [], ◌∷◌, filter, refl, sym, ap, subst, ◌∙◌, true≢false}
 use Rattle.std.proofs.lemmas.Slice.Eq.{bytes_eq-Decides}
-use Rattle.std.specs.Cmp.{IsTotalOrder}
-use Rattle.std.specs.Cmp.Lexicographic.{nat_list_cmp_total, slice_cmp}
-use Rattle.std.specs.FinMap.{nat_cmp-IsAntisymmetric, slice_cmp-IsAntisymmetric}
+use Rattle.std.specs.Cmp.Lexicographic.{slice_cmp}
 use Rattle.std.specs.List.{list_any}
-use Rattle.std.specs.Ordering.{nat_cmp, is_le, ordering_reverse}
-use Rattle.std.specs.declared.cmp.Ordering.{Ordering}
-use Rattle.std.specs.declared.cmp.Ordering.TheVariants.{Less, Equal, Greater}
+use Rattle.std.specs.Ordering.{nat_cmp}
 use Rattle.std.specs.Str.{bytes_eq}
 use Rattle.basis.specs.Bag.{IsLinear, add, bag_of, precedes}
 use Rattle.basis.proofs.BagLaws.{add-add, any-add, filter-bag_of}
+use Rattle.basis.proofs.OrderLaws.{linear_by_numbers}
 use Rattle.objects.specs.Links.{has_name}
 use Rattle.decisions.specs.Changes.{renamed}
 use Rattle.sqldomains.specs.Domains.{placed}
@@ -21,29 +18,8 @@ le = precedes (slice_cmp nat_cmp)
 
 -- ---- the order of names
 
-le_trans : {K : Type 0} (R : K → K → Ordering) → IsTotalOrder R → (x y z : K) (a b : Ordering) → R x y ≡ a → R y z ≡ b → is_le a ≡ true → is_le b ≡ true → is_le (R x z) ≡ true
-le_trans R h x y z Less Less e f p q = ap is_le (h.trans x y z e f)
-le_trans R h x y z Less Equal e f p q = ap is_le (h.antisymm x z ∙ ap ordering_reverse (sym (h.congr y z x f)) ∙ sym (h.antisymm x y) ∙ e)
-le_trans R h x y z Less Greater e f p q = cc
-le_trans R h x y z Equal b e f p q = ap is_le (h.congr x y z e ∙ f) ∙ q
-le_trans R h x y z Greater b e f p q = cc
-
-le_total : (a b : Ordering) → a ≡ ordering_reverse b → is_le b ≡ false → is_le a ≡ true
-le_total a Less e p = cc
-le_total a Equal e p = cc
-le_total a Greater e p = ap is_le e
-
-le_both : (a b : Ordering) → a ≡ ordering_reverse b → is_le a ≡ true → is_le b ≡ true → a ≡ Equal
-le_both a Less e p q = let never : true ≡ false = sym p ∙ ap is_le e in cc
-le_both a Equal e p q = e
-le_both a Greater e p q = cc
-
 names-linear : IsLinear le
-names-linear = record {
-  total = λ x y e. le_total (slice_cmp nat_cmp y x) (slice_cmp nat_cmp x y) (nat_list_cmp_total.antisymm y x) e;
-  antisym = λ x y e f. slice_cmp-IsAntisymmetric nat_cmp-IsAntisymmetric x y (le_both (slice_cmp nat_cmp x y) (slice_cmp nat_cmp y x) (nat_list_cmp_total.antisymm x y) e f);
-  trans = λ x y z e f. le_trans (slice_cmp nat_cmp) nat_list_cmp_total x y z (slice_cmp nat_cmp x y) (slice_cmp nat_cmp y z) refl refl e f;
-}
+names-linear = linear_by_numbers (λ name. name) (λ x y e. e)
 
 -- ---- names one by one
 

@@ -1,11 +1,10 @@
 //! The lines of an account in the order of their moments.
 ghost use Rattle.std.specs.Prelude.{◌≡◌, ◌<◌, IfOk};
-ghost use Rattle.accounts.specs.Lines.{kind_rank, maybe_number, object_rank};
+ghost use Rattle.accounts.specs.Lines.{maybe_number};
 ghost use Rattle.statements.specs.Tables as spec;
 
-use accounts::{Line, LineKind, Lines};
+use accounts::{Line, Lines, object_rank};
 use calendar::Moment;
-use objects::ObjectKind;
 use std::alloc::AllocError;
 
 /// The lines of an account by their moments, and those of one moment by their kinds and domains.
@@ -22,7 +21,7 @@ pub(crate) fn by_moment(lines: &Lines) -> Result<Vec<Line>, AllocError>
 fn place(line: &Line) -> [u64; 10]
     ensures { result ≡ spec.place line.now }
 {
-    let (recorded, kind) = (secs(line.recorded), kind_rank(line.kind));
+    let (recorded, kind) = (secs(line.recorded), u64::from(line.kind.rank()));
     let (years, cents) = (u64::from(line.years), line.cents);
     let (started, refunded) = (maybe_secs(line.started), maybe_secs(line.refunded));
     match &line.roid {
@@ -30,8 +29,8 @@ fn place(line: &Line) -> [u64; 10]
             recorded, kind, 0, 0, 0, recorded, years, cents, started, refunded,
         ],
         Some(roid) => {
-            let (object, creator) = (1 + object_rank(roid.kind), u64::from(roid.creator.place()));
-            let serial = roid.serial;
+            let object = 1 + u64::from(object_rank(roid.kind));
+            let (creator, serial) = (u64::from(roid.creator.place()), roid.serial);
             [
                 recorded, kind, object, creator, serial, recorded, years, cents, started, refunded,
             ]
@@ -52,29 +51,5 @@ fn maybe_secs(moment: Option<Moment>) -> u64
     match moment {
         None => 0,
         Some(moment) => 1 + secs(moment),
-    }
-}
-
-fn kind_rank(kind: LineKind) -> u64
-    ensures { result ≡ kind_rank kind }
-{
-    match kind {
-        LineKind::Deposit => 0,
-        LineKind::Create => 1,
-        LineKind::Renew => 2,
-        LineKind::AutoRenew => 3,
-        LineKind::Transfer => 4,
-        LineKind::Restore => 5,
-    }
-}
-
-fn object_rank(kind: ObjectKind) -> u64
-    ensures value { result ≡ object_rank kind }
-    ensures range { result < 3 }
-{
-    match kind {
-        ObjectKind::Contact => 0,
-        ObjectKind::Domain => 1,
-        ObjectKind::Host => 2,
     }
 }
