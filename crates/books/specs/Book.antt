@@ -155,10 +155,20 @@ BookFinds (Ok it) value old new =
     BookReads old new × (BookStays old new × (new.is_clean ≡ true → it ≡ value))
 BookFinds (Err fault) value old new = WentBack fault old new
 
+-- the same of the registry: the answer is this of it
+abbrev pub BookFindsIn : {A : Type 0} → Result A BookFault → (Registry → A) → BookState → BookState
+    → Type 0
+BookFindsIn result value old new = BookFinds result (value old.content.registry) old new
+
 -- a change: this is held afterwards
 abbrev pub BookMakes : {A : Type 0} → Result A BookFault → Stored → BookState → BookState → Type 0
 BookMakes (Ok done) held old new = BookWrites old new held × BookStays old new
 BookMakes (Err fault) held old new = WentBack fault old new
+
+-- the same: what is held is made of what was
+abbrev pub BookMakesOf : {A : Type 0} → Result A BookFault → (Stored → Stored) → BookState → BookState
+    → Type 0
+BookMakesOf result made old new = BookMakes result (made old.content) old new
 
 abbrev pub BookBegins : {A : Type 0} → Result A BookFault → BookState → BookState → Type 0
 BookBegins (Ok done) old new = BookStarts old new × BookStays old new

@@ -1,6 +1,8 @@
 //! The trait of a place where a registry is kept.
 ghost use Rattle.std.specs.Prelude.{◌≡◌, Bool, true, false, None};
-ghost use Rattle.books.specs.Book.{BookBegins, BookEnds, BookFinds, BookMakes, Follows, IsBack, LeavesHeld, LeavesSame, NoRefusal, with_changes, with_terms};
+ghost use Rattle.books.specs.Book.{BookBegins, BookEnds, BookFinds, BookFindsIn, BookMakesOf};
+ghost use Rattle.books.specs.Book.{Follows, IsBack, LeavesHeld, LeavesSame, NoRefusal};
+ghost use Rattle.books.specs.Book.{with_changes, with_terms};
 ghost use Rattle.concerns.specs.Names.{named_by, named_of};
 ghost use Rattle.model.specs.DueBy.{due_by};
 ghost use Rattle.concerns.specs.DueFor.{due_for};
@@ -51,7 +53,7 @@ pub trait Book {
 
     /// The latest moment that was seen.
     fn clock(&mut self) -> Result<Moment, BookFault>
-        ensures { BookFinds result (state self.old).content.registry.clock (state self.old) (state self.new) };
+        ensures { BookFindsIn result (λ s. s.clock) (state self.old) (state self.new) };
 
     /// The terms under which it was opened, if it was.
     fn terms(&mut self) -> Result<Option<Terms>, BookFault>
@@ -64,41 +66,48 @@ pub trait Book {
         command: &Command,
         policy: &Policy,
     ) -> Result<Facts, BookFault>
-        ensures { BookFinds result (facts policy.now caller command.now (state self.old).content.registry) (state self.old) (state self.new) };
+        ensures { BookFindsIn result (facts policy.now caller command.now)
+            (state self.old) (state self.new) };
 
     /// The object of a kind under a name.
     fn object_at(&mut self, kind: ObjectKind, name: &Text) -> Result<Option<Object>, BookFault>
-        ensures { BookFinds result (object_at (state self.old).content.registry kind name.now) (state self.old) (state self.new) };
+        ensures { BookFindsIn result (λ s. object_at s kind name.now)
+            (state self.old) (state self.new) };
 
     /// What everyone may know of the domain under a name, under the policy that the book was opened
     /// with.
     fn domain_face(&mut self, name: &Text, policy: &Policy) -> Result<Option<DomainFace>, BookFault>
-        ensures { BookFinds result (domain_face_at policy.now (state self.old).content.registry name.now) (state self.old) (state self.new) };
+        ensures { BookFindsIn result (λ s. domain_face_at policy.now s name.now)
+            (state self.old) (state self.new) };
 
     /// The same of a host.
     fn host_face(&mut self, name: &Text, policy: &Policy) -> Result<Option<HostFace>, BookFault>
-        ensures { BookFinds result (host_face_at policy.now (state self.old).content.registry name.now) (state self.old) (state self.new) };
+        ensures { BookFindsIn result (λ s. host_face_at policy.now s name.now)
+            (state self.old) (state self.new) };
 
     /// The same of a contact, which shows whether it is linked.
     fn contact_face(&mut self, name: &Text) -> Result<Option<ContactFace>, BookFault>
-        ensures { BookFinds result (contact_face_at (state self.old).content.registry name.now) (state self.old) (state self.new) };
+        ensures { BookFindsIn result (λ s. contact_face_at s name.now)
+            (state self.old) (state self.new) };
 
     /// The names of all domains, in their order.
     fn domain_names(&mut self) -> Result<Seq<Text>, BookFault>
-        ensures { BookFinds result (domain_names (state self.old).content.registry) (state self.old) (state self.new) };
+        ensures { BookFindsIn result domain_names (state self.old) (state self.new) };
 
     /// The addresses of the host under a name.
     fn host_addresses(&mut self, name: &Text) -> Result<Option<Seq<Text>>, BookFault>
-        ensures { BookFinds result (host_addresses_at (state self.old).content.registry name.now) (state self.old) (state self.new) };
+        ensures { BookFindsIn result (λ s. host_addresses_at s name.now)
+            (state self.old) (state self.new) };
 
     /// The lines of a registrar's account: none where it was never opened.
     fn lines(&mut self, registrar: RegistrarNo) -> Result<Lines, BookFault>
-        ensures { BookFinds result (account_of registrar (state self.old).content.registry).lines (state self.old) (state self.new) };
+        ensures { BookFindsIn result (λ s. (account_of registrar s).lines)
+            (state self.old) (state self.new) };
 
     /// The objects that time changes or removes up to a moment, by the moment of the first change,
     /// then contacts first, then by name.
     fn due(&mut self, moment: Moment, policy: &Policy) -> Result<Seq<Due>, BookFault>
-        ensures { BookFinds result (due_by policy.now moment (state self.old).content.registry) (state self.old) (state self.new) };
+        ensures { BookFindsIn result (due_by policy.now moment) (state self.old) (state self.new) };
 
     /// Of what is due by a moment, in the same order, the part that concerns a command. That is what its
     /// caller, if one is given, sponsors, and what a pending transfer brings to it or takes away. It is
@@ -111,7 +120,8 @@ pub trait Book {
         moment: Moment,
         policy: &Policy,
     ) -> Result<Seq<Due>, BookFault>
-        ensures { BookFinds result (due_for policy.now caller (named_by command.now) moment (state self.old).content.registry) (state self.old) (state self.new) };
+        ensures { BookFindsIn result (due_for policy.now caller (named_by command.now) moment)
+            (state self.old) (state self.new) };
 
     /// The same of an info of an object, whoever asks.
     fn due_at(
@@ -121,7 +131,8 @@ pub trait Book {
         moment: Moment,
         policy: &Policy,
     ) -> Result<Seq<Due>, BookFault>
-        ensures { BookFinds result (due_for policy.now None (named_of kind name.now) moment (state self.old).content.registry) (state self.old) (state self.new) };
+        ensures { BookFindsIn result (due_for policy.now None (named_of kind name.now) moment)
+            (state self.old) (state self.new) };
 
     /// Opens a transaction.
     fn begin(&mut self) -> Result<(), BookFault>
@@ -132,12 +143,13 @@ pub trait Book {
     /// opened with.
     fn apply(&mut self, changes: Seq<Change>, policy: &Policy) -> Result<(), BookFault>
         requires { (state self.old).is_open ≡ true }
-        ensures { BookMakes result (with_changes policy.now changes (state self.old).content) (state self.old) (state self.new) };
+        ensures { BookMakesOf result (with_changes policy.now changes)
+            (state self.old) (state self.new) };
 
     /// Puts down the terms under which it is opened, in the open transaction.
     fn keep_terms(&mut self, terms: Terms) -> Result<(), BookFault>
         requires { (state self.old).is_open ≡ true }
-        ensures { BookMakes result (with_terms terms (state self.old).content) (state self.old) (state self.new) };
+        ensures { BookMakesOf result (with_terms terms) (state self.old) (state self.new) };
 
     /// Keeps what the transaction did.
     fn commit(&mut self) -> Result<(), BookFault>

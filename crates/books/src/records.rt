@@ -1,20 +1,17 @@
 //! What a book keeps, by key.
-ghost use Rattle.std.specs.Prelude.{◌≡◌, Bool, true, false, nat_le, length, slice_get, option_map, Some, None};
+ghost use Rattle.std.specs.Prelude.{◌≡◌, Bool, true, false, nat_le, length, slice_get, Some, None};
 ghost use Rattle.std.specs.FinMap as finmap;
 ghost use Rattle.std.specs.List.{filter};
 ghost use Rattle.accounts.specs.Lines as lines;
-ghost use Rattle.accounts.specs.Lines.{in_order, swapped_all};
-ghost use Rattle.basis.specs.Bag.{remade};
 ghost use Rattle.facts.specs.Facts as facts;
 ghost use Rattle.model.specs.Registry.{account_of};
 ghost use Rattle.books.specs.Book.{with_terms};
-ghost use Rattle.concerns.specs.Concerns.{concerned};
 ghost use Rattle.model.specs.DueBy.{due_by};
-ghost use Rattle.concerns.specs.DueFor.{due_for, is_picked};
 ghost use Rattle.books.specs.Faces.{domain_names, host_addresses_at};
 ghost use Rattle.accounts.specs.Counters.{counters_of};
-ghost use Rattle.books.specs.Lookups.{has_contact, has_host};
-ghost use Rattle.states.specs.States.{Begins, Closes, Ends, Finds, Makes, FindsSome};
+ghost use Rattle.books.specs.Lookups.{has_contact, has_host, superordinate_at};
+ghost use Rattle.books.specs.Records.{AreSwaps, FindsIn, FindsSomeIn, IsDueNear, MakesOf};
+ghost use Rattle.states.specs.States.{Begins, Closes, Ends, Finds};
 ghost use Rattle.books.specs.Tables as tables;
 
 use accounts::{Counters, Line, LineChange, LineSwap, Lines, Message};
@@ -59,7 +56,7 @@ pub trait Records {
         ensures { Finds result (kept self.old).readiness (kept self.old) (kept self.new) };
 
     fn clock(&mut self) -> Result<Moment, BookFault>
-        ensures { Finds result (kept self.old).content.registry.clock (kept self.old) (kept self.new) };
+        ensures { FindsIn result (λ s. s.clock) (kept self.old) (kept self.new) };
 
     fn terms(&mut self) -> Result<Option<Terms>, BookFault>
         ensures { Finds result (kept self.old).content.terms (kept self.old) (kept self.new) };
@@ -68,19 +65,23 @@ pub trait Records {
 
     /// What a registrar's account counts: 0 where it was never opened.
     fn counters(&mut self, registrar: RegistrarNo) -> Result<Counters, BookFault>
-        ensures { Finds result (counters_of (account_of registrar (kept self.old).content.registry)) (kept self.old) (kept self.new) };
+        ensures { FindsIn result (λ s. counters_of (account_of registrar s))
+            (kept self.old) (kept self.new) };
 
     /// What a registrar's account has, in whole cents.
     fn balance(&mut self, registrar: RegistrarNo) -> Result<i128, BookFault>
-        ensures { Finds result (lines.balance (account_of registrar (kept self.old).content.registry).lines) (kept self.old) (kept self.new) };
+        ensures { FindsIn result (λ s. lines.balance (account_of registrar s).lines)
+            (kept self.old) (kept self.new) };
 
     /// The lines of a registrar's account on a domain.
     fn lines_on(&mut self, registrar: RegistrarNo, roid: &Roid) -> Result<Lines, BookFault>
-        ensures { Finds result (filter (lines.is_on roid.now) (account_of registrar (kept self.old).content.registry).lines) (kept self.old) (kept self.new) };
+        ensures { FindsIn result (λ s. filter (lines.is_on roid.now) (account_of registrar s).lines)
+            (kept self.old) (kept self.new) };
 
     /// All lines of a registrar's account: none where it was never opened. Each line is gone through.
     fn lines(&mut self, registrar: RegistrarNo) -> Result<Lines, BookFault>
-        ensures { Finds result (account_of registrar (kept self.old).content.registry).lines (kept self.old) (kept self.new) };
+        ensures { FindsIn result (λ s. (account_of registrar s).lines)
+            (kept self.old) (kept self.new) };
 
     /// What makes of a registrar's lines what a change makes of them, one line for another. It reads
     /// those of the change's domain alone.
@@ -89,65 +90,77 @@ pub trait Records {
         registrar: RegistrarNo,
         change: &C,
     ) -> Result<Seq<LineSwap>, BookFault>
-        ensures { FindsSome result (λ swaps. swapped_all swaps (account_of registrar (kept self.old).content.registry).lines ≡ remade in_order (C.changed change.now) (account_of registrar (kept self.old).content.registry).lines) (kept self.old) (kept self.new) };
+        ensures { FindsSomeIn result (AreSwaps registrar (C.changed change.now))
+            (kept self.old) (kept self.new) };
 
     /// The message that has waited longest for a registrar.
     fn oldest(&mut self, registrar: RegistrarNo) -> Result<Option<Message>, BookFault>
-        ensures { Finds result (slice_get (account_of registrar (kept self.old).content.registry).queue 0) (kept self.old) (kept self.new) };
+        ensures { FindsIn result (λ s. slice_get (account_of registrar s).queue 0)
+            (kept self.old) (kept self.new) };
 
     /// How many messages wait for a registrar.
     fn waiting(&mut self, registrar: RegistrarNo) -> Result<u64, BookFault>
-        ensures { Finds result (length (account_of registrar (kept self.old).content.registry).queue) (kept self.old) (kept self.new) };
+        ensures { FindsIn result (λ s. length (account_of registrar s).queue)
+            (kept self.old) (kept self.new) };
 
     // ---- objects
 
     fn contact(&mut self, name: &Text) -> Result<Option<Contact>, BookFault>
-        ensures { Finds result (finmap.get (kept self.old).content.registry.contacts name.now) (kept self.old) (kept self.new) };
+        ensures { FindsIn result (λ s. finmap.get s.contacts name.now)
+            (kept self.old) (kept self.new) };
 
     fn domain(&mut self, name: &Text) -> Result<Option<Domain>, BookFault>
-        ensures { Finds result (finmap.get (kept self.old).content.registry.domains name.now) (kept self.old) (kept self.new) };
+        ensures { FindsIn result (λ s. finmap.get s.domains name.now)
+            (kept self.old) (kept self.new) };
 
     fn host(&mut self, name: &Text) -> Result<Option<Host>, BookFault>
-        ensures { Finds result (finmap.get (kept self.old).content.registry.hosts name.now) (kept self.old) (kept self.new) };
+        ensures { FindsIn result (λ s. finmap.get s.hosts name.now)
+            (kept self.old) (kept self.new) };
 
     fn has_contact(&mut self, name: &Text) -> Result<bool, BookFault>
-        ensures { Finds result (has_contact (kept self.old).content.registry name.now) (kept self.old) (kept self.new) };
+        ensures { FindsIn result (λ s. has_contact s name.now) (kept self.old) (kept self.new) };
 
     fn has_host(&mut self, name: &Text) -> Result<bool, BookFault>
-        ensures { Finds result (has_host (kept self.old).content.registry name.now) (kept self.old) (kept self.new) };
+        ensures { FindsIn result (λ s. has_host s name.now) (kept self.old) (kept self.new) };
 
     /// Of a domain, what its hosts depend on.
     fn superordinate(&mut self, domain: &Text) -> Result<Option<Superordinate>, BookFault>
-        ensures { Finds result (option_map facts.superordinate_of_domain (finmap.get (kept self.old).content.registry.domains domain.now)) (kept self.old) (kept self.new) };
+        ensures { FindsIn result (λ s. superordinate_at s domain.now)
+            (kept self.old) (kept self.new) };
 
     /// The addresses of the host under a name.
     fn host_addresses(&mut self, name: &Text) -> Result<Option<Seq<Text>>, BookFault>
-        ensures { Finds result (host_addresses_at (kept self.old).content.registry name.now) (kept self.old) (kept self.new) };
+        ensures { FindsIn result (λ s. host_addresses_at s name.now)
+            (kept self.old) (kept self.new) };
 
     /// The names of all domains, in their order.
     fn domain_names(&mut self) -> Result<Seq<Text>, BookFault>
-        ensures { Finds result (domain_names (kept self.old).content.registry) (kept self.old) (kept self.new) };
+        ensures { FindsIn result domain_names (kept self.old) (kept self.new) };
 
     /// Whether a domain names the contact.
     fn is_linked_contact(&mut self, name: &Text) -> Result<bool, BookFault>
-        ensures { Finds result (facts.is_linked_contact (kept self.old).content.registry name.now) (kept self.old) (kept self.new) };
+        ensures { FindsIn result (λ s. facts.is_linked_contact s name.now)
+            (kept self.old) (kept self.new) };
 
     /// Whether a domain names the host.
     fn is_linked_host(&mut self, name: &Text) -> Result<bool, BookFault>
-        ensures { Finds result (facts.is_linked_host (kept self.old).content.registry name.now) (kept self.old) (kept self.new) };
+        ensures { FindsIn result (λ s. facts.is_linked_host s name.now)
+            (kept self.old) (kept self.new) };
 
     /// The hosts below a domain, in the order of their names.
     fn hosts_below(&mut self, domain: &Text) -> Result<Seq<Text>, BookFault>
-        ensures { Finds result (facts.subordinate (kept self.old).content.registry domain.now) (kept self.old) (kept self.new) };
+        ensures { FindsIn result (λ s. facts.subordinate s domain.now)
+            (kept self.old) (kept self.new) };
 
     /// Whether the registrar holds as many domains as it may.
     fn is_at_holding_limit(&mut self, registrar: RegistrarNo) -> Result<bool, BookFault>
-        ensures { Finds result (nat_le HOLDING_LIMIT (facts.held registrar (kept self.old).content.registry)) (kept self.old) (kept self.new) };
+        ensures { FindsIn result (λ s. nat_le HOLDING_LIMIT (facts.held registrar s))
+            (kept self.old) (kept self.new) };
 
     /// The objects that time changes or removes up to a moment, by the moment of the first change, then
     /// contacts first, then by name.
     fn due(&mut self, moment: Moment, policy: &Policy) -> Result<Seq<Due>, BookFault>
-        ensures { Finds result (due_by policy.now moment (kept self.old).content.registry) (kept self.old) (kept self.new) };
+        ensures { FindsIn result (due_by policy.now moment) (kept self.old) (kept self.new) };
 
     /// Some of what is due by a moment, in the same order: all that concerns a registrar, if one is given,
     /// and some names is among it. What isn't near these isn't looked at, where there is a way around it.
@@ -158,81 +171,91 @@ pub trait Records {
         moment: Moment,
         policy: &Policy,
     ) -> Result<Seq<Due>, BookFault>
-        ensures { FindsSome result (λ due. filter (is_picked (concerned caller names.now (kept self.old).content.registry)) due ≡ due_for policy.now caller names.now moment (kept self.old).content.registry) (kept self.old) (kept self.new) };
+        ensures { FindsSomeIn result (IsDueNear policy.now caller names.now moment)
+            (kept self.old) (kept self.new) };
 
     // ---- changes
 
     fn set_clock(&mut self, moment: Moment) -> Result<(), BookFault>
         requires { (kept self.old).is_open ≡ true }
-        ensures { Makes result (tables.clock_set moment (kept self.old).content) (kept self.old) (kept self.new) };
+        ensures { MakesOf result (tables.clock_set moment) (kept self.old) (kept self.new) };
 
     fn set_terms(&mut self, terms: Terms) -> Result<(), BookFault>
         requires { (kept self.old).is_open ≡ true }
-        ensures { Makes result (with_terms terms (kept self.old).content) (kept self.old) (kept self.new) };
+        ensures { MakesOf result (with_terms terms) (kept self.old) (kept self.new) };
 
     /// The registrar has an account. One that it has stays as it is.
     fn open_account(&mut self, registrar: RegistrarNo) -> Result<(), BookFault>
         requires { (kept self.old).is_open ≡ true }
-        ensures { Makes result (tables.account_opened registrar (kept self.old).content) (kept self.old) (kept self.new) };
+        ensures { MakesOf result (tables.account_opened registrar)
+            (kept self.old) (kept self.new) };
 
     /// Gives a registrar's account other counters. What was never opened is opened.
     fn set_counters(&mut self, registrar: RegistrarNo, counters: Counters) -> Result<(), BookFault>
         requires { (kept self.old).is_open ≡ true }
-        ensures { Makes result (tables.counters_set registrar counters (kept self.old).content) (kept self.old) (kept self.new) };
+        ensures { MakesOf result (tables.counters_set registrar counters)
+            (kept self.old) (kept self.new) };
 
     /// Adds a line to a registrar's account. What was never opened is opened.
     fn add_line(&mut self, registrar: RegistrarNo, line: Line) -> Result<(), BookFault>
         requires { (kept self.old).is_open ≡ true }
-        ensures { Makes result (tables.line_added registrar line (kept self.old).content) (kept self.old) (kept self.new) };
+        ensures { MakesOf result (tables.line_added registrar line)
+            (kept self.old) (kept self.new) };
 
     /// Takes a line out of a registrar's account, if it is there.
     fn take_line(&mut self, registrar: RegistrarNo, line: Line) -> Result<(), BookFault>
         requires { (kept self.old).is_open ≡ true }
-        ensures { Makes result (tables.line_taken registrar line (kept self.old).content) (kept self.old) (kept self.new) };
+        ensures { MakesOf result (tables.line_taken registrar line)
+            (kept self.old) (kept self.new) };
 
     /// Puts a message into a registrar's queue. What was never opened is opened.
     fn put_message(&mut self, registrar: RegistrarNo, message: Message) -> Result<(), BookFault>
         requires { (kept self.old).is_open ≡ true }
-        ensures { Makes result (tables.message_put registrar message (kept self.old).content) (kept self.old) (kept self.new) };
+        ensures { MakesOf result (tables.message_put registrar message)
+            (kept self.old) (kept self.new) };
 
     /// Takes a message out of a registrar's queue, if it is there.
     fn take_message(&mut self, registrar: RegistrarNo, message: Message) -> Result<(), BookFault>
         requires { (kept self.old).is_open ≡ true }
-        ensures { Makes result (tables.message_taken registrar message (kept self.old).content) (kept self.old) (kept self.new) };
+        ensures { MakesOf result (tables.message_taken registrar message)
+            (kept self.old) (kept self.new) };
 
     /// The contact is under this name.
     fn put_contact(&mut self, name: Text, contact: Contact) -> Result<(), BookFault>
         requires { (kept self.old).is_open ≡ true }
-        ensures { Makes result (tables.contact_put name (Some contact) (kept self.old).content) (kept self.old) (kept self.new) };
+        ensures { MakesOf result (tables.contact_put name (Some contact))
+            (kept self.old) (kept self.new) };
 
     fn drop_contact(&mut self, name: Text) -> Result<(), BookFault>
         requires { (kept self.old).is_open ≡ true }
-        ensures { Makes result (tables.contact_put name None (kept self.old).content) (kept self.old) (kept self.new) };
+        ensures { MakesOf result (tables.contact_put name None) (kept self.old) (kept self.new) };
 
     /// The domain is under this name.
     fn put_domain(&mut self, name: Text, domain: Domain, policy: &Policy) -> Result<(), BookFault>
         requires { (kept self.old).is_open ≡ true }
-        ensures { Makes result (tables.domain_put name (Some domain) (kept self.old).content) (kept self.old) (kept self.new) };
+        ensures { MakesOf result (tables.domain_put name (Some domain))
+            (kept self.old) (kept self.new) };
 
     /// No domain is under this name.
     fn drop_domain(&mut self, name: Text, policy: &Policy) -> Result<(), BookFault>
         requires { (kept self.old).is_open ≡ true }
-        ensures { Makes result (tables.domain_put name None (kept self.old).content) (kept self.old) (kept self.new) };
+        ensures { MakesOf result (tables.domain_put name None) (kept self.old) (kept self.new) };
 
     /// The host is under its name.
     fn put_host(&mut self, host: Host) -> Result<(), BookFault>
         requires { (kept self.old).is_open ≡ true }
-        ensures { Makes result (tables.host_put host.name (Some host) (kept self.old).content) (kept self.old) (kept self.new) };
+        ensures { MakesOf result (tables.host_put host.name (Some host))
+            (kept self.old) (kept self.new) };
 
     fn drop_host(&mut self, name: Text) -> Result<(), BookFault>
         requires { (kept self.old).is_open ≡ true }
-        ensures { Makes result (tables.host_put name None (kept self.old).content) (kept self.old) (kept self.new) };
+        ensures { MakesOf result (tables.host_put name None) (kept self.old) (kept self.new) };
 
     /// A host goes from one name to that of its own, and each domain that named it names it by that. Where there is
     /// no host of the one name, or one of the other, nothing is changed.
     fn rename_host(&mut self, from: Text, host: Host, policy: &Policy) -> Result<(), BookFault>
         requires { (kept self.old).is_open ≡ true }
-        ensures { Makes result (tables.host_renamed from host (kept self.old).content) (kept self.old) (kept self.new) };
+        ensures { MakesOf result (tables.host_renamed from host) (kept self.old) (kept self.new) };
 
     // ---- transactions
 
