@@ -1,7 +1,6 @@
 pub mod RowLemmas
 mod ActionLemmas
-mod FirstCauseLemmas
-mod LaterCauseLemmas
+mod CauseLemmas
 mod BreachLemmas
 pub mod LawLemmas
 pub mod RenewalLemmas
