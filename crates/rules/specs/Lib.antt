@@ -10,3 +10,4 @@ pub mod ResponseData
 pub mod Verdicts
 pub mod Orders
 pub mod Laws
+pub mod inner
