@@ -3,4 +3,5 @@ mod ActionLemmas
 mod CauseLemmas
 mod BreachLemmas
 pub mod LawLemmas
+mod OrderLemmas
 pub mod RenewalLemmas

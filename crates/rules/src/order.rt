@@ -2,6 +2,7 @@
 ghost use Rattle.std.specs.Prelude.{◌≡◌};
 ghost use Rattle.std.specs.Option.{option_copied};
 ghost use Rattle.rules.specs.Causes.{cause_of_order};
+ghost use Rattle.rules.specs.OrderLaws.{AnswersOrderLawfully};
 ghost use Rattle.rules.specs.Orders as spec;
 ghost use Rattle.rules.specs.inner.Cases as words;
 
@@ -64,8 +65,15 @@ pub const STATUS_ORDER: &[OrderCondition] = &[
 ];
 
 /// What an order is answered, by the object that it names.
-#[tactic(auto, unfolding(crate::specs::Refusals::first_refusal, crate::specs::Orders::order_code))]
 pub fn judge_order(order: &StatusOrder, object: Option<&Object>) -> Code
+    ensures code { result ≡ spec.order_code order.now (option_copied object.entry) }
+    ensures laws { AnswersOrderLawfully order.now (option_copied object.entry) result }
+{
+    code_on(order, object)
+}
+
+#[tactic(auto, unfolding(crate::specs::Refusals::first_refusal, crate::specs::Orders::order_code))]
+fn code_on(order: &StatusOrder, object: Option<&Object>) -> Code
     ensures { result ≡ spec.order_code order.now (option_copied object.entry) }
 {
     match find_refusal(order, object) {
