@@ -19,7 +19,7 @@ use Rattle.protocol.specs.declared.code.Code.{Code}
 use Rattle.protocol.specs.declared.command.Action.TheVariants as actions
 use Rattle.protocol.specs.declared.command.Command.TheVariants.{Bad, Asked}
 use Rattle.protocol.specs.declared.command.Command.{Command}
-use Rattle.protocol.specs.declared.command.Request.TheVariants.{DeleteDomain, ReportRestore, TransferContact, TransferDomain, PollRequest}
+use Rattle.protocol.specs.declared.command.Request.TheVariants.{DeleteDomain, TransferContact, TransferDomain, PollRequest}
 use Rattle.protocol.specs.declared.command.Request.{Request}
 use Rattle.protocol.specs.declared.transfer.TransferOp.TheVariants as ops
 use Rattle.protocol.specs.declared.transfer.TransferOp.{TransferOp}

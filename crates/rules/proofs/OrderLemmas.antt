@@ -1,21 +1,15 @@
 -- The laws that the answer to an order keeps.
 use Rattle.std.proofs.Common.{◌≡◌, Bool, true, false, inl, inr, Option, Some, None, option_map, unwrap_or, find, refl, sym, ◌∙◌, ◌<◌, ◌&&◌, ◌||◌, is_none, is_some, subst}
-use Rattle.std.proofs.lemmas.Bool.{false_from_ne_true}
 use Rattle.model.specs.declared.object.Object.{Object}
 use Rattle.model.specs.declared.object.Object.TheVariants as objects
 use Rattle.model.specs.Objects.{statuses_of}
-use Rattle.objects.specs.declared.domain.Domain.{Domain}
-use Rattle.objects.specs.declared.contact.Contact.{Contact}
-use Rattle.objects.specs.declared.status.Status.TheVariants.{ServerDeleteProhibited, ServerTransferProhibited}
-use Rattle.objects.specs.Statuses.{has_status}
-use Rattle.objects.specs.Transfers.{is_pending}
 use Rattle.protocol.specs.declared.code.Code.{Code}
 use Rattle.protocol.specs.declared.code.Code.TheVariants as codes
 use Rattle.protocol.specs.declared.order.StatusOrder.{StatusOrder}
 use Rattle.protocol.specs.Requests.{holds_of}
 use Rattle.rules.specs.Causes.{cause_of_order}
 use Rattle.rules.specs.Conditions.{any_set, any_unset}
-use Rattle.rules.specs.OrderLaws.{AnswersOrderLawfully, FitsWhatPends, KeepsOrder, KeepsOrderLaws, ObjectIsThere, StatusesFit}
+use Rattle.rules.specs.OrderLaws.{AnswersOrderLawfully, FitsWhatPends, KeepsOrder, KeepsOrderLaws}
 use Rattle.rules.specs.Orders.{contradicts_pending_state, order_code, order_holds}
 use Rattle.rules.specs.Refusals.{code_of, first_refusal, place_of}
 use Rattle.rules.specs.declared.order.OrderCondition.{OrderCondition}
