@@ -4,3 +4,4 @@ pub mod Copies
 pub mod Lines
 pub mod Stored
 pub mod Texts
+pub mod Tables

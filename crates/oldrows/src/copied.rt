@@ -1,8 +1,8 @@
 //! The rows of each table, as they are copied.
-ghost use Rattle.std.specs.Prelude.{◌≡◌, ℤ, true, List, map, refl, IfOk};
+ghost use Rattle.std.specs.Prelude.{◌≡◌, true, map, IfOk};
 ghost use Rattle.sqlite_keyed.specs.Keyed.{insert_by};
-ghost use Rattle.sqltables.specs.Content.{Content};
 ghost use Rattle.oldrows.specs.inner.Stored.{Finds};
+ghost use Rattle.oldrows.specs.inner.Tables.{Table};
 ghost use Rattle.states.specs.States.{Makes};
 ghost use Rattle.oldrows.specs.Copies.{renumbered};
 
@@ -44,35 +44,23 @@ const TRANSFERS: &str =
 
 /// A row of a table that is copied as it is, with its number.
 pub trait Copied: Record {
-    ghost key: { Self → ℤ };
-
-    ghost rows_of: { Content → List Self };
-
-    ghost rows_to: { (List Self → List Self) → Content → Content };
+    ghost table: { Table Self };
 
     /// All rows of the table, by their numbers. A line has no end of its grace.
     fn all<S: Alter>(from: &mut OldRows<S>) -> Result<Seq<Self>, BookFault>
-        ensures { Finds result (rows_of from.old.content) from.old from.new };
+        ensures { Finds result (table.rows_of from.old.content) from.old from.new };
 
     /// Puts the row in the place of the one with its number, or beside all others.
     fn put<S: Alter>(&self, store: &mut RowStore<S>) -> Result<(), BookFault>
         requires { store.old.is_open ≡ true }
-        ensures { Makes result (rows_to (λ xs. insert_by key xs self.now) store.old.content) store.old store.new };
-
-    ghost together: { (f g : List Self → List Self) (c : Content) → rows_to g (rows_to f c) ≡ rows_to (λ xs. g (f xs)) c };
-
-    ghost none: { (c : Content) → rows_to (λ xs. xs) c ≡ c };
+        ensures { Makes result (table.rows_to (λ xs. insert_by table.key xs self.now)
+            store.old.content) store.old store.new };
 }
 
 impl Copied for AccountRow {
-    ghost use Rattle.sqltables.specs.inner.Content.{accounts_to};
-    ghost use Rattle.sqltables.specs.Account.{accounts};
+    ghost use Rattle.oldrows.specs.inner.Tables.{account_table};
 
-    ghost key = { accounts.key };
-
-    ghost rows_of = { λ c. c.accounts };
-
-    ghost rows_to = { accounts_to };
+    ghost table = { account_table };
 
     fn all<S: Alter>(from: &mut OldRows<S>) -> Result<Seq<AccountRow>, BookFault> {
         from.select(ACCOUNTS)
@@ -81,21 +69,12 @@ impl Copied for AccountRow {
     fn put<S: Alter>(&self, store: &mut RowStore<S>) -> Result<(), BookFault> {
         store.put_account(self)
     }
-
-    ghost together = { λ f g c. refl };
-
-    ghost none = { λ c. refl };
 }
 
 impl Copied for ContactRow {
-    ghost use Rattle.sqltables.specs.inner.Content.{contacts_to};
-    ghost use Rattle.sqltables.specs.Contact.{contacts};
+    ghost use Rattle.oldrows.specs.inner.Tables.{contact_table};
 
-    ghost key = { contacts.key };
-
-    ghost rows_of = { λ c. c.contacts };
-
-    ghost rows_to = { contacts_to };
+    ghost table = { contact_table };
 
     fn all<S: Alter>(from: &mut OldRows<S>) -> Result<Seq<ContactRow>, BookFault> {
         from.select(CONTACTS)
@@ -104,21 +83,12 @@ impl Copied for ContactRow {
     fn put<S: Alter>(&self, store: &mut RowStore<S>) -> Result<(), BookFault> {
         store.put_contact(self)
     }
-
-    ghost together = { λ f g c. refl };
-
-    ghost none = { λ c. refl };
 }
 
 impl Copied for DomainRow {
-    ghost use Rattle.sqltables.specs.inner.Content.{domains_to};
-    ghost use Rattle.sqltables.specs.inner.Domain.{domains};
+    ghost use Rattle.oldrows.specs.inner.Tables.{domain_table};
 
-    ghost key = { domains.key };
-
-    ghost rows_of = { λ c. c.domains };
-
-    ghost rows_to = { domains_to };
+    ghost table = { domain_table };
 
     fn all<S: Alter>(from: &mut OldRows<S>) -> Result<Seq<DomainRow>, BookFault> {
         from.select(DOMAINS)
@@ -127,21 +97,12 @@ impl Copied for DomainRow {
     fn put<S: Alter>(&self, store: &mut RowStore<S>) -> Result<(), BookFault> {
         store.put_domain(self)
     }
-
-    ghost together = { λ f g c. refl };
-
-    ghost none = { λ c. refl };
 }
 
 impl Copied for HostRow {
-    ghost use Rattle.sqltables.specs.inner.Content.{hosts_to};
-    ghost use Rattle.sqltables.specs.Host.{hosts};
+    ghost use Rattle.oldrows.specs.inner.Tables.{host_table};
 
-    ghost key = { hosts.key };
-
-    ghost rows_of = { λ c. c.hosts };
-
-    ghost rows_to = { hosts_to };
+    ghost table = { host_table };
 
     fn all<S: Alter>(from: &mut OldRows<S>) -> Result<Seq<HostRow>, BookFault> {
         from.select(HOSTS)
@@ -150,21 +111,12 @@ impl Copied for HostRow {
     fn put<S: Alter>(&self, store: &mut RowStore<S>) -> Result<(), BookFault> {
         store.put_host(self)
     }
-
-    ghost together = { λ f g c. refl };
-
-    ghost none = { λ c. refl };
 }
 
 impl Copied for AddressRow {
-    ghost use Rattle.sqltables.specs.inner.Content.{addresses_to};
-    ghost use Rattle.sqltables.specs.Address.{addresses};
+    ghost use Rattle.oldrows.specs.inner.Tables.{address_table};
 
-    ghost key = { addresses.key };
-
-    ghost rows_of = { λ c. c.addresses };
-
-    ghost rows_to = { addresses_to };
+    ghost table = { address_table };
 
     fn all<S: Alter>(from: &mut OldRows<S>) -> Result<Seq<AddressRow>, BookFault> {
         from.select(ADDRESSES)
@@ -173,21 +125,12 @@ impl Copied for AddressRow {
     fn put<S: Alter>(&self, store: &mut RowStore<S>) -> Result<(), BookFault> {
         store.put_address(self)
     }
-
-    ghost together = { λ f g c. refl };
-
-    ghost none = { λ c. refl };
 }
 
 impl Copied for LinkRow {
-    ghost use Rattle.sqltables.specs.inner.Content.{links_to};
-    ghost use Rattle.sqltables.specs.Link.{links};
+    ghost use Rattle.oldrows.specs.inner.Tables.{link_table};
 
-    ghost key = { links.key };
-
-    ghost rows_of = { λ c. c.links };
-
-    ghost rows_to = { links_to };
+    ghost table = { link_table };
 
     fn all<S: Alter>(from: &mut OldRows<S>) -> Result<Seq<LinkRow>, BookFault> {
         from.select(LINKS)
@@ -196,21 +139,12 @@ impl Copied for LinkRow {
     fn put<S: Alter>(&self, store: &mut RowStore<S>) -> Result<(), BookFault> {
         store.put_link(self)
     }
-
-    ghost together = { λ f g c. refl };
-
-    ghost none = { λ c. refl };
 }
 
 impl Copied for LineRow {
-    ghost use Rattle.sqltables.specs.inner.Content.{lines_to};
-    ghost use Rattle.sqltables.specs.Line.{lines};
+    ghost use Rattle.oldrows.specs.inner.Tables.{line_table};
 
-    ghost key = { lines.key };
-
-    ghost rows_of = { λ c. c.lines };
-
-    ghost rows_to = { lines_to };
+    ghost table = { line_table };
 
     fn all<S: Alter>(from: &mut OldRows<S>) -> Result<Seq<LineRow>, BookFault> {
         from.select(LINES)
@@ -219,21 +153,12 @@ impl Copied for LineRow {
     fn put<S: Alter>(&self, store: &mut RowStore<S>) -> Result<(), BookFault> {
         store.put_line(self)
     }
-
-    ghost together = { λ f g c. refl };
-
-    ghost none = { λ c. refl };
 }
 
 impl Copied for MessageRow {
-    ghost use Rattle.sqltables.specs.inner.Content.{messages_to};
-    ghost use Rattle.sqltables.specs.inner.Message.{messages};
+    ghost use Rattle.oldrows.specs.inner.Tables.{message_table};
 
-    ghost key = { messages.key };
-
-    ghost rows_of = { λ c. c.messages };
-
-    ghost rows_to = { messages_to };
+    ghost table = { message_table };
 
     fn all<S: Alter>(from: &mut OldRows<S>) -> Result<Seq<MessageRow>, BookFault> {
         from.select(MESSAGES)
@@ -242,21 +167,12 @@ impl Copied for MessageRow {
     fn put<S: Alter>(&self, store: &mut RowStore<S>) -> Result<(), BookFault> {
         store.put_message(self)
     }
-
-    ghost together = { λ f g c. refl };
-
-    ghost none = { λ c. refl };
 }
 
 impl Copied for TransferRow {
-    ghost use Rattle.sqltables.specs.inner.Content.{transfers_to};
-    ghost use Rattle.sqltables.specs.Transfer.{transfers};
+    ghost use Rattle.oldrows.specs.inner.Tables.{transfer_table};
 
-    ghost key = { transfers.key };
-
-    ghost rows_of = { λ c. c.transfers };
-
-    ghost rows_to = { transfers_to };
+    ghost table = { transfer_table };
 
     fn all<S: Alter>(from: &mut OldRows<S>) -> Result<Seq<TransferRow>, BookFault> {
         from.select(TRANSFERS)
@@ -265,23 +181,12 @@ impl Copied for TransferRow {
     fn put<S: Alter>(&self, store: &mut RowStore<S>) -> Result<(), BookFault> {
         store.put_transfer(self)
     }
-
-    ghost together = { λ f g c. refl };
-
-    ghost none = { λ c. refl };
 }
 
 impl Copied for MetaRow {
-    ghost use Rattle.std.specs.Prelude.{map};
-    ghost use Rattle.sqltables.specs.inner.Content.{metas_to};
-    ghost use Rattle.sqltables.specs.Meta.{metas};
-    ghost use Rattle.oldrows.specs.Copies.{renumbered};
+    ghost use Rattle.oldrows.specs.inner.Tables.{meta_table};
 
-    ghost key = { metas.key };
-
-    ghost rows_of = { λ c. map renumbered c.metas };
-
-    ghost rows_to = { metas_to };
+    ghost table = { meta_table };
 
     fn all<S: Alter>(from: &mut OldRows<S>) -> Result<Seq<MetaRow>, BookFault> {
         let rows = from.metas()?;
@@ -291,10 +196,6 @@ impl Copied for MetaRow {
     fn put<S: Alter>(&self, store: &mut RowStore<S>) -> Result<(), BookFault> {
         store.put_meta(self)
     }
-
-    ghost together = { λ f g c. refl };
-
-    ghost none = { λ c. refl };
 }
 
 /// The row with the number of today's schema, if there is one; more are refused.

@@ -1,6 +1,6 @@
 //! Rows, copied into the same tables of today.
 ghost use Rattle.std.specs.Prelude.{◌≡◌, true};
-ghost use Rattle.oldrows.specs.inner.Copies.{Copies, put_all, put_of, put_of_all};
+ghost use Rattle.oldrows.specs.inner.Copies.{Copies, put_all, put_from, put_of, put_of_all};
 ghost use Rattle.states.specs.States.{Makes};
 
 use crate::copied::Copied;
@@ -33,8 +33,7 @@ fn copy<R: Copied, S: Alter, T: Alter>(
     to: &mut RowStore<T>,
 ) -> Result<(), BookFault>
     requires { to.old.is_open ≡ true }
-    ensures { Copies result (λ c. R.rows_to (put_all R.key (R.rows_of c))) from.old from.new to.old
-        to.new }
+    ensures { Copies result (put_from R.table) from.old from.new to.old to.new }
 {
     let rows = R::all(from)?;
     put_all(to, rows.as_slice())
@@ -43,7 +42,8 @@ fn copy<R: Copied, S: Alter, T: Alter>(
 /// Puts rows, each in the place of the one with its number, or beside all others.
 pub fn put_all<R: Copied, T: Alter>(to: &mut RowStore<T>, rows: &[R]) -> Result<(), BookFault>
     requires { to.old.is_open ≡ true }
-    ensures { Makes result (R.rows_to (put_all R.key rows.now) to.old.content) to.old to.new }
+    ensures { Makes result (R.table.rows_to (put_all R.table.key rows.now) to.old.content) to.old
+        to.new }
 {
     for row in rows {
         row.put(to)?;

@@ -19,7 +19,7 @@ use Rattle.protocol.specs.declared.code.Code.{Code}
 use Rattle.protocol.specs.declared.command.Action.TheVariants as actions
 use Rattle.protocol.specs.declared.command.Command.TheVariants.{Bad, Asked}
 use Rattle.protocol.specs.declared.command.Command.{Command}
-use Rattle.protocol.specs.declared.command.Request.TheVariants.{DeleteDomain, ReportRestore, TransferContact, TransferDomain, PollRequest}
+use Rattle.protocol.specs.declared.command.Request.TheVariants.{DeleteDomain, TransferContact, TransferDomain, PollRequest}
 use Rattle.protocol.specs.declared.command.Request.{Request}
 use Rattle.protocol.specs.declared.transfer.TransferOp.TheVariants as ops
 use Rattle.protocol.specs.declared.transfer.TransferOp.{TransferOp}
@@ -37,10 +37,9 @@ use Rattle.rules.specs.declared.refusal.Cause.TheVariants.{NamesRefused, Exists,
 use Rattle.rules.specs.declared.refusal.Cause.{Cause}
 use Rattle.rules.specs.declared.rules.Condition.{Condition}
 use Rattle.rules.specs.declared.verdict.Verdict.{Verdict}
-use Rattle.rules.proofs.ActionLemmas.{no-other}
+use Rattle.rules.proofs.ActionLemmas.{of-action}
 use Rattle.rules.proofs.BreachLemmas.{breaks}
-use Rattle.rules.proofs.FirstCauseLemmas.{names-kept, nothing-exists, nothing-missing, entitled, secret-right, no-transfer, transfer-there}
-use Rattle.rules.proofs.LaterCauseLemmas.{no-status, no-association, renewable, transferable, parameters-fit, holds-no-more, paid}
+use Rattle.rules.proofs.CauseLemmas.{names-kept, nothing-exists, nothing-missing, entitled, secret-right, no-transfer, transfer-there, no-status, no-association, renewable, transferable, parameters-fit, holds-no-more, paid}
 use Rattle.rules.proofs.RowLemmas.{Clear, StandsIn, clear-of-none, clear-before, found, never-accepted}
 
 -- ---- what is granted is accepted
@@ -88,10 +87,9 @@ needed-law t (Some (Public face)) d e = absurd cc
 needed-law t None d e = absurd cc
 
 turns-law : (t : ℕ) (f : Facts) (q : Request) → (asks_of q).action ≡ actions.ReportRestore → (d : Domain) → full_domain q f ≡ Some d → AreTurns d t (years_charged t q f)
-turns-law t f (ReportRestore name del_time res_time) is d e = needed-law t (domain_seen f (name_of name)) d e
-turns-law t f (TransferContact name op secret) is d e = absurd (no-other op actions.ReportRestore is)
-turns-law t f (TransferDomain name op secret) is d e = absurd (no-other op actions.ReportRestore is)
-turns-law t f _ is d e = absurd (cc)
+turns-law t f =
+    of-action (λ (q : Request). (d : Domain) → full_domain q f ≡ Some d → AreTurns d t (years_charged t q f)) actions.ReportRestore
+    (λ name del_time res_time. needed-law t (domain_seen f (name_of name)))
 
 -- ---- the laws of a verdict
 

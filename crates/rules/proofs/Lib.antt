@@ -1,7 +1,7 @@
 pub mod RowLemmas
 mod ActionLemmas
-mod FirstCauseLemmas
-mod LaterCauseLemmas
+mod CauseLemmas
 mod BreachLemmas
 pub mod LawLemmas
+mod OrderLemmas
 pub mod RenewalLemmas

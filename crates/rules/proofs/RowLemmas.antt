@@ -28,7 +28,7 @@ Clear p r t q f cause = (condition : Condition) → StandsIn (table_of q) condit
 
 -- ---- where no row holds
 
-unfound : {C : Type 0} (test : C → Bool) (table : List C) → find test table ≡ None → (condition : C) → StandsIn table condition → test condition ≡ false
+pub unfound : {C : Type 0} (test : C → Bool) (table : List C) → find test table ≡ None → (condition : C) → StandsIn table condition → test condition ≡ false
 unfound test [] none condition stands = absurd stands
 unfound {C} test (first ∷ rest) none condition stands = by (test first) refl none stands (λ none further. unfound test rest none condition further)
   where
@@ -67,7 +67,7 @@ placed cause place [] e condition stands = absurd stands
 placed {C} cause place (first ∷ rest) e condition (inl same) = subst (λ (x : C). place ≤ place_of (cause x)) same (leb-true place (place_of (cause first)) (and_parts _ _ e).0)
 placed cause place (first ∷ rest) e condition (inr further) = le_trans (leb-true place (place_of (cause first)) (and_parts _ _ e).0) (placed cause (place_of (cause first)) rest (and_parts _ _ e).1 condition further)
 
-earlier : {C : Type 0} (cause : C → Cause) (test : C → Bool) (place : ℕ) (table : List C) (condition : C) → in_order_from cause place table ≡ true → find test table ≡ Some condition
+pub earlier : {C : Type 0} (cause : C → Cause) (test : C → Bool) (place : ℕ) (table : List C) (condition : C) → in_order_from cause place table ≡ true → find test table ≡ Some condition
     → (row : C) → StandsIn table row → place_of (cause row) < place_of (cause condition) → test row ≡ false
 earlier cause test place [] condition ordered e row stands less = absurd stands
 earlier {C} cause test place (first ∷ rest) condition ordered e row stands less =

@@ -10,3 +10,5 @@ pub mod ResponseData
 pub mod Verdicts
 pub mod Orders
 pub mod Laws
+pub mod OrderLaws
+pub mod inner

@@ -1,9 +1,9 @@
 //! The conditions on the names and lists of a command, and on what they would make of its object.
 ghost use Rattle.std.specs.Prelude.{◌≡◌};
 ghost use Rattle.std.specs.List.{list_any};
-ghost use Rattle.std.specs.Option.{option_copied};
-ghost use Rattle.protocol.specs.Requests.{holds_of, lists_of};
+ghost use Rattle.protocol.specs.Requests.{lists_of};
 ghost use Rattle.rules.specs.Conditions as spec;
+ghost use Rattle.rules.specs.inner.Cases.{is_met};
 
 use crate::conditions::{any_set, any_unset};
 use facts::{adds_what_is_there, has_status_twice, has_twice, is_over, removes_what_is_not};
@@ -136,8 +136,7 @@ fn the_host_is_over(removed: Lists<'_>, added: Lists<'_>, host: &Host) -> bool
 
 /// Whether there is a contact that has a status of the lists.
 pub(crate) fn contact_has(lists: Lists<'_>, contact: Option<&Contact>) -> bool
-    ensures { result ≡ holds_of (spec.contact_has (lists_of lists.entry))
-        (option_copied contact.entry) }
+    ensures { result ≡ is_met (spec.contact_has (lists_of lists.entry)) contact.entry }
 {
     match contact {
         None => false,
@@ -147,8 +146,7 @@ pub(crate) fn contact_has(lists: Lists<'_>, contact: Option<&Contact>) -> bool
 
 /// Whether there is a contact that hasn't a status of the lists.
 pub(crate) fn contact_lacks(lists: Lists<'_>, contact: Option<&Contact>) -> bool
-    ensures { result ≡ holds_of (spec.contact_lacks (lists_of lists.entry))
-        (option_copied contact.entry) }
+    ensures { result ≡ is_met (spec.contact_lacks (lists_of lists.entry)) contact.entry }
 {
     match contact {
         None => false,
@@ -158,8 +156,7 @@ pub(crate) fn contact_lacks(lists: Lists<'_>, contact: Option<&Contact>) -> bool
 
 /// Whether there is a domain that has something of the lists.
 pub(crate) fn domain_has(lists: Lists<'_>, domain: Option<&Domain>) -> bool
-    ensures { result ≡ holds_of (spec.domain_has (lists_of lists.entry))
-        (option_copied domain.entry) }
+    ensures { result ≡ is_met (spec.domain_has (lists_of lists.entry)) domain.entry }
 {
     match domain {
         None => false,
@@ -169,7 +166,7 @@ pub(crate) fn domain_has(lists: Lists<'_>, domain: Option<&Domain>) -> bool
 
 /// Whether there is a host that has something of the lists.
 pub(crate) fn host_has(lists: Lists<'_>, host: Option<&Host>) -> bool
-    ensures { result ≡ holds_of (spec.host_has (lists_of lists.entry)) (option_copied host.entry) }
+    ensures { result ≡ is_met (spec.host_has (lists_of lists.entry)) host.entry }
 {
     match host {
         None => false,
@@ -179,8 +176,7 @@ pub(crate) fn host_has(lists: Lists<'_>, host: Option<&Host>) -> bool
 
 /// Whether there is a domain that hasn't something of the lists.
 pub(crate) fn domain_lacks(lists: Lists<'_>, domain: Option<&Domain>) -> bool
-    ensures { result ≡ holds_of (spec.domain_lacks (lists_of lists.entry))
-        (option_copied domain.entry) }
+    ensures { result ≡ is_met (spec.domain_lacks (lists_of lists.entry)) domain.entry }
 {
     match domain {
         None => false,
@@ -190,8 +186,7 @@ pub(crate) fn domain_lacks(lists: Lists<'_>, domain: Option<&Domain>) -> bool
 
 /// Whether there is a host that hasn't something of the lists.
 pub(crate) fn host_lacks(lists: Lists<'_>, host: Option<&Host>) -> bool
-    ensures { result ≡ holds_of (spec.host_lacks (lists_of lists.entry))
-        (option_copied host.entry) }
+    ensures { result ≡ is_met (spec.host_lacks (lists_of lists.entry)) host.entry }
 {
     match host {
         None => false,
@@ -201,9 +196,8 @@ pub(crate) fn host_lacks(lists: Lists<'_>, host: Option<&Host>) -> bool
 
 /// Whether there is a domain that has more than a list's limit afterwards.
 pub(crate) fn domain_is_over(removed: Lists<'_>, added: Lists<'_>, domain: Option<&Domain>) -> bool
-    ensures { result
-        ≡ holds_of (spec.domain_is_over (lists_of removed.entry) (lists_of added.entry))
-        (option_copied domain.entry) }
+    ensures { result ≡ is_met (spec.domain_is_over (lists_of removed.entry) (lists_of added.entry))
+        domain.entry }
 {
     match domain {
         None => false,
@@ -213,8 +207,8 @@ pub(crate) fn domain_is_over(removed: Lists<'_>, added: Lists<'_>, domain: Optio
 
 /// Whether there is a host that has more than a list's limit afterwards.
 pub(crate) fn host_is_over(removed: Lists<'_>, added: Lists<'_>, host: Option<&Host>) -> bool
-    ensures { result ≡ holds_of (spec.host_is_over (lists_of removed.entry) (lists_of added.entry))
-        (option_copied host.entry) }
+    ensures { result ≡ is_met (spec.host_is_over (lists_of removed.entry) (lists_of added.entry))
+        host.entry }
 {
     match host {
         None => false,

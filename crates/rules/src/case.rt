@@ -1,11 +1,10 @@
 //! A command beside the facts that bear on it, and the conditions that hold of the two.
 ghost use Rattle.std.specs.Prelude.{◌≡◌, find, option_and_then};
-ghost use Rattle.std.specs.List.{slice_get};
 ghost use Rattle.std.specs.Option.{option_copied};
-ghost use Rattle.facts.specs.Facts as facts_spec;
 ghost use Rattle.protocol.specs.Requests as requests;
 ghost use Rattle.rules.specs.Conditions as spec;
-ghost use Rattle.rules.specs.Rules.{refusal_of};
+ghost use Rattle.rules.specs.inner.Cases as words;
+ghost use Rattle.rules.specs.inner.Cases.{holds_in, in_case, of_caller, refusal_in};
 
 use crate::amended::{
     any_domain_refused, any_host_refused, are_too_long, contact_has, contact_lacks, domain_has,
@@ -65,8 +64,7 @@ pub(crate) fn full_domain(seen: Option<&Seen<FullDomain, DomainFace>>) -> Option
 
 impl<'a> Case<'a> {
     fn contact_known(&self) -> Option<&'a ContactFacts>
-        ensures { option_copied result ≡ option_and_then (facts_spec.contact_at self.now.facts.now)
-            (slice_get (requests.contacts_asked self.now.request.now) 0) }
+        ensures { option_copied result ≡ in_case words.contact_known self.now }
     {
         match self.request.contacts().first() {
             None => None,
@@ -75,7 +73,7 @@ impl<'a> Case<'a> {
     }
 
     pub(crate) fn contact(&self) -> Option<&'a Seen<Contact, ContactFace>>
-        ensures { option_copied result ≡ spec.the_contact self.now.request.now self.now.facts.now }
+        ensures { option_copied result ≡ in_case spec.the_contact self.now }
     {
         match self.request.contacts().first() {
             None => None,
@@ -84,7 +82,7 @@ impl<'a> Case<'a> {
     }
 
     fn domain_known(&self) -> Option<&'a DomainFacts>
-        ensures { option_copied result ≡ spec.domain_known self.now.request.now self.now.facts.now }
+        ensures { option_copied result ≡ in_case spec.domain_known self.now }
     {
         match self.request.domains().first() {
             None => None,
@@ -93,7 +91,7 @@ impl<'a> Case<'a> {
     }
 
     pub(crate) fn domain(&self) -> Option<&'a Seen<FullDomain, DomainFace>>
-        ensures { option_copied result ≡ spec.the_domain self.now.request.now self.now.facts.now }
+        ensures { option_copied result ≡ in_case spec.the_domain self.now }
     {
         match self.request.domains().first() {
             None => None,
@@ -102,7 +100,7 @@ impl<'a> Case<'a> {
     }
 
     fn host_known(&self) -> Option<&'a HostFacts>
-        ensures { option_copied result ≡ spec.host_known self.now.request.now self.now.facts.now }
+        ensures { option_copied result ≡ in_case spec.host_known self.now }
     {
         match self.request.hosts().first() {
             None => None,
@@ -111,7 +109,7 @@ impl<'a> Case<'a> {
     }
 
     fn host(&self) -> Option<&'a Host>
-        ensures { option_copied result ≡ spec.the_host self.now.request.now self.now.facts.now }
+        ensures { option_copied result ≡ in_case spec.the_host self.now }
     {
         match self.host_known() {
             None => None,
@@ -120,13 +118,13 @@ impl<'a> Case<'a> {
     }
 
     fn is_there(&self) -> bool
-        ensures { result ≡ spec.is_there self.now.request.now self.now.facts.now }
+        ensures { result ≡ in_case spec.is_there self.now }
     {
         self.contact().is_some() || self.domain().is_some() || self.host().is_some()
     }
 
     fn host_to_be(&self) -> Option<&'a HostFacts>
-        ensures { option_copied result ≡ spec.host_to_be self.now.request.now self.now.facts.now }
+        ensures { option_copied result ≡ in_case spec.host_to_be self.now }
     {
         match self.request.action() {
             Action::Create => self.host_known(),
@@ -175,7 +173,7 @@ impl Case<'_> {
     }
 
     fn shows(&self, status: Status) -> bool
-        ensures { result ≡ spec.shows_status status self.now.request.now self.now.facts.now }
+        ensures { result ≡ in_case (spec.shows_status status) self.now }
     {
         is_shown(status, self.contact())
             || is_shown(status, self.domain())
@@ -183,14 +181,13 @@ impl Case<'_> {
     }
 
     fn still_shows(&self, status: Status) -> bool
-        ensures { result ≡ spec.still_shows status self.now.request.now self.now.facts.now }
+        ensures { result ≡ in_case (spec.still_shows status) self.now }
     {
         self.shows(status) && !has_status(self.request.removed().statuses, status)
     }
 
     fn is_of_another(&self) -> bool
-        ensures { result ≡ spec.is_of_another self.now.policy.now.zone self.now.caller
-            self.now.request.now self.now.facts.now }
+        ensures { result ≡ of_caller (spec.is_of_another self.now.policy.now.zone) self.now }
     {
         is_anothers(self.caller, self.contact())
             || is_anothers(self.caller, self.domain())
@@ -198,15 +195,14 @@ impl Case<'_> {
     }
 
     fn secret_is_wrong(&self) -> bool
-        ensures { result ≡ spec.secret_is_wrong self.now.caller self.now.request.now
-            self.now.facts.now }
+        ensures { result ≡ of_caller spec.secret_is_wrong self.now }
     {
         presents_wrong(self.caller, self.request.secret(), self.contact())
             || presents_wrong(self.caller, self.request.secret(), self.domain())
     }
 
     fn contact_is_linked(&self) -> bool
-        ensures { result ≡ spec.contact_is_linked self.now.request.now self.now.facts.now }
+        ensures { result ≡ in_case spec.contact_is_linked self.now }
     {
         match self.contact_known() {
             None => false,
@@ -215,7 +211,7 @@ impl Case<'_> {
     }
 
     fn host_is_linked(&self) -> bool
-        ensures { result ≡ spec.host_is_linked self.now.request.now self.now.facts.now }
+        ensures { result ≡ in_case spec.host_is_linked self.now }
     {
         match self.host_known() {
             None => false,
@@ -224,7 +220,7 @@ impl Case<'_> {
     }
 
     fn has_subordinates(&self) -> bool
-        ensures { result ≡ spec.has_subordinates self.now.request.now self.now.facts.now }
+        ensures { result ≡ in_case spec.has_subordinates self.now }
     {
         match self.domain_known() {
             None => false,
@@ -233,7 +229,7 @@ impl Case<'_> {
     }
 
     fn adds_known(&self) -> bool
-        ensures { result ≡ spec.adds_known self.now.request.now self.now.facts.now }
+        ensures { result ≡ in_case spec.adds_known self.now }
     {
         let added = self.request.added();
         contact_has(added, full(self.contact()))
@@ -242,7 +238,7 @@ impl Case<'_> {
     }
 
     fn removes_unknown(&self) -> bool
-        ensures { result ≡ spec.removes_unknown self.now.request.now self.now.facts.now }
+        ensures { result ≡ in_case spec.removes_unknown self.now }
     {
         let removed = self.request.removed();
         contact_lacks(removed, full(self.contact()))
@@ -251,7 +247,7 @@ impl Case<'_> {
     }
 
     fn leaves_too_many(&self) -> bool
-        ensures { result ≡ spec.leaves_too_many self.now.request.now self.now.facts.now }
+        ensures { result ≡ in_case spec.leaves_too_many self.now }
     {
         let (removed, added) = (self.request.removed(), self.request.added());
         are_too_long(added)
@@ -260,9 +256,7 @@ impl Case<'_> {
     }
 
     fn addresses_kept(&self) -> usize
-        ensures { result
-            ≡ spec.addresses_kept (requests.asks_of self.now.request.now).removes.addresses
-            (spec.the_host self.now.request.now self.now.facts.now) }
+        ensures { result ≡ in_case words.addresses_left self.now }
     {
         match self.host() {
             None => 0,
@@ -271,7 +265,7 @@ impl Case<'_> {
     }
 
     fn has_addresses_after(&self) -> bool
-        ensures { result ≡ spec.has_addresses_after self.now.request.now self.now.facts.now }
+        ensures { result ≡ in_case spec.has_addresses_after self.now }
     {
         !(self.addresses_kept() == 0 && self.request.added().addresses.is_empty())
     }
@@ -286,8 +280,7 @@ impl Case<'_> {
     }
 
     fn leaves_addresses_outside(&self) -> bool
-        ensures { result ≡ spec.leaves_addresses_outside self.now.policy.now.zone
-            self.now.request.now self.now.facts.now }
+        ensures { result ≡ in_case (spec.leaves_addresses_outside self.now.policy.now.zone) self.now }
     {
         match self.host_name_after() {
             None => false,
@@ -298,21 +291,20 @@ impl Case<'_> {
     }
 
     fn passes_ten_years(&self) -> bool
-        ensures { result ≡ spec.passes_ten_years self.now.moment self.now.request.now
-            self.now.facts.now }
+        ensures { result ≡ in_case (spec.passes_ten_years self.now.moment) self.now }
     {
         let domain = full_domain(self.domain());
         passes_ten_years(self.moment, self.request.years(), domain)
     }
 
     fn expires_otherwise(&self) -> bool
-        ensures { result ≡ spec.expires_otherwise self.now.request.now self.now.facts.now }
+        ensures { result ≡ in_case spec.expires_otherwise self.now }
     {
         expires_otherwise(self.request.expires(), full_domain(self.domain()))
     }
 
     fn report_differs(&self) -> bool
-        ensures { result ≡ spec.report_differs self.now.request.now self.now.facts.now }
+        ensures { result ≡ in_case spec.report_differs self.now }
     {
         report_differs(
             self.request.del_time(),
@@ -322,7 +314,7 @@ impl Case<'_> {
     }
 
     fn is_oldest(&self) -> bool
-        ensures { result ≡ spec.is_oldest self.now.request.now self.now.facts.now }
+        ensures { result ≡ in_case spec.is_oldest self.now }
     {
         match (self.request.message(), &self.facts.queue.oldest) {
             (Some(id), Some(oldest)) => oldest.id == *id,
@@ -331,8 +323,7 @@ impl Case<'_> {
     }
 
     fn lacks_money(&self) -> bool
-        ensures { result ≡ spec.lacks_money self.now.policy.now self.now.moment self.now.request.now
-            self.now.facts.now }
+        ensures { result ≡ in_case (spec.lacks_money self.now.policy.now self.now.moment) self.now }
     {
         let charge = charge_of(self.policy, self.request, self.facts, self.moment);
         charge > 0 && self.facts.account.balance < i128::from(charge)
@@ -340,8 +331,7 @@ impl Case<'_> {
 
     /// Whether the condition holds.
     fn meets(&self, condition: Condition) -> bool
-        ensures { result ≡ spec.holds self.now.policy.now self.now.caller self.now.moment
-            self.now.request.now self.now.facts.now condition }
+        ensures { result ≡ holds_in self.now condition }
     {
         let zone = self.policy.zone();
         match condition {
@@ -388,9 +378,7 @@ impl Case<'_> {
     }
 
     fn find_refusal(&self, table: &'static [Condition]) -> Option<&'static Condition>
-        ensures { option_copied result
-            ≡ find (spec.holds self.now.policy.now self.now.caller self.now.moment
-            self.now.request.now self.now.facts.now) table.now }
+        ensures { option_copied result ≡ find (holds_in self.now) table.now }
     {
         table.iter().find(|condition| self.meets(**condition))
     }
@@ -398,8 +386,7 @@ impl Case<'_> {
     /// The code with which the command is refused.
     #[tactic(auto, unfolding(crate::specs::Refusals::first_refusal))]
     pub(crate) fn refusal(&self) -> Option<Code>
-        ensures { result ≡ refusal_of self.now.policy.now self.now.caller self.now.moment
-            self.now.request.now self.now.facts.now }
+        ensures { result ≡ refusal_in self.now }
     {
         match self.find_refusal(table(self.request)) {
             Some(condition) => Some(condition.cause().code()),

@@ -28,7 +28,8 @@ pub fn years_charged(request: &Request, facts: &Facts, moment: Moment) -> u32
     }
 }
 
-/// The least number of years more with which a domain that is seen in full expires after the moment.
+/// The least number of years more with which a domain that is seen in full expires after the
+/// moment.
 fn years_needed(seen: Option<&Seen<FullDomain, DomainFace>>, moment: Moment) -> u32
     ensures { result ≡ spec.years_needed moment (option_copied seen.entry) }
 {

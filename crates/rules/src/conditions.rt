@@ -1,10 +1,10 @@
-//! The conditions on who sponsors what is seen, on the superordinate domain of a host that is to have
-//! a name, and on the statuses that are shown.
+//! The conditions on who sponsors what is seen, on the superordinate domain of a host that is to
+//! have a name, and on the statuses that are shown.
 ghost use Rattle.std.specs.Prelude.{◌≡◌};
 ghost use Rattle.std.specs.Option.{option_copied};
 ghost use Rattle.facts.specs.Facts.{host_sponsor};
-ghost use Rattle.protocol.specs.Requests.{holds_of};
 ghost use Rattle.rules.specs.Conditions as spec;
+ghost use Rattle.rules.specs.inner.Cases.{is_met};
 
 use basis::registrar::RegistrarNo;
 use basis::text::Text;
@@ -145,7 +145,7 @@ pub(crate) fn is_anothers<O: Sponsored, F>(caller: RegistrarNo, seen: Option<&Se
 
 /// Whether the caller sponsors what is seen.
 pub(crate) fn is_sponsored<O: Sponsored, F>(caller: RegistrarNo, seen: Option<&Seen<O, F>>) -> bool
-    ensures { result ≡ holds_of (spec.is_own O.sponsor caller) (option_copied seen.entry) }
+    ensures { result ≡ is_met (spec.is_own O.sponsor caller) seen.entry }
 {
     match seen {
         None => false,
@@ -158,8 +158,7 @@ pub(crate) fn is_authorized<O: Sponsored, F>(
     secret: Option<&Text>,
     seen: Option<&Seen<O, F>>,
 ) -> bool
-    ensures { result ≡ holds_of (spec.is_authorized O.secret (option_copied secret.entry))
-        (option_copied seen.entry) }
+    ensures { result ≡ is_met (spec.is_authorized O.secret (option_copied secret.entry)) seen.entry }
 {
     match seen {
         Some(Seen::Full(object)) => object.authorizes(secret),
@@ -212,7 +211,7 @@ pub(crate) fn host_is_anothers(zone: &Zone, caller: RegistrarNo, known: Option<&
 
 /// Whether the name lies in the zone, but its superordinate domain isn't there.
 pub(crate) fn has_no_superordinate(zone: &Zone, known: Option<&HostFacts>) -> bool
-    ensures { result ≡ holds_of (spec.has_no_superordinate zone.now) (option_copied known.entry) }
+    ensures { result ≡ is_met (spec.has_no_superordinate zone.now) known.entry }
 {
     match known {
         None => false,
@@ -226,8 +225,7 @@ pub(crate) fn superordinate_is_anothers(
     caller: RegistrarNo,
     known: Option<&HostFacts>,
 ) -> bool
-    ensures { result ≡ holds_of (spec.superordinate_is_anothers zone.now caller)
-        (option_copied known.entry) }
+    ensures { result ≡ is_met (spec.superordinate_is_anothers zone.now caller) known.entry }
 {
     match known {
         None => false,
@@ -240,8 +238,7 @@ pub(crate) fn superordinate_is_anothers(
 
 /// Whether the name lies in the zone, below a domain that is deleted.
 pub(crate) fn superordinate_is_deleted(zone: &Zone, known: Option<&HostFacts>) -> bool
-    ensures { result ≡ holds_of (spec.superordinate_is_deleted zone.now)
-        (option_copied known.entry) }
+    ensures { result ≡ is_met (spec.superordinate_is_deleted zone.now) known.entry }
 {
     match known {
         None => false,

@@ -1,8 +1,9 @@
 //! How the deletion of a domain is answered (RFC 5731, 3.2.2; RFC 3915, 3.1).
-ghost use Rattle.std.specs.Prelude.{◌≡◌, IfOk, option_map};
+ghost use Rattle.std.specs.Prelude.{◌≡◌, IfOk};
 ghost use Rattle.std.specs.Option.{option_copied};
 ghost use Rattle.rules.specs.Deletion as spec;
 ghost use Rattle.rules.specs.Verdicts.{code_granted};
+ghost use Rattle.rules.specs.inner.Told as told;
 
 use crate::poll::code_of_poll;
 use crate::transfer::code_of_transfer;
@@ -49,8 +50,7 @@ pub(crate) fn code_granted(request: &Request, facts: &Facts) -> Code
 
 /// What the sponsor of the domain is told.
 pub(crate) fn deleted_data(known: Option<&DomainFacts>) -> Result<Option<Data>, AllocError>
-    ensures { IfOk result (λ content. content
-        ≡ option_map Data.Deleted (option_map spec.deleted (option_copied known.entry))) }
+    ensures { IfOk result (λ content. content ≡ told.deleted_data known.entry) }
 {
     match known {
         None => Ok(None),

@@ -1,5 +1,5 @@
-//! The answer to a command or an order: the table of each command's refusals, the conditions that the
-//! tables name, and the data of an accepted command.
+//! The answer to a command or an order: the table of each command's refusals, the conditions that
+//! the tables name, and the data of an accepted command.
 #![tactic(auto)]
 
 mod amended;

@@ -1,11 +1,10 @@
 //! What the operator's orders are answered.
-ghost use Rattle.std.specs.Prelude.{◌≡◌, find};
+ghost use Rattle.std.specs.Prelude.{◌≡◌};
 ghost use Rattle.std.specs.Option.{option_copied};
-ghost use Rattle.protocol.specs.Requests.{holds_of};
-ghost use Rattle.rules.specs.Conditions as conditions;
-ghost use Rattle.model.specs.Objects as model;
 ghost use Rattle.rules.specs.Causes.{cause_of_order};
+ghost use Rattle.rules.specs.OrderLaws.{AnswersOrderLawfully};
 ghost use Rattle.rules.specs.Orders as spec;
+ghost use Rattle.rules.specs.inner.Cases as words;
 
 use crate::conditions::{any_set, any_unset};
 use crate::refusal::Cause;
@@ -66,8 +65,15 @@ pub const STATUS_ORDER: &[OrderCondition] = &[
 ];
 
 /// What an order is answered, by the object that it names.
-#[tactic(auto, unfolding(crate::specs::Refusals::first_refusal, crate::specs::Orders::order_code))]
 pub fn judge_order(order: &StatusOrder, object: Option<&Object>) -> Code
+    ensures code { result ≡ spec.order_code order.now (option_copied object.entry) }
+    ensures laws { AnswersOrderLawfully order.now (option_copied object.entry) result }
+{
+    code_on(order, object)
+}
+
+#[tactic(auto, unfolding(crate::specs::Refusals::first_refusal, crate::specs::Orders::order_code))]
+fn code_on(order: &StatusOrder, object: Option<&Object>) -> Code
     ensures { result ≡ spec.order_code order.now (option_copied object.entry) }
 {
     match find_refusal(order, object) {
@@ -77,8 +83,7 @@ pub fn judge_order(order: &StatusOrder, object: Option<&Object>) -> Code
 }
 
 fn find_refusal(order: &StatusOrder, object: Option<&Object>) -> Option<&'static OrderCondition>
-    ensures { option_copied result ≡ find (spec.order_holds order.now (option_copied object.entry))
-        STATUS_ORDER.now }
+    ensures { option_copied result ≡ words.order_refusal order.now (option_copied object.entry) }
 {
     STATUS_ORDER
         .iter()
@@ -103,8 +108,7 @@ fn meets(order: &StatusOrder, condition: OrderCondition, object: Option<&Object>
 }
 
 fn contradicts(added: &[ObjectStatus], object: Option<&Object>) -> bool
-    ensures { result ≡ holds_of (spec.contradicts_pending_state added.now)
-        (option_copied object.entry) }
+    ensures { result ≡ words.is_met (spec.contradicts_pending_state added.now) object.entry }
 {
     match object {
         None => false,
@@ -138,8 +142,7 @@ fn any_foreign(kind: ObjectKind, statuses: &[ObjectStatus]) -> bool
 }
 
 fn adds_set(added: &[ObjectStatus], object: Option<&Object>) -> bool
-    ensures { result ≡ holds_of (λ it. conditions.any_set (model.statuses_of it) added.now)
-        (option_copied object.entry) }
+    ensures { result ≡ words.is_met (words.has_a_status added.now) object.entry }
 {
     match object {
         None => false,
@@ -148,8 +151,7 @@ fn adds_set(added: &[ObjectStatus], object: Option<&Object>) -> bool
 }
 
 fn removes_unset(removed: &[ObjectStatus], object: Option<&Object>) -> bool
-    ensures { result ≡ holds_of (λ it. conditions.any_unset (model.statuses_of it) removed.now)
-        (option_copied object.entry) }
+    ensures { result ≡ words.is_met (words.lacks_a_status removed.now) object.entry }
 {
     match object {
         None => false,

@@ -1,6 +1,7 @@
 //! How a poll is answered (RFC 5730, 2.9.2.3).
-ghost use Rattle.std.specs.Prelude.{◌≡◌, IfOk, option_map};
+ghost use Rattle.std.specs.Prelude.{◌≡◌, IfOk};
 ghost use Rattle.rules.specs.Poll as spec;
+ghost use Rattle.rules.specs.inner.Told as told;
 
 use accounts::{CommandNotice, LapseNotice, Origin, Subject};
 use facts::{OldestMessage, QueueFacts};
@@ -44,8 +45,7 @@ pub(crate) fn code_of_poll(oldest: &Option<OldestMessage>) -> Code
 
 /// The oldest message, and how many wait.
 pub(crate) fn polled_data(queue: &QueueFacts) -> Result<Option<Data>, AllocError>
-    ensures { IfOk result (λ content. content
-        ≡ option_map Data.Polled (option_map (spec.polled queue.now.waiting) queue.now.oldest)) }
+    ensures { IfOk result (λ content. content ≡ told.polled_data queue.now) }
 {
     match &queue.oldest {
         None => Ok(None),

@@ -4,9 +4,9 @@ ghost use Rattle.rules.specs.Refusals as spec;
 
 use protocol::Code;
 
-/// A cause of refusal, with its code and its place: an earlier cause answers before a later one. What
-/// stands before them all, the session and the form of the command, is looked at before a command
-/// reaches the rules.
+/// A cause of refusal, with its code and its place: an earlier cause answers before a later one.
+/// What stands before them all, the session and the form of the command, is looked at before a
+/// command reaches the rules.
 #[derive(Clone, Copy, Drop)]
 pub enum Cause {
     /// 2306: the zone refuses a name, or a list names one thing twice.

@@ -1,9 +1,9 @@
 //! What a renewal would make of a domain, and the conditions on it (RFC 5731, 3.2.3).
-ghost use Rattle.std.specs.Prelude.{◌≡◌, nat_lt};
+ghost use Rattle.std.specs.Prelude.{◌≡◌};
 ghost use Rattle.std.specs.Option.{option_copied};
-ghost use Rattle.calendar.specs.Moment.{capped, plus_years};
-ghost use Rattle.protocol.specs.Requests.{holds_of};
+ghost use Rattle.calendar.specs.Moment.{capped};
 ghost use Rattle.rules.specs.Conditions as spec;
+ghost use Rattle.rules.specs.inner.Cases as words;
 
 use basis::text::Text;
 use calendar::Moment;
@@ -22,8 +22,7 @@ pub(crate) fn renewed_expiry(domain: &Domain, years: u32) -> Moment
 
 /// Whether there is a domain that would be registered for more than ten years from the moment on.
 pub(crate) fn passes_ten_years(moment: Moment, years: u32, domain: Option<&Domain>) -> bool
-    ensures { result ≡ holds_of (λ d. nat_lt (plus_years moment 10) (spec.renewed_expiry years d))
-        (option_copied domain.entry) }
+    ensures { result ≡ words.is_met (words.is_past_ten_years moment years) domain.entry }
 {
     match domain {
         None => false,
@@ -36,8 +35,7 @@ pub(crate) fn passes_ten_years(moment: Moment, years: u32, domain: Option<&Domai
 
 /// Whether there is a domain, and a date that isn't the one on which it is shown to expire.
 pub(crate) fn expires_otherwise(date: Option<&Text>, domain: Option<&Domain>) -> bool
-    ensures { result ≡ holds_of (λ d. holds_of (spec.is_another_date d) (option_copied date.entry))
-        (option_copied domain.entry) }
+    ensures { result ≡ words.is_met (words.is_not_on (option_copied date.entry)) domain.entry }
 {
     match domain {
         None => false,
@@ -46,7 +44,7 @@ pub(crate) fn expires_otherwise(date: Option<&Text>, domain: Option<&Domain>) ->
 }
 
 fn is_another_date(date: Option<&Text>, domain: &Domain) -> bool
-    ensures { result ≡ holds_of (spec.is_another_date domain.now) (option_copied date.entry) }
+    ensures { result ≡ words.is_met (spec.is_another_date domain.now) date.entry }
 {
     match date {
         None => false,

@@ -1,8 +1,14 @@
 //! What an accepted command is told.
-ghost use Rattle.std.specs.Prelude.{◌≡◌, IfOk, map, option_and_then, option_map, unwrap_or};
+ghost use Rattle.std.specs.Prelude.{◌≡◌, IfOk, map, option_map, unwrap_or};
 ghost use Rattle.std.specs.Option.{option_copied};
-ghost use Rattle.rules.specs.Conditions.{domain_in_full};
 ghost use Rattle.rules.specs.ResponseData as spec;
+ghost use Rattle.rules.specs.inner.Told.{
+  contact_data,
+  domain_data,
+  host_data,
+  name_result,
+  renewed_data,
+};
 
 use crate::amended::{domain_is_refused, host_is_refused};
 use crate::case::full_domain;
@@ -47,11 +53,13 @@ pub(crate) fn response_data(
             Ok(Some(Data::Checked(Seq::from_vec(results))))
         }
         Request::CheckDomain { names } => {
-            let results = check_domains(alloc, policy.zone(), facts, names.as_slice())?;
+            let (named, names) = (Named::OfDomain, names.as_slice());
+            let results = check_names(alloc, named, policy.zone(), facts, names)?;
             Ok(Some(Data::Checked(Seq::from_vec(results))))
         }
         Request::CheckHost { names } => {
-            let results = check_hosts(alloc, policy.zone(), facts, names.as_slice())?;
+            let (named, names) = (Named::OfHost, names.as_slice());
+            let results = check_names(alloc, named, policy.zone(), facts, names)?;
             Ok(Some(Data::Checked(Seq::from_vec(results))))
         }
         Request::InfoContact { name, secret } => {
@@ -122,8 +130,7 @@ fn check_contacts(
     facts: &Facts,
     names: &[Text],
 ) -> Result<Vec<CheckResult>, AllocError>
-    ensures { IfOk result (λ results. results.items ≡ map (spec.contact_result facts.now)
-        names.now) }
+    ensures { IfOk result (λ told. told.items ≡ map (spec.contact_result facts.now) names.now) }
 {
     let mut results = Vec::new(alloc);
     for name in names {
@@ -135,46 +142,47 @@ fn check_contacts(
     Ok(results)
 }
 
-fn check_domains(
-    alloc: Global,
-    zone: &Zone,
-    facts: &Facts,
-    names: &[RequestedName],
-) -> Result<Vec<CheckResult>, AllocError>
-    ensures { IfOk result (λ results. results.items ≡ map (spec.domain_result zone.now facts.now)
-        names.now) }
-{
-    let mut results = Vec::new(alloc);
-    for name in names {
-        results.push(CheckResult {
-            name: name.text().clone()?,
-            reason: reason_against(
-                domain_is_refused(zone, name),
-                facts.domain_seen(name.text()).is_some(),
-            ),
-        })?;
-    }
-    Ok(results)
+/// What a name that is checked is to name.
+#[derive(Clone, Copy, Drop)]
+enum Named {
+    OfDomain,
+    OfHost,
 }
 
-fn check_hosts(
+fn name_result(
+    named: Named,
+    zone: &Zone,
+    facts: &Facts,
+    name: &RequestedName,
+) -> Result<CheckResult, AllocError>
+    ensures { IfOk result (λ told. told ≡ name_result named zone.now facts.now name.now) }
+{
+    let text = name.text();
+    let (refused, taken) = match named {
+        Named::OfDomain => (
+            domain_is_refused(zone, name),
+            facts.domain_seen(text).is_some(),
+        ),
+        Named::OfHost => (host_is_refused(zone, name), facts.host_seen(text).is_some()),
+    };
+    Ok(CheckResult {
+        name: text.clone()?,
+        reason: reason_against(refused, taken),
+    })
+}
+
+fn check_names(
     alloc: Global,
+    named: Named,
     zone: &Zone,
     facts: &Facts,
     names: &[RequestedName],
 ) -> Result<Vec<CheckResult>, AllocError>
-    ensures { IfOk result (λ results. results.items ≡ map (spec.host_result zone.now facts.now)
-        names.now) }
+    ensures { IfOk result (λ told. told.items ≡ map (name_result named zone.now facts.now) names.now) }
 {
     let mut results = Vec::new(alloc);
     for name in names {
-        results.push(CheckResult {
-            name: name.text().clone()?,
-            reason: reason_against(
-                host_is_refused(zone, name),
-                facts.host_seen(name.text()).is_some(),
-            ),
-        })?;
+        results.push(name_result(named, zone, facts, name)?)?;
     }
     Ok(results)
 }
@@ -211,9 +219,7 @@ fn renewed_data(
     years: u32,
     seen: Option<&Seen<FullDomain, DomainFace>>,
 ) -> Result<Option<Data>, AllocError>
-    ensures { IfOk result (λ content. content
-        ≡ option_map Data.Renewed (option_map (spec.renewed charge name.now years)
-        (option_and_then domain_in_full (option_copied seen.entry)))) }
+    ensures { IfOk result (λ told. told ≡ renewed_data charge name.now years seen.entry) }
 {
     match full_domain(seen) {
         None => Ok(None),
@@ -245,10 +251,7 @@ fn contact_data(
     secret: Option<&Text>,
     known: Option<&ContactFacts>,
 ) -> Result<Option<Data>, AllocError>
-    ensures { IfOk result (λ content. content
-        ≡ option_map Data.Contact
-        (option_and_then (spec.contact_info_at policy.now caller (option_copied secret.entry))
-        (option_copied known.entry))) }
+    ensures { IfOk result (λ told. told ≡ contact_data policy.now caller secret.entry known.entry) }
 {
     let Some(known) = known else {
         return Ok(None);
@@ -339,7 +342,7 @@ fn contact_hidden(
     secret: Option<Text>,
     contact: &Contact,
 ) -> Result<ContactHidden, AllocError>
-    ensures { IfOk result (λ hidden. hidden ≡ spec.contact_hidden policy.now secret contact.now) }
+    ensures { IfOk result (λ told. told ≡ spec.contact_hidden policy.now secret contact.now) }
 {
     let mail = contact.mail.clone()?;
     let voice = copied(&contact.voice)?;
@@ -362,10 +365,7 @@ fn domain_data(
     secret: Option<&Text>,
     known: Option<&DomainFacts>,
 ) -> Result<Option<Data>, AllocError>
-    ensures { IfOk result (λ content. content
-        ≡ option_map Data.Domain
-        (option_and_then (spec.domain_info_at policy.now caller (option_copied secret.entry))
-        (option_copied known.entry))) }
+    ensures { IfOk result (λ told. told ≡ domain_data policy.now caller secret.entry known.entry) }
 {
     let Some(known) = known else {
         return Ok(None);
@@ -411,7 +411,7 @@ fn domain_face_info(
     subordinate: &Seq<Text>,
     face: DomainFace,
 ) -> Result<DomainInfo, AllocError>
-    ensures { IfOk result (λ info. info ≡ spec.domain_face_info policy.now subordinate.now face) }
+    ensures { IfOk result (λ told. told ≡ spec.domain_face_info policy.now subordinate.now face) }
 {
     let sponsor = id_of(alloc, policy, face.sponsor)?;
     Ok(DomainInfo {
@@ -492,9 +492,7 @@ fn host_data(
     policy: &Policy,
     known: Option<&HostFacts>,
 ) -> Result<Option<Data>, AllocError>
-    ensures { IfOk result (λ content. content
-        ≡ option_map Data.Host (option_and_then (spec.host_info_at policy.now)
-        (option_copied known.entry))) }
+    ensures { IfOk result (λ told. told ≡ host_data policy.now known.entry) }
 {
     let Some(known) = known else {
         return Ok(None);

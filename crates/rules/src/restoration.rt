@@ -1,9 +1,7 @@
 //! The conditions on a restoration (RFC 3915, 3.1 and 4.2.5).
 ghost use Rattle.std.specs.Prelude.{◌≡◌};
-ghost use Rattle.std.specs.Option.{option_copied};
-ghost use Rattle.objects.specs.Graces as objects_spec;
-ghost use Rattle.protocol.specs.Requests.{holds_of};
 ghost use Rattle.rules.specs.Conditions as spec;
+ghost use Rattle.rules.specs.inner.Cases as words;
 
 use calendar::Moment;
 use objects::{Domain, DomainFace, FullDomain, Phase, Seen};
@@ -20,8 +18,7 @@ fn phase_seen(seen: &Seen<FullDomain, DomainFace>) -> Phase
 
 /// Whether the deletion of the domain has come to the phase.
 pub(crate) fn is_in(phase: Phase, seen: Option<&Seen<FullDomain, DomainFace>>) -> bool
-    ensures { result ≡ holds_of (λ seen. objects_spec.is_phase (spec.phase_seen seen) phase)
-        (option_copied seen.entry) }
+    ensures { result ≡ words.is_met (words.has_come_to phase) seen.entry }
 {
     match seen {
         None => false,
@@ -65,8 +62,7 @@ pub(crate) fn report_differs(
     res_time: Option<Moment>,
     domain: Option<&Domain>,
 ) -> bool
-    ensures { result ≡ holds_of (spec.is_another_report del_time res_time)
-        (option_copied domain.entry) }
+    ensures { result ≡ words.is_met (spec.is_another_report del_time res_time) domain.entry }
 {
     match domain {
         None => false,

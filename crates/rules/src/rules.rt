@@ -1,6 +1,6 @@
-//! The rules: the conditions on which each command is refused. A condition has one cause, wherever it
-//! stands (RFC 5730, 3), and the conditions of a table stand in the order of their causes: the first that
-//! holds answers.
+//! The rules: the conditions on which each command is refused. A condition has one cause, wherever
+//! it stands (RFC 5730, 3), and the conditions of a table stand in the order of their causes: the
+//! first that holds answers.
 ghost use Rattle.std.specs.Prelude.{◌≡◌, IsTrue};
 ghost use Rattle.rules.specs.Causes.{cause_of};
 ghost use Rattle.rules.specs.Refusals.{in_order};
@@ -73,8 +73,8 @@ pub enum Condition {
     ExpiresOtherwise,
     /// The deletion of the domain hasn't come to the phase, or has left it.
     IsNotIn(Phase),
-    /// The report is on another deletion than the domain's, or on another request to restore it than
-    /// the last.
+    /// The report is on another deletion than the domain's, or on another request to restore it
+    /// than the last.
     ReportDiffers,
     /// The oldest message to the registrar isn't the one that was read.
     IsNotOldest,

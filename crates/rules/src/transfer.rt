@@ -3,11 +3,10 @@
 ghost use Rattle.std.specs.Prelude.{◌≡◌, IfOk, is_none, not, option_and_then, option_map};
 ghost use Rattle.std.specs.Option.{option_copied};
 ghost use Rattle.lifecycle.specs.Transfers.{ended};
-ghost use Rattle.objects.specs.Transfers.{names};
-ghost use Rattle.protocol.specs.Requests.{holds_of};
 ghost use Rattle.rules.specs.Conditions as conditions;
 ghost use Rattle.rules.specs.ResponseData.{transferred_data};
 ghost use Rattle.rules.specs.Transfers as spec;
+ghost use Rattle.rules.specs.inner.Cases.{in_case, is_named, of_caller};
 
 use crate::case::{Case, full_domain};
 use crate::conditions::{Faced, Sponsored, is_authorized, is_sponsored};
@@ -121,7 +120,7 @@ pub(crate) fn transferred_data(
     charge: Option<u64>,
     after: Option<Transfer>,
 ) -> Result<Option<Data>, AllocError>
-    ensures { IfOk result (λ content. content ≡ transferred_data policy.now name.now charge after) }
+    ensures { IfOk result (λ told. told ≡ transferred_data policy.now name.now charge after) }
 {
     let Some(transfer) = after else {
         return Ok(None);
@@ -138,7 +137,7 @@ pub(crate) fn transferred_data(
 
 impl Case<'_> {
     fn transfer(&self) -> Option<Transfer>
-        ensures { result ≡ conditions.the_transfer self.now.request.now self.now.facts.now }
+        ensures { result ≡ in_case conditions.the_transfer self.now }
     {
         match last_seen(self.contact()) {
             Some(transfer) => Some(transfer),
@@ -148,15 +147,13 @@ impl Case<'_> {
 
     /// Whether the caller sponsors the object.
     pub(crate) fn sponsors(&self) -> bool
-        ensures { result ≡ conditions.sponsors self.now.caller self.now.request.now
-            self.now.facts.now }
+        ensures { result ≡ of_caller conditions.sponsors self.now }
     {
         is_sponsored(self.caller, self.contact()) || is_sponsored(self.caller, self.domain())
     }
 
     fn is_named(&self) -> bool
-        ensures { result ≡ holds_of (names self.now.caller)
-            (conditions.the_transfer self.now.request.now self.now.facts.now) }
+        ensures { result ≡ of_caller is_named self.now }
     {
         match self.transfer() {
             None => false,
@@ -165,44 +162,39 @@ impl Case<'_> {
     }
 
     fn is_involved(&self) -> bool
-        ensures { result ≡ conditions.is_involved self.now.caller self.now.request.now
-            self.now.facts.now }
+        ensures { result ≡ of_caller conditions.is_involved self.now }
     {
         self.sponsors() || self.is_named()
     }
 
     fn presents_secret(&self) -> bool
-        ensures { result ≡ conditions.presents_secret self.now.request.now self.now.facts.now }
+        ensures { result ≡ in_case conditions.presents_secret self.now }
     {
         is_authorized(self.request.secret(), self.contact())
             || is_authorized(self.request.secret(), self.domain())
     }
 
     pub(crate) fn secret_is_not_right(&self) -> bool
-        ensures { result
-            ≡ not (conditions.presents_secret self.now.request.now self.now.facts.now) }
+        ensures { result ≡ not (in_case conditions.presents_secret self.now) }
     {
         !self.presents_secret()
     }
 
     pub(crate) fn is_stranger(&self) -> bool
-        ensures { result ≡ conditions.is_stranger self.now.caller self.now.request.now
-            self.now.facts.now }
+        ensures { result ≡ of_caller conditions.is_stranger self.now }
     {
         !self.is_involved() && self.request.secret().is_none()
     }
 
     pub(crate) fn strangers_secret_is_wrong(&self) -> bool
-        ensures { result ≡ conditions.strangers_secret_is_wrong self.now.caller self.now.request.now
-            self.now.facts.now }
+        ensures { result ≡ of_caller conditions.strangers_secret_is_wrong self.now }
     {
         !self.is_involved() && self.request.secret().is_some() && self.secret_is_not_right()
     }
 
     /// Whether the caller asked for the last transfer.
     pub(crate) fn is_requester(&self) -> bool
-        ensures { result ≡ conditions.is_requester self.now.caller self.now.request.now
-            self.now.facts.now }
+        ensures { result ≡ of_caller conditions.is_requester self.now }
     {
         match self.transfer() {
             None => false,
@@ -211,14 +203,13 @@ impl Case<'_> {
     }
 
     pub(crate) fn has_no_transfer(&self) -> bool
-        ensures { result
-            ≡ is_none (conditions.the_transfer self.now.request.now self.now.facts.now) }
+        ensures { result ≡ is_none (in_case conditions.the_transfer self.now) }
     {
         self.transfer().is_none()
     }
 
     pub(crate) fn transfer_is_pending(&self) -> bool
-        ensures { result ≡ conditions.transfer_is_pending self.now.request.now self.now.facts.now }
+        ensures { result ≡ in_case conditions.transfer_is_pending self.now }
     {
         match self.transfer() {
             None => false,
@@ -227,8 +218,8 @@ impl Case<'_> {
     }
 
     pub(crate) fn domain_is_locked(&self) -> bool
-        ensures { result ≡ conditions.domain_is_locked self.now.policy.now self.now.moment
-            self.now.request.now self.now.facts.now }
+        ensures { result
+            ≡ in_case (conditions.domain_is_locked self.now.policy.now self.now.moment) self.now }
     {
         match full_domain(self.domain()) {
             None => false,

@@ -1,41 +1,33 @@
 -- Rows that are copied.
-use Rattle.std.specs.Prelude.{◌≡◌, ℤ, true, List, map, Result, Ok, Err, fold}
+use Rattle.std.specs.Prelude.{◌≡◌, ℤ, true, List, Result, Ok, Err, fold}
 use Rattle.sqlite_keyed.specs.Keyed.{insert_by}
 use Rattle.states.specs.declared.fault.BookFault.{BookFault}
 use Rattle.states.specs.States.{LeavesSame, StateOf, Stays}
 use Rattle.sqltables.specs.Content.{Content}
-use Rattle.sqltables.specs.inner.Content.{metas_to, accounts_to, contacts_to, domains_to, hosts_to, addresses_to, links_to, lines_to, messages_to, transfers_to}
 use Rattle.oldrows.specs.Stored.{IsRead, OldState}
-use Rattle.sqltables.specs.Meta.{metas}
-use Rattle.sqltables.specs.Account.{accounts}
-use Rattle.sqltables.specs.Contact.{contacts}
-use Rattle.sqltables.specs.inner.Domain.{domains}
-use Rattle.sqltables.specs.Host.{hosts}
-use Rattle.sqltables.specs.Address.{addresses}
-use Rattle.sqltables.specs.Link.{links}
-use Rattle.sqltables.specs.Line.{lines}
-use Rattle.sqltables.specs.inner.Message.{messages}
-use Rattle.sqltables.specs.Transfer.{transfers}
+use Rattle.oldrows.specs.inner.Tables.{Table, meta_table, account_table, contact_table, domain_table, host_table, address_table, link_table, line_table, message_table, transfer_table}
 use Rattle.oldrows.specs.declared.copying.TableName.{TableName}
 use Rattle.oldrows.specs.declared.copying.TableName.TheVariants.{Metas, Accounts, Contacts, Domains, Hosts, Addresses, Links, Lines, Messages, Transfers}
-use Rattle.oldrows.specs.Copies.{renumbered}
 
 -- rows put one after another, each in the place of the one with its number, or beside all others
 abbrev pub put_all : {X : Type 0} → (X → ℤ) → List X → List X → List X
 put_all key new rows = fold (insert_by key) rows new
 
 -- the rows of a table, put beside those of another database
+abbrev pub put_from : {R : Type 0} → Table R → Content → Content → Content
+put_from table from = table.rows_to (put_all table.key (table.rows_of from))
+
 abbrev pub put_of : TableName → Content → Content → Content
-put_of Metas from = metas_to (put_all metas.key (map renumbered from.metas))
-put_of Accounts from = accounts_to (put_all accounts.key from.accounts)
-put_of Contacts from = contacts_to (put_all contacts.key from.contacts)
-put_of Domains from = domains_to (put_all domains.key from.domains)
-put_of Hosts from = hosts_to (put_all hosts.key from.hosts)
-put_of Addresses from = addresses_to (put_all addresses.key from.addresses)
-put_of Links from = links_to (put_all links.key from.links)
-put_of Lines from = lines_to (put_all lines.key from.lines)
-put_of Messages from = messages_to (put_all messages.key from.messages)
-put_of Transfers from = transfers_to (put_all transfers.key from.transfers)
+put_of Metas = put_from meta_table
+put_of Accounts = put_from account_table
+put_of Contacts = put_from contact_table
+put_of Domains = put_from domain_table
+put_of Hosts = put_from host_table
+put_of Addresses = put_from address_table
+put_of Links = put_from link_table
+put_of Lines = put_from line_table
+put_of Messages = put_from message_table
+put_of Transfers = put_from transfer_table
 
 abbrev pub put_of_all : List TableName → Content → Content → Content
 put_of_all tables from to = fold (λ c table. put_of table from c) to tables

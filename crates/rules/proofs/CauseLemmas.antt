@@ -1,0 +1,233 @@
+-- The law of each cause, from the rows that stand for it in the tables.
+use Rattle.std.proofs.Common.{◌≡◌, ℕ, Bool, true, false, ◌⊎◌, inl, inr, List, Option, Some, None, refl, sym, ◌∙◌, ◌<◌, not, ◌&&◌, ◌||◌, is_none, is_some, ◌≢◌, nat_lt, ℤ, pos, int_lt, ◌≤ℤ◌, subst, arith}
+use Rattle.std.proofs.lemmas.Bool.{and_cases, lt-ltb}
+use Rattle.std.proofs.lemmas.Int.{ints}
+use Rattle.policy.specs.Rules.{PolicyRules}
+use Rattle.facts.specs.declared.facts.Facts.{Facts}
+use Rattle.objects.specs.declared.grace.Phase.TheVariants.{Redemption, Restoring}
+use Rattle.objects.specs.declared.status.Status.TheVariants.{ClientDeleteProhibited, ClientRenewProhibited, ClientTransferProhibited, ClientUpdateProhibited, PendingDelete, PendingTransfer, ServerDeleteProhibited, ServerRenewProhibited, ServerTransferProhibited, ServerUpdateProhibited}
+use Rattle.protocol.specs.Requests.{asks_of}
+use Rattle.protocol.specs.declared.command.Action.{Action}
+use Rattle.protocol.specs.declared.command.Action.TheVariants as actions
+use Rattle.protocol.specs.declared.command.Request.TheVariants.{CreateDomain, CreateHost, DeleteDomain, UpdateContact, UpdateDomain, UpdateHost, RenewDomain, ReportRestore, TransferContact, TransferDomain}
+use Rattle.protocol.specs.declared.command.Request.{Request}
+use Rattle.protocol.specs.declared.transfer.TransferOp.TheVariants as ops
+use Rattle.rules.specs.Causes.{cause_of}
+use Rattle.rules.specs.Charges.{charge_of}
+use Rattle.rules.specs.Conditions.{holds, is_involved, presents_secret}
+use Rattle.rules.specs.Laws.{ActsOnObject, Alters, EndsTransfer, NamesAreKept, NothingExists, NothingIsMissing, IsEntitled, SecretIsRight, NoTransferIsPending, TransferIsThere, NoStatusProhibits, NoAssociationProhibits, IsRenewable, IsTransferable, ParametersFit, HoldsNoMore, IsPaid}
+use Rattle.rules.specs.Rules.{table_of}
+use Rattle.rules.specs.declared.refusal.Cause.TheVariants.{NamesRefused, Exists, Missing, NotSponsor, WrongSecret, TransferPends, NoTransferPends, StatusProhibits, AssociationProhibits, NotRenewable, NotTransferable, ParametersRefused, LimitReached, BillingFailure}
+use Rattle.rules.specs.declared.rules.Condition.{Condition}
+use Rattle.rules.specs.declared.rules.Condition.TheVariants.{NameIsRefused, ListRepeats, IsThere, IsMissing, ReferenceIsMissing, NewNameIsTaken, SuperordinateIsMissing, IsAnothers, SuperordinateIsAnothers, SecretIsWrong, Shows, StillShows, SuperordinateIsDeleted, IsLinked, HasSubordinates, AddsWhatIsThere, RemovesWhatIsNot, LeavesTooMany, LeavesAddressesOutside, IsAtHoldingLimit, PassesTenYears, ExpiresOtherwise, IsNotIn, ReportDiffers, IsNotOldest, LacksMoney, SecretIsNotRight, IsStranger, StrangersSecretIsWrong, IsNotRequester, HasNoTransfer, IsPending, IsNotPending, IsOwn, IsLocked}
+use Rattle.rules.proofs.ActionLemmas.{OfEach, of-action, of-each}
+use Rattle.rules.proofs.RowLemmas.{Clear, StandsIn}
+
+there-is : (b : Bool) → not b ≡ false → b ≡ true
+there-is true e = refl
+there-is false e = absurd cc
+
+some-is : {A : Type 0} (o : Option A) → is_none o ≡ false → is_some o ≡ true
+some-is None e = absurd cc
+some-is (Some x) e = refl
+
+-- who isn't a stranger has a part in the object, or presents a secret
+no-stranger : (involved : Bool) (secret : Option (List ℕ)) → (not involved && is_none secret) ≡ false → (involved || is_some secret) ≡ true
+no-stranger true secret e = refl
+no-stranger false None e = absurd cc
+no-stranger false (Some presented) e = refl
+
+-- a secret that isn't a stranger's wrong one is right, or presented by who has a part in the object
+rightly : (involved right : Bool) (secret : Option (List ℕ)) → is_some secret ≡ true → (not involved && (is_some secret && not right)) ≡ false → (involved || right) ≡ true
+rightly true right secret some e = refl
+rightly false true secret some e = refl
+rightly false false None some e = absurd cc
+rightly false false (Some presented) some e = absurd cc
+
+-- what is charged and isn't more than the balance can be paid
+affordable : (charge : ℕ) (balance : ℤ) → 0 < charge → (nat_lt 0 charge && int_lt balance (pos charge)) ≡ false → pos charge ≤ℤ balance
+affordable charge balance some enough =
+    elim (and_cases (nat_lt 0 charge) (int_lt balance (pos charge)) enough) [
+      | inl none ↦ absurd (let is : nat_lt 0 charge ≡ true = lt-ltb 0 charge some in let no : true ≡ false = sym is ∙ none in cc)
+      | inr less ↦ omega (arith, ints)
+    ]
+
+module _ (p : PolicyRules) (r t : ℕ) (f : Facts) where
+  -- the request's table has the row, or nothing of what is asked can meet the condition
+  abbrev IsAnswered : Condition → Request → Type 0
+  IsAnswered condition q = StandsIn (table_of q) condition ⊎ (holds p r t q f condition ≡ false)
+
+  -- where no row of its cause holds, the condition doesn't
+  by-row : (condition : Condition) (q : Request) → Clear p r t q f (cause_of condition) → IsAnswered condition q → holds p r t q f condition ≡ false
+  by-row condition q clear (inl stands) = clear condition stands refl
+  by-row condition q clear (inr free) = free
+
+  -- of a request that does the action, each of whose forms has the row
+  in-each : (condition : Condition) (a : Action) → OfEach (IsAnswered condition) a
+      → (q : Request) → Clear p r t q f (cause_of condition) → (asks_of q).action ≡ a → holds p r t q f condition ≡ false
+  in-each condition a each q clear is = by-row condition q clear (of-action (IsAnswered condition) a each q is)
+
+  -- of a request of one form, which has the row
+  in-form : (condition : Condition) (form : Request) → StandsIn (table_of form) condition
+      → (q : Request) → Clear p r t q f (cause_of condition) → q ≡ form → holds p r t q f condition ≡ false
+  in-form condition form stands q clear is = clear condition (subst (λ (it : Request). StandsIn (table_of it) condition) (sym is) stands) refl
+
+  names-given : (a : Action) → a ≢ actions.Check → OfEach (IsAnswered NameIsRefused) a
+  names-given actions.Check other = absurd (other refl)
+  names-given _ other = search (inl, inr) depth 20
+
+  lists-given : (a : Action) → OfEach (IsAnswered ListRepeats) a
+  lists-given actions.Check = search (inl, inr) depth 20
+  lists-given _ = search (inl, inr) depth 20
+
+  acting : (a : Action) → ActsOnObject a → OfEach (IsAnswered IsMissing) a
+  acting actions.Info is = search (inl, inr) depth 20
+  acting actions.Delete is = search (inl, inr) depth 20
+  acting actions.Update is = search (inl, inr) depth 20
+  acting actions.Renew is = search (inl, inr) depth 20
+  acting actions.RequestRestore is = search (inl, inr) depth 20
+  acting actions.ReportRestore is = search (inl, inr) depth 20
+  acting actions.RequestTransfer is = search (inl, inr) depth 20
+  acting actions.QueryTransfer is = search (inl, inr) depth 20
+  acting actions.ApproveTransfer is = search (inl, inr) depth 20
+  acting actions.RejectTransfer is = search (inl, inr) depth 20
+  acting actions.CancelTransfer is = search (inl, inr) depth 20
+  acting _ is = absurd is
+
+  altering : (a : Action) → Alters a → OfEach (IsAnswered IsAnothers) a
+  altering actions.Delete is = search (inl, inr) depth 20
+  altering actions.Update is = search (inl, inr) depth 20
+  altering actions.Renew is = search (inl, inr) depth 20
+  altering actions.RequestRestore is = search (inl, inr) depth 20
+  altering actions.ReportRestore is = search (inl, inr) depth 20
+  altering actions.ApproveTransfer is = search (inl, inr) depth 20
+  altering actions.RejectTransfer is = search (inl, inr) depth 20
+  altering _ is = absurd is
+
+  ending : (a : Action) → EndsTransfer a → OfEach (IsAnswered IsNotPending) a
+  ending actions.ApproveTransfer is = search (inl, inr) depth 20
+  ending actions.RejectTransfer is = search (inl, inr) depth 20
+  ending actions.CancelTransfer is = search (inl, inr) depth 20
+  ending _ is = absurd is
+
+  pub names-kept : (q : Request) → Clear p r t q f NamesRefused → NamesAreKept p q
+  names-kept q clear = record {
+    kept = λ other. by-row NameIsRefused q clear (of-each (IsAnswered NameIsRefused) q (names-given (asks_of q).action other));
+    once = by-row ListRepeats q clear (of-each (IsAnswered ListRepeats) q (lists-given (asks_of q).action));
+  }
+
+  pub nothing-exists : (q : Request) → Clear p r t q f Exists → NothingExists q f
+  nothing-exists q clear = record {
+    new = in-each IsThere actions.Create (search (inl, inr) depth 20) q clear;
+    untaken = λ u is. in-form NewNameIsTaken (UpdateHost u) (search (inl, inr) depth 20) q clear is;
+  }
+
+  pub nothing-missing : (q : Request) → Clear p r t q f Missing → NothingIsMissing p q f
+  nothing-missing q clear = record {
+    there = λ acts. there-is _ (by-row IsMissing q clear (of-each (IsAnswered IsMissing) q (acting (asks_of q).action acts)));
+    creates_linked = λ new is. in-form ReferenceIsMissing (CreateDomain new) (search (inl, inr) depth 20) q clear is;
+    updates_linked = λ u is. in-form ReferenceIsMissing (UpdateDomain u) (search (inl, inr) depth 20) q clear is;
+    creates_based = λ new is. in-form SuperordinateIsMissing (CreateHost new) (search (inl, inr) depth 20) q clear is;
+    updates_based = λ u is. in-form SuperordinateIsMissing (UpdateHost u) (search (inl, inr) depth 20) q clear is;
+    oldest = λ is. there-is _ (in-each IsNotOldest actions.PollAck (search (inl, inr) depth 20) q clear is);
+  }
+
+  pub entitled : (q : Request) → Clear p r t q f NotSponsor → IsEntitled p r q f
+  entitled q clear = record {
+    sponsor = λ alters. by-row IsAnothers q clear (of-each (IsAnswered IsAnothers) q (altering (asks_of q).action alters));
+    creates_below_own = λ new is. in-form SuperordinateIsAnothers (CreateHost new) (search (inl, inr) depth 20) q clear is;
+    updates_below_own = λ u is. in-form SuperordinateIsAnothers (UpdateHost u) (search (inl, inr) depth 20) q clear is;
+    involved = λ is. no-stranger (is_involved r q f) (asks_of q).secret (in-each IsStranger actions.QueryTransfer (search (inl, inr) depth 20) q clear is);
+    requester = λ is. there-is _ (in-each IsNotRequester actions.CancelTransfer (search (inl, inr) depth 20) q clear is);
+  }
+
+  pub secret-right : (q : Request) → Clear p r t q f WrongSecret → SecretIsRight r q f
+  secret-right q clear = record {
+    shows = in-each SecretIsWrong actions.Info (search (inl, inr) depth 20) q clear;
+    authorized = λ is. there-is _ (in-each SecretIsNotRight actions.RequestTransfer (search (inl, inr) depth 20) q clear is);
+    queries = λ is some. rightly (is_involved r q f) (presents_secret q f) (asks_of q).secret some (in-each StrangersSecretIsWrong actions.QueryTransfer (search (inl, inr) depth 20) q clear is);
+  }
+
+  pub no-transfer : (q : Request) → Clear p r t q f TransferPends → NoTransferIsPending q f
+  no-transfer q clear = record { not_twice = in-each IsPending actions.RequestTransfer (search (inl, inr) depth 20) q clear }
+
+  pub transfer-there : (q : Request) → Clear p r t q f NoTransferPends → TransferIsThere q f
+  transfer-there q clear = record {
+    known = λ is. some-is _ (in-each HasNoTransfer actions.QueryTransfer (search (inl, inr) depth 20) q clear is);
+    pending = λ ends. there-is _ (by-row IsNotPending q clear (of-each (IsAnswered IsNotPending) q (ending (asks_of q).action ends)));
+  }
+
+  pub no-status : (q : Request) → Clear p r t q f StatusProhibits → NoStatusProhibits p q f
+  no-status q clear = record {
+    client_delete = in-each (Shows ClientDeleteProhibited) actions.Delete (search (inl, inr) depth 20) q clear;
+    server_delete = in-each (Shows ServerDeleteProhibited) actions.Delete (search (inl, inr) depth 20) q clear;
+    client_update = in-each (StillShows ClientUpdateProhibited) actions.Update (search (inl, inr) depth 20) q clear;
+    server_update = in-each (Shows ServerUpdateProhibited) actions.Update (search (inl, inr) depth 20) q clear;
+    client_renew = in-each (Shows ClientRenewProhibited) actions.Renew (search (inl, inr) depth 20) q clear;
+    server_renew = in-each (Shows ServerRenewProhibited) actions.Renew (search (inl, inr) depth 20) q clear;
+    client_transfer = in-each (Shows ClientTransferProhibited) actions.RequestTransfer (search (inl, inr) depth 20) q clear;
+    server_transfer = in-each (Shows ServerTransferProhibited) actions.RequestTransfer (search (inl, inr) depth 20) q clear;
+    updates_contact = λ u is. record {
+      no_transfer = in-form (Shows PendingTransfer) (UpdateContact u) (search (inl, inr) depth 20) q clear is;
+      no_deletion = in-form (Shows PendingDelete) (UpdateContact u) (search (inl, inr) depth 20) q clear is;
+    };
+    updates_domain = λ u is. record {
+      no_transfer = in-form (Shows PendingTransfer) (UpdateDomain u) (search (inl, inr) depth 20) q clear is;
+      no_deletion = in-form (Shows PendingDelete) (UpdateDomain u) (search (inl, inr) depth 20) q clear is;
+    };
+    renews = λ is. record {
+      no_transfer = in-each (Shows PendingTransfer) actions.Renew (search (inl, inr) depth 20) q clear is;
+      no_deletion = in-each (Shows PendingDelete) actions.Renew (search (inl, inr) depth 20) q clear is;
+    };
+    deletes = in-each (Shows PendingTransfer) actions.Delete (search (inl, inr) depth 20) q clear;
+    deletes_once = λ name is. in-form (Shows PendingDelete) (DeleteDomain name) (search (inl, inr) depth 20) q clear is;
+    not_deleted = λ name secret is. in-form (Shows PendingDelete) (TransferDomain name ops.Request secret) (search (inl, inr) depth 20) q clear is;
+    creates_below = λ new is. in-form SuperordinateIsDeleted (CreateHost new) (search (inl, inr) depth 20) q clear is;
+    updates_below = λ u is. in-form SuperordinateIsDeleted (UpdateHost u) (search (inl, inr) depth 20) q clear is;
+    redeemable = λ is. there-is _ (in-each (IsNotIn Redemption) actions.RequestRestore (search (inl, inr) depth 20) q clear is);
+    restoring = λ is. there-is _ (in-each (IsNotIn Restoring) actions.ReportRestore (search (inl, inr) depth 20) q clear is);
+  }
+
+  pub no-association : (q : Request) → Clear p r t q f AssociationProhibits → NoAssociationProhibits q f
+  no-association q clear = record {
+    linked = in-each IsLinked actions.Delete (search (inl, inr) depth 20) q clear;
+    subordinates = in-each HasSubordinates actions.Delete (search (inl, inr) depth 20) q clear;
+  }
+
+  pub renewable : (q : Request) → Clear p r t q f NotRenewable → IsRenewable t q f
+  renewable q clear = record { ten_years = in-each PassesTenYears actions.Renew (search (inl, inr) depth 20) q clear }
+
+  pub transferable : (q : Request) → Clear p r t q f NotTransferable → IsTransferable p r t q f
+  transferable q clear = record {
+    not_own = in-each IsOwn actions.RequestTransfer (search (inl, inr) depth 20) q clear;
+    unlocked = in-each IsLocked actions.RequestTransfer (search (inl, inr) depth 20) q clear;
+  }
+
+  pub parameters-fit : (q : Request) → Clear p r t q f ParametersRefused → ParametersFit p q f
+  parameters-fit q clear = record {
+    adds = in-each AddsWhatIsThere actions.Update (search (inl, inr) depth 20) q clear;
+    removes = in-each RemovesWhatIsNot actions.Update (search (inl, inr) depth 20) q clear;
+    creates_within = in-each LeavesTooMany actions.Create (search (inl, inr) depth 20) q clear;
+    updates_within = in-each LeavesTooMany actions.Update (search (inl, inr) depth 20) q clear;
+    creates_inside = in-each LeavesAddressesOutside actions.Create (search (inl, inr) depth 20) q clear;
+    updates_inside = in-each LeavesAddressesOutside actions.Update (search (inl, inr) depth 20) q clear;
+    expires = in-each ExpiresOtherwise actions.Renew (search (inl, inr) depth 20) q clear;
+    reported = in-each ReportDiffers actions.ReportRestore (search (inl, inr) depth 20) q clear;
+  }
+
+  pub holds-no-more : (q : Request) → Clear p r t q f LimitReached → HoldsNoMore q f
+  holds-no-more q clear = record {
+    creates = λ new is. in-form IsAtHoldingLimit (CreateDomain new) (search (inl, inr) depth 20) q clear is;
+    takes = λ name secret is. in-form IsAtHoldingLimit (TransferDomain name ops.Request secret) (search (inl, inr) depth 20) q clear is;
+  }
+
+  charged : (q : Request) → 0 < charge_of p t q f → StandsIn (table_of q) LacksMoney
+  charged (CreateDomain new) some = search (inl, inr) depth 20
+  charged (RenewDomain name expires years) some = search (inl, inr) depth 20
+  charged (ReportRestore name del_time res_time) some = search (inl, inr) depth 20
+  charged (TransferDomain name ops.Request secret) some = search (inl, inr) depth 20
+  charged (TransferContact name ops.Request secret) some = absurd (omega arith)
+  charged _ some = absurd (omega arith)
+
+  pub paid : (q : Request) → Clear p r t q f BillingFailure → IsPaid p t q f
+  paid q clear = record { paid = λ some. affordable _ _ some (clear LacksMoney (charged q some) refl) }

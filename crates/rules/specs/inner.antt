@@ -1,0 +1,3 @@
+-- Words that this crate's own functions are told by, and that no promise of the registry names.
+pub mod Cases
+pub mod Told
