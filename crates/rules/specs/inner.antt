@@ -1,3 +1,3 @@
--- Words that this crate's own functions are told by, and that no promise of the registry names.
+-- Words for this crate's own functions, which no promise of the registry names.
 pub mod Cases
 pub mod Told
