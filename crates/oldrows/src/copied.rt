@@ -50,7 +50,7 @@ pub trait Copied: Record {
     fn all<S: Alter>(from: &mut OldRows<S>) -> Result<Seq<Self>, BookFault>
         ensures { Finds result (table.rows_of from.old.content) from.old from.new };
 
-    /// Puts the row in the place of the one with its number, or beside all others.
+    /// Puts the row in the place of the one with its number, or after all others.
     fn put<S: Alter>(&self, store: &mut RowStore<S>) -> Result<(), BookFault>
         requires { store.old.is_open ≡ true }
         ensures { Makes result (table.rows_to (λ xs. insert_by table.key xs self.now)

@@ -39,7 +39,7 @@ fn copy<R: Copied, S: Alter, T: Alter>(
     put_all(to, rows.as_slice())
 }
 
-/// Puts rows, each in the place of the one with its number, or beside all others.
+/// Puts rows, each in the place of the one with its number, or after all others.
 pub fn put_all<R: Copied, T: Alter>(to: &mut RowStore<T>, rows: &[R]) -> Result<(), BookFault>
     requires { to.old.is_open ≡ true }
     ensures { Makes result (R.table.rows_to (put_all R.table.key rows.now) to.old.content) to.old

@@ -1,4 +1,4 @@
--- The cause that each condition is, wherever it stands (RFC 5730, 3).
+-- The cause that each condition is, wherever it is (RFC 5730, 3).
 use Rattle.rules.specs.declared.order.OrderCondition.{OrderCondition}
 use Rattle.rules.specs.declared.order.OrderCondition.TheVariants as orders
 use Rattle.rules.specs.declared.refusal.Cause.{Cause}

@@ -20,6 +20,6 @@ goes_at_once (Some (Public face)) = false
 abbrev pub code_of_deletion : Option (Seen FullDomain DomainFace) → Code
 code_of_deletion seen = if goes_at_once seen then Completed else CompletedActionPending
 
--- its sponsor is told what it gets back
+-- its sponsor learns what it gets back
 abbrev pub deleted : DomainFacts → Deleted
 deleted known = record { name = known.name; refund = known.given_back.cents }

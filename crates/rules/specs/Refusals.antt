@@ -21,7 +21,7 @@ code_of ParametersRefused = codes.ParameterPolicy
 code_of LimitReached = codes.DataManagementPolicy
 code_of BillingFailure = codes.BillingFailure
 
--- a cause's place in the order in which they answer; the session and the form of a command stand
+-- a cause's place in the order in which they answer; the session and the form of a command are
 -- first and second
 abbrev pub place_of : Cause → ℕ
 place_of NamesRefused = 3
@@ -39,7 +39,7 @@ place_of ParametersRefused = 14
 place_of LimitReached = 15
 place_of BillingFailure = 16
 
--- the conditions of a table stand in the order of their causes, from one place on
+-- the conditions of a table are in the order of their causes, from one place on
 abbrev pub in_order_from : {C : Type 0} → (C → Cause) → ℕ → List C → Bool
 in_order_from cause place [] = true
 in_order_from cause place (condition ∷ rest) =

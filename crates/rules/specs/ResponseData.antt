@@ -1,4 +1,4 @@
--- What an accepted command is told (RFC 5731 to 5733, 3.1 and 3.2).
+-- The data of an accepted command (RFC 5731 to 5733, 3.1 and 3.2).
 use Rattle.std.specs.Prelude.{ℕ, Bool, List, [], map, Option, Some, None, is_some, option_map, option_and_then, unwrap_or, if◌then◌else◌, ◌==◌}
 use Rattle.calendar.specs.Moment.{plus_years, capped}
 use Rattle.names.specs.RequestedName.{RequestedName, name_of}
@@ -56,7 +56,7 @@ id_of p r = unwrap_or (id_at p r) []
 abbrev pub in_use : Bool → Option Reason
 in_use taken = if taken then Some InUse else None
 
--- why a name can't be created, told whether the zone refuses it, and whether it is taken
+-- why a name can't be created, given whether the zone refuses it, and whether it is taken
 abbrev pub reason_of : Bool → Bool → Option Reason
 reason_of refused taken = if refused then Some Policy else in_use taken
 
@@ -98,7 +98,7 @@ renewed charge name years d =
 abbrev pub renewed_at : ℕ → RequestedName → ℕ → Facts → Option Renewed
 renewed_at charge name years f = option_map (renewed charge name years) (option_and_then domain_in_full (domain_seen f (name_of name)))
 
--- ---- info of contacts and domains: the sponsor is told all; who presents the right secret all but
+-- ---- info of contacts and domains: the sponsor gets all; who presents the right secret all but
 -- the secret; another the face
 
 abbrev pub transfer_info : PolicyRules → Transfer → TransferInfo
@@ -169,7 +169,7 @@ abbrev pub transferred_data : PolicyRules → List ℕ → Option ℕ → Option
 transferred_data p name charge after =
     option_map told.Transferred (option_map (transferred p name charge) after)
 
--- ---- info of hosts: all are told all
+-- ---- info of hosts: all get all
 
 abbrev pub host_info : PolicyRules → HostFacts → Host → HostInfo
 host_info p known h = let sponsor : ℕ = unwrap_or (host_sponsor p.zone known h) 0 in record { face = host_face_of sponsor known.linked h; sponsor = id_of p sponsor }

@@ -1,4 +1,4 @@
--- How the last transfer of an object stands after an operation on it, and what the caller is told
+-- The last transfer of an object after an operation on it, and what the caller is answered
 -- (RFC 5730, 2.9.2.4 and 2.9.3.4).
 use Rattle.std.specs.Prelude.{ℕ, Option, Some, None, option_map, if◌then◌else◌}
 use Rattle.lifecycle.specs.Transfers.{ended, requested}
@@ -60,6 +60,6 @@ domain_after p r t op seen =
 abbrev pub code_of_transfer : TransferOp → Code
 code_of_transfer op = if is_request op then CompletedActionPending else Completed
 
--- the charge is told where it is made
+-- the charge is in the reply where it is made
 abbrev pub charge_told : TransferOp → ℕ → Option ℕ
 charge_told op charge = if is_request op then Some charge else None

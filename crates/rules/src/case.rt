@@ -1,4 +1,4 @@
-//! A command beside the facts that bear on it, and the conditions that hold of the two.
+//! A command with the facts that bear on it, and the conditions that hold of the two.
 ghost use Rattle.std.specs.Prelude.{◌≡◌, find, option_and_then};
 ghost use Rattle.std.specs.Option.{option_copied};
 ghost use Rattle.protocol.specs.Requests as requests;

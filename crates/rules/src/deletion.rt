@@ -48,7 +48,7 @@ pub(crate) fn code_granted(request: &Request, facts: &Facts) -> Code
     }
 }
 
-/// What the sponsor of the domain is told.
+/// The data for the sponsor of the domain.
 pub(crate) fn deleted_data(known: Option<&DomainFacts>) -> Result<Option<Data>, AllocError>
     ensures { IfOk result (λ content. content ≡ told.deleted_data known.entry) }
 {

@@ -5,7 +5,7 @@ ghost use Rattle.rules.specs.Refusals as spec;
 use protocol::Code;
 
 /// A cause of refusal, with its code and its place: an earlier cause answers before a later one.
-/// What stands before them all, the session and the form of the command, is looked at before a
+/// What comes before them all, the session and the form of the command, is checked before a
 /// command reaches the rules.
 #[derive(Clone, Copy, Drop)]
 pub enum Cause {

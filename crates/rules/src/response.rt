@@ -1,4 +1,4 @@
-//! What an accepted command is told.
+//! The data of an accepted command.
 ghost use Rattle.std.specs.Prelude.{◌≡◌, IfOk, map, option_map, unwrap_or};
 ghost use Rattle.std.specs.Option.{option_copied};
 ghost use Rattle.rules.specs.ResponseData as spec;
@@ -33,7 +33,7 @@ use protocol::{
 };
 use std::alloc::{AllocError, Global};
 
-/// What an accepted command is told.
+/// The data of an accepted command.
 pub(crate) fn response_data(
     alloc: Global,
     facts: &Facts,
@@ -114,7 +114,7 @@ fn in_use(taken: bool) -> Option<Reason>
     if taken { Some(Reason::InUse) } else { None }
 }
 
-/// Why a name can't be created, told whether the zone refuses it, and whether it is taken.
+/// Why a name can't be created, given whether the zone refuses it, and whether it is taken.
 fn reason_against(refused: bool, taken: bool) -> Option<Reason>
     ensures { result ≡ spec.reason_of refused taken }
 {

@@ -1,5 +1,5 @@
 //! The rules: the conditions on which each command is refused. A condition has one cause, wherever
-//! it stands (RFC 5730, 3), and the conditions of a table stand in the order of their causes: the
+//! it is (RFC 5730, 3), and the conditions of a table are in the order of their causes: the
 //! first that holds answers.
 ghost use Rattle.std.specs.Prelude.{◌≡◌, IsTrue};
 ghost use Rattle.rules.specs.Causes.{cause_of};

@@ -1,4 +1,4 @@
-//! Transfers of contacts and domains: the conditions on them, and how the last one stands after an
+//! Transfers of contacts and domains: the conditions on them, and the state of the last one after an
 //! operation on it (RFC 5730, 2.9.2.4 and 2.9.3.4).
 ghost use Rattle.std.specs.Prelude.{◌≡◌, IfOk, is_none, not, option_and_then, option_map};
 ghost use Rattle.std.specs.Option.{option_copied};
@@ -31,7 +31,7 @@ fn ended_of(state: TransferState, moment: Moment, last: Option<Transfer>) -> Opt
     }
 }
 
-/// How the last transfer of an object stands after a registrar's operation on it at the moment. The
+/// The last transfer of an object after a registrar's operation on it at the moment. The
 /// object has the sponsor.
 pub fn transfer_after(
     op: TransferOp,
@@ -74,7 +74,7 @@ fn sponsor_seen<O: Sponsored, F: Faced>(seen: &Seen<O, F>) -> RegistrarNo
     }
 }
 
-/// How the last transfer of what is seen stands after the caller's operation.
+/// The last transfer of what is seen after the caller's operation.
 pub(crate) fn seen_after<O: Sponsored, F: Faced>(
     op: TransferOp,
     caller: RegistrarNo,
@@ -112,7 +112,7 @@ pub(crate) fn charge_told(op: TransferOp, charge: u64) -> Option<u64>
     if op.is_request() { Some(charge) } else { None }
 }
 
-/// How the transfer stands, if there is one.
+/// The state of the transfer, if there is one.
 pub(crate) fn transferred_data(
     alloc: Global,
     policy: &Policy,

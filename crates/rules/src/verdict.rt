@@ -14,7 +14,7 @@ use policy::Policy;
 use protocol::{Code, Command, Data, Request};
 use std::alloc::{AllocError, Global};
 
-/// The code that a command is answered, and what it is told.
+/// The code that a command is answered, and its data.
 #[derive(Drop)]
 pub struct Verdict {
     pub code: Code,

@@ -1,4 +1,4 @@
--- What is told of an object, if it is there.
+-- The data of an object, if it is there.
 use Rattle.std.specs.Prelude.{ℕ, List, Option, option_and_then, option_map}
 use Rattle.std.specs.Borrow.{Bor}
 use Rattle.std.specs.Option.{option_copied}
@@ -23,7 +23,7 @@ use Rattle.rules.specs.Deletion.{deleted}
 use Rattle.rules.specs.Poll.{polled}
 use Rattle.rules.specs.ResponseData.{contact_info_at, domain_info_at, domain_result, host_info_at, host_result, renewed}
 
--- of a name of what it is to name
+-- of a name, by the kind that it is to name
 abbrev pub name_result : Named → ZoneRules → Facts → RequestedName → CheckResult
 name_result names.OfDomain = domain_result
 name_result names.OfHost = host_result
