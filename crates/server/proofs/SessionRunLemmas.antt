@@ -1,10 +1,11 @@
 -- The frames of a session are answered one after another, and that is a run.
-use Rattle.std.proofs.Common.{◌≡◌, ◌⊎◌, inl, inr, ℕ, zero, suc, Bool, true, false, true≢false, List, [], ◌∷◌, ◌++◌, map, take, drop, Option, Some, None, refl, sym, ap, subst, ◌∙◌, append_assoc, append-nil}
-use Rattle.std.specs.Prelude.{if◌then◌else◌}
+use Rattle.std.proofs.Common.{◌≡◌, ◌⊎◌, inl, inr, ℕ, zero, suc, Bool, true, false, ◌&&◌, true≢false, List, [], ◌∷◌, ◌++◌, map, take, drop, Option, Some, None, refl, sym, ap, subst, ◌∙◌, append_assoc, append-nil}
+use Rattle.std.specs.Prelude.{if◌then◌else◌, IfSome}
 use Rattle.std.proofs.lemmas.Bool.{and_parts}
 use Rattle.std.proofs.lemmas.Grind.{flat_map-append}
 use Rattle.eppcommands.specs.Session.{before_login, in_session}
-use Rattle.frames.specs.Frames.{frame}
+use Rattle.frames.specs.Clocks as clocks
+use Rattle.frames.specs.Frames.{Ending, Takes, bad_length, closed, cut, frame, front, over, whole}
 use Rattle.frames.specs.Texts.{closing_text}
 use Rattle.eppreplies.specs.Reply.{reply_text}
 use Rattle.eppwire.specs.Answers.{AnswersHello, AnswersOpening, AnswersRegistrar, AnswersSaid, AnswersStranger, GivesUp, Tells, is_last}
@@ -19,12 +20,12 @@ use Rattle.protocol.specs.declared.session.InSession.{InSession}
 use Rattle.protocol.specs.declared.session.InSession.TheVariants as within
 use Rattle.runs.specs.Runs.{IsRun}
 use Rattle.runs.proofs.SettlementLemmas.{answers-are-determined}
-use Rattle.frames.specs.Outcomes.{Outcome, ended, failed, lost, replied, sent}
-use Rattle.frames.specs.Sessions.{Ends, IsTurn, Rests, Run, SessionState, Turn, frames}
+use Rattle.frames.specs.Outcomes.{Outcome, end_with, ended, failed, lost, replied, sent}
+use Rattle.frames.specs.Sessions.{Ends, IsAt, IsTurn, Rests, Run, SessionState, Turn, frames}
 use Rattle.frames.specs.declared.session.SessionEnd.{SessionEnd}
 use Rattle.frames.specs.declared.session.SessionEnd.TheVariants.{Logout, End, Cut, Length, ReadFault, WriteFault, Lost}
 use Rattle.server.specs.Connections.{AnswersAt, Desk}
-use Rattle.server.specs.SessionRuns.{AreAnswered, IsAnsweredAll, SessionsAreAnswered, SessionsAreRuns, SessionsAreSentTheSame, are_sent, asked_by, asked_over, caller_after, caller_with, has_failed, has_text, outcome_before, outcome_by, outcome_told, question_within, questions_before, questions_said}
+use Rattle.server.specs.SessionRuns.{AreAnswered, AreHeard, IsAnsweredAll, IsLeftAt, IsWritten, SessionsAreAlike, SessionsAreAnswered, SessionsAreRuns, SessionsAreSentTheSame, are_sent, is_calm, asked_by, asked_over, caller_after, caller_with, has_failed, has_text, outcome_before, outcome_by, outcome_told, question_within, questions_before, questions_said}
 use Rattle.books.specs.Book.{BookState, Follows, Stored}
 
 -- ---- one frame
@@ -185,6 +186,13 @@ answered-on p (turn ∷ turns) rest old mid new (goes, next, is, run) clean more
     let one = one-turn p old.peer.caller next.peer.caller turn old.peer.book next.peer.book is.outcome ((run-follows p turns next mid run).clean clean) in
     (one.answers, next.peer.book.content.registry, one.run, one.told, subst (λ (c : Option ℕ). AreAnswered p c (turns ++ rest) next.peer.book.content.registry new) one.sender (answered-on p turns rest next mid new run clean more))
 
+-- those that were heard in a run, and some that are behind them
+heard-on : (p : PolicyRules) (turns rest : List Turn) (old mid : SessionState Desk) (input clock : Option (List ℕ)) → Run (AnswersAt p) turns old mid
+    → AreHeard rest mid.input mid.clock input clock → AreHeard (turns ++ rest) old.input old.clock input clock
+heard-on p [] rest old mid input clock same more = subst (λ (s : SessionState Desk). AreHeard rest s.input s.clock input clock) same more
+heard-on p (turn ∷ turns) rest old mid input clock (goes, next, is, run) more =
+    (next.input, next.clock, is.payload, is.moment, heard-on p turns rest next mid input clock run more)
+
 answered-last : (p : PolicyRules) (turn : Turn) (old new : SessionState Desk) → IsTurn (AnswersAt p) turn old new → new.peer.book.is_clean ≡ true
     → AreAnswered p old.peer.caller (turn ∷ []) old.peer.book.content.registry new.peer.book.content.registry
 answered-last p turn old new is clean =
@@ -193,65 +201,75 @@ answered-last p turn old new is clean =
 
 -- ---- what was written
 
-abbrev Begins : List ℕ → List ℕ → Type 0
-Begins xs whole = (n : ℕ) × (xs ≡ take n whole)
-
-begins-whole : (xs : List ℕ) → Begins xs xs
-begins-whole [] = (zero, refl)
-begins-whole (x ∷ xs) = let it = begins-whole xs in (suc it.0, ap (λ l. x ∷ l) it.1)
-
-begins-longer : (n : ℕ) (xs zs : List ℕ) → Begins (take n xs) (xs ++ zs)
+begins-longer : (n : ℕ) (xs zs : List ℕ) → (m : ℕ) × (take n xs ≡ take m (xs ++ zs))
 begins-longer zero xs zs = (zero, refl)
 begins-longer (suc n) [] zs = (zero, refl)
 begins-longer (suc n) (x ∷ xs) zs = let it = begins-longer n xs zs in (suc it.0, ap (λ l. x ∷ l) it.1)
 
-begins-behind : (us xs whole : List ℕ) → Begins xs whole → Begins (us ++ xs) (us ++ whole)
-begins-behind [] xs whole it = it
-begins-behind (u ∷ us) xs whole it = let more = begins-behind us xs whole it in (suc more.0, ap (λ l. u ∷ l) more.1)
+begins-after : (us xs all : List ℕ) (n : ℕ) → xs ≡ take n all → (m : ℕ) × (us ++ xs ≡ take m (us ++ all))
+begins-after [] xs all n e = (n, e)
+begins-after (u ∷ us) xs all n e = let more = begins-after us xs all n e in (suc more.0, ap (λ l. u ∷ l) more.1)
 
 frames-last : (turns : List Turn) (turn : Turn) → frames (turns ++ turn ∷ []) ≡ frames turns ++ frame (sent turn.outcome)
 frames-last turns turn = flat_map-append (λ (t : Turn). frame (sent t.outcome)) turns (turn ∷ []) ∙ ap (λ l. frames turns ++ l) (append-nil (frame (sent turn.outcome)))
 
 module _ (p : PolicyRules) (turns : List Turn) (old mid new : SessionState Desk) (written last : List ℕ) (run : Run (AnswersAt p) turns old mid) (bytes : written ≡ frames turns ++ last) (clean : new.peer.book.is_clean ≡ true) where
-  -- the peer wasn't asked again, and the closing text, or a beginning of it, was sent, or nothing
-  resting : Rests mid new → Begins last (frame closing_text) → IsAnsweredAll p old.peer written new.peer
-  resting rests begins =
-      let it = begins-behind (frames turns) last (frame closing_text) begins in
+  alone : last ≡ [] → written ≡ frames turns
+  alone none = bytes ∙ ap (λ l. frames turns ++ l) none ∙ append-nil (frames turns)
+
+  -- the peer wasn't asked again
+  resting : (end : SessionEnd) → Rests mid new → IsLeftAt end mid.input → IsWritten end turns written → IsAnsweredAll p old written end new
+  resting end rests left wrote =
       let peer = sym rests.peer in
       record {
-        turns = turns ++ [];
-        answered = subst (λ (d : Desk). AreAnswered p old.peer.caller (turns ++ []) old.peer.book.content.registry d.book.content.registry) peer
-            (answered-on p turns [] old mid mid.peer.book.content.registry run (ap (λ (d : Desk). d.book.is_clean) peer ∙ clean) refl);
-        length = it.0;
-        bytes = bytes ∙ it.1 ∙ ap (λ (ts : List Turn). take it.0 (frames ts ++ frame closing_text)) (sym (append-nil turns));
+        turns = turns;
+        rest = mid.input;
+        heard = subst (λ (ts : List Turn). AreHeard ts old.input old.clock mid.input new.clock) (append-nil turns) (heard-on p turns [] old mid mid.input new.clock run (refl, rests.clock));
+        left = left;
+        answered = subst (λ (ts : List Turn). AreAnswered p old.peer.caller ts old.peer.book.content.registry new.peer.book.content.registry) (append-nil turns)
+            (subst (λ (d : Desk). AreAnswered p old.peer.caller (turns ++ []) old.peer.book.content.registry d.book.content.registry) peer
+            (answered-on p turns [] old mid mid.peer.book.content.registry run (ap (λ (d : Desk). d.book.is_clean) peer ∙ clean) refl));
+        bytes = wrote;
       }
 
-  -- one frame more was answered, and what is sent for it, or a beginning of it
-  ending : (turn : Turn) → IsTurn (AnswersAt p) turn mid new → (n : ℕ) → last ≡ take n (frame (sent turn.outcome)) → IsAnsweredAll p old.peer written new.peer
-  ending turn is n cut =
+  -- one frame more was answered
+  ending : (end : SessionEnd) (turn : Turn) → IsTurn (AnswersAt p) turn mid new → IsLeftAt end new.input → IsWritten end (turns ++ turn ∷ []) written → IsAnsweredAll p old written end new
+  ending end turn is left wrote = record {
+    turns = turns ++ turn ∷ [];
+    rest = new.input;
+    heard = heard-on p turns (turn ∷ []) old mid new.input new.clock run (new.input, new.clock, is.payload, is.moment, (refl, refl));
+    left = left;
+    answered = answered-on p turns (turn ∷ []) old mid new.peer.book.content.registry run ((turn-follows p turn mid new is).clean clean) (answered-last p turn mid new is clean);
+    bytes = wrote;
+  }
+
+  all-sent : (turn : Turn) → last ≡ frame (sent turn.outcome) → written ≡ frames (turns ++ turn ∷ [])
+  all-sent turn full = bytes ∙ ap (λ l. frames turns ++ l) full ∙ sym (frames-last turns turn)
+
+  -- a beginning of its reply, or of the closing text
+  some-sent : (turn : Turn) (n : ℕ) → last ≡ take n (frame (sent turn.outcome)) → (m : ℕ) × (written ≡ take m (frames (turns ++ turn ∷ []) ++ frame closing_text))
+  some-sent turn n some =
       let f : List ℕ = frame (sent turn.outcome) in
-      let it = begins-behind (frames turns) (take n f) (f ++ frame closing_text) (begins-longer n f (frame closing_text)) in
-      record {
-        turns = turns ++ turn ∷ [];
-        answered = answered-on p turns (turn ∷ []) old mid new.peer.book.content.registry run ((turn-follows p turn mid new is).clean clean) (answered-last p turn mid new is clean);
-        length = it.0;
-        bytes = bytes ∙ ap (λ (l : List ℕ). frames turns ++ l) cut ∙ it.1
-            ∙ ap (take it.0) (sym (append_assoc (frames turns) f (frame closing_text)) ∙ ap (λ (l : List ℕ). l ++ frame closing_text) (sym (frames-last turns turn)));
-      }
+      let longer = begins-longer n f (frame closing_text) in
+      let it = begins-after (frames turns) last (f ++ frame closing_text) longer.0 (some ∙ longer.1) in
+      (it.0, bytes ∙ it.1 ∙ ap (take it.0) (sym (append_assoc (frames turns) f (frame closing_text)) ∙ ap (λ (l : List ℕ). l ++ frame closing_text) (sym (frames-last turns turn))))
 
-  ending-whole : (turn : Turn) → IsTurn (AnswersAt p) turn mid new → last ≡ frame (sent turn.outcome) → IsAnsweredAll p old.peer written new.peer
-  ending-whole turn is all = let it = begins-whole (frame (sent turn.outcome)) in ending turn is it.0 (all ∙ it.1)
+  some-closing : (n : ℕ) → last ≡ take n (frame closing_text) → (m : ℕ) × (written ≡ take m (frames turns ++ frame closing_text))
+  some-closing n some = let it = begins-after (frames turns) last (frame closing_text) n some in (it.0, bytes ∙ it.1)
 
-  ends-answered : (end : SessionEnd) → Ends (AnswersAt p) end turns mid last new → IsAnsweredAll p old.peer written new.peer
-  ends-answered End e = resting e.2 (zero, e.1)
-  ends-answered Cut e = resting e.2 (zero, e.1)
-  ends-answered ReadFault e = resting e.1 (zero, e.0)
-  ends-answered Length e = let it = begins-whole (frame closing_text) in resting e.2 (it.0, e.1 ∙ it.1)
-  ends-answered Logout e = ending-whole e.0 e.1 e.3
-  ends-answered Lost (inl e) = ending-whole e.0 e.1 e.3
-  ends-answered Lost (inr e) = let it = begins-whole (frame closing_text) in resting e.2 (it.0, e.1 ∙ it.1)
-  ends-answered WriteFault (inl e) = ending e.1 e.2 e.0 e.3
-  ends-answered WriteFault (inr e) = resting e.3 (e.0, e.2)
+  none-before : turns ≡ [] → last ≡ frame closing_text → written ≡ frame closing_text
+  none-before none full = bytes ∙ ap (λ (ts : List Turn). frames ts ++ last) none ∙ full
+
+  ends-answered : (end : SessionEnd) → Ends (AnswersAt p) end turns mid last new → IsAnsweredAll p old written end new
+  ends-answered End e = resting End e.2 e.0 (alone e.1)
+  ends-answered Cut e = resting Cut e.2 e.0 (alone e.1)
+  ends-answered ReadFault e = resting ReadFault e.1 tt (alone e.0)
+  ends-answered Length e = resting Length e.2 e.0 (bytes ∙ ap (λ l. frames turns ++ l) e.1)
+  ends-answered Logout e = ending Logout e.0 e.1 tt (all-sent e.0 e.3)
+  ends-answered Lost (inl e) = ending Lost e.0 e.1 tt (inl (all-sent e.0 e.3))
+  ends-answered Lost (inr e) = resting Lost e.2 tt (inr (e.0, none-before e.0 e.1))
+  ends-answered WriteFault (inl e) = ending WriteFault e.1 e.2 tt (some-sent e.1 e.0 e.3)
+  ends-answered WriteFault (inr e) = resting WriteFault e.3 tt (some-closing e.0 e.2)
 
 pub sessions-are-answered : SessionsAreAnswered
 sessions-are-answered p old new written end s clean = ends-answered p s.turns old s.reached new written s.last s.run s.bytes clean end s.ends
@@ -308,3 +326,211 @@ sessions-are-sent-the-same p caller (a ∷ xs) (b ∷ ys) s t x y same (firsts, 
     let rest = sessions-are-sent-the-same p (caller_after p caller a) xs ys u v x y answered.1 more
     (subst (λ (c : Option ℕ). AreAnswered p c ys v y) (sym (ap (caller_after p caller) turns)) more2) (ap (drop 1) alike) both.1 both2.1 in
     ((λ i. turns i ∷ rest.0 i), rest.1)
+
+-- ---- sessions with the same input
+
+takes-once : (input xs ys : List ℕ) (c d : Option (List ℕ)) → Takes xs (Some input) c → Takes ys (Some input) d → (xs ≡ ys) × (rest : List ℕ) × (c ≡ Some rest) × (d ≡ Some rest)
+takes-once input xs ys None d one two = absurd one
+takes-once input xs ys (Some r) None one two = absurd two
+takes-once input xs ys (Some r) (Some s) one two =
+    let same : whole xs r ≡ whole ys s = sym one ∙ two in
+    let payloads : xs ≡ ys = cc in
+    let rests : s ≡ r = cc in
+    (payloads, r, refl, ap Some rests)
+
+tells-once : (clock : List ℕ) (m n : ℕ) (c d : Option (List ℕ)) → clocks.Tells (Some clock) c m → clocks.Tells (Some clock) d n → (m ≡ n) × (rest : List ℕ) × (c ≡ Some rest) × (d ≡ Some rest)
+tells-once [] m n c d one two = (one.0 ∙ sym two.0, [], one.1, two.1)
+tells-once (next ∷ later) m n c d one two = (one.0 ∙ sym two.0, later, one.1, two.1)
+
+-- two sessions that have come equally far
+record AreEven (p : PolicyRules) (a b : SessionState Desk) : Type 0 where
+  pub input : List ℕ
+  pub clock : List ℕ
+  pub first_input : a.input ≡ Some input
+  pub second_input : b.input ≡ Some input
+  pub first_clock : a.clock ≡ Some clock
+  pub second_clock : b.clock ≡ Some clock
+  pub caller : a.peer.caller ≡ b.peer.caller
+  pub held : now p a.peer.book.content.registry ≡ now p b.peer.book.content.registry
+
+-- take the same frame at the same moment, and are even again
+even-turn : (p : PolicyRules) (x y : Turn) (a b c d : SessionState Desk) → AreEven p a b → IsTurn (AnswersAt p) x a c → IsTurn (AnswersAt p) y b d
+    → c.peer.book.is_clean ≡ true → d.peer.book.is_clean ≡ true → has_text x.outcome ≡ true → has_text y.outcome ≡ true → (x ≡ y) × AreEven p c d
+even-turn p x y a b c d even one two clean clean2 text text2 =
+    let frame-taken = takes-once even.input x.payload y.payload c.input d.input
+    (subst (λ (i : Option (List ℕ)). Takes x.payload i c.input) even.first_input one.payload)
+    (subst (λ (i : Option (List ℕ)). Takes y.payload i d.input) even.second_input two.payload) in
+    let moment-told = tells-once even.clock x.moment y.moment c.clock d.clock
+    (subst (λ (i : Option (List ℕ)). clocks.Tells i c.clock x.moment) even.first_clock one.moment)
+    (subst (λ (i : Option (List ℕ)). clocks.Tells i d.clock y.moment) even.second_clock two.moment) in
+    let both = sessions-are-sent-the-same p a.peer.caller (x ∷ []) (y ∷ []) a.peer.book.content.registry b.peer.book.content.registry c.peer.book.content.registry d.peer.book.content.registry even.held
+    (answered-last p x a c one clean)
+    (subst (λ (r : Option ℕ). AreAnswered p r (y ∷ []) b.peer.book.content.registry d.peer.book.content.registry) (sym even.caller) (answered-last p y b d two clean2))
+    (λ i. (moment-told.0 i, frame-taken.0 i) ∷ []) (ap (λ (t : Bool). t && true) text) (ap (λ (t : Bool). t && true) text2) in
+    let turns : x ≡ y = cc in
+    let first = one-turn p a.peer.caller c.peer.caller x a.peer.book c.peer.book one.outcome clean in
+    let second = one-turn p b.peer.caller d.peer.caller y b.peer.book d.peer.book two.outcome clean2 in (
+      turns,
+      record {
+        input = frame-taken.1;
+        clock = moment-told.1;
+        first_input = frame-taken.2;
+        second_input = frame-taken.3;
+        first_clock = moment-told.2;
+        second_clock = moment-told.3;
+        caller = first.sender ∙ (λ i. caller_after p (even.caller i) (turns i)) ∙ sym second.sender;
+        held = both.1;
+      },
+    )
+
+-- how a session ends that isn't disturbed: by its input, or by a logout
+abbrev last_text : Ending → List ℕ
+last_text closed = []
+last_text cut = []
+last_text bad_length = frame closing_text
+
+abbrev end_at : Ending → SessionEnd
+end_at closed = End
+end_at cut = Cut
+end_at bad_length = Length
+
+record IsOver (mid : SessionState Desk) (last : List ℕ) (end : SessionEnd) (new : SessionState Desk) : Type 0 where
+  pub ending : Ending
+  pub at : IsAt ending mid
+  pub last_is : last ≡ last_text ending
+  pub end_is : end ≡ end_at ending
+  pub rests : Rests mid new
+
+record IsLoggedOut (p : PolicyRules) (mid : SessionState Desk) (last : List ℕ) (end : SessionEnd) (new : SessionState Desk) : Type 0 where
+  pub turn : Turn
+  pub is : IsTurn (AnswersAt p) turn mid new
+  pub ends : end_with turn.outcome ≡ Some Logout
+  pub last_is : last ≡ frame (sent turn.outcome)
+  pub end_is : end ≡ Logout
+
+abbrev IsCalmEnd : PolicyRules → SessionState Desk → List ℕ → SessionEnd → SessionState Desk → Type 0
+IsCalmEnd p mid last end new = IsOver mid last end new ⊎ IsLoggedOut p mid last end new
+
+calm-end : (p : PolicyRules) (turns : List Turn) (mid new : SessionState Desk) (last : List ℕ) (end : SessionEnd) → Ends (AnswersAt p) end turns mid last new → is_calm end ≡ true → IsCalmEnd p mid last end new
+calm-end p turns mid new last End e calm = inl (record { ending = closed; at = e.0; last_is = e.1; end_is = refl; rests = e.2 })
+calm-end p turns mid new last Cut e calm = inl (record { ending = cut; at = e.0; last_is = e.1; end_is = refl; rests = e.2 })
+calm-end p turns mid new last Length e calm = inl (record { ending = bad_length; at = e.0; last_is = e.1; end_is = refl; rests = e.2 })
+calm-end p turns mid new last Logout e calm = inr (record { turn = e.0; is = e.1; ends = e.2; last_is = e.3; end_is = refl })
+calm-end p turns mid new last ReadFault e calm = absurd (true≢false (sym calm))
+calm-end p turns mid new last WriteFault e calm = absurd (true≢false (sym calm))
+calm-end p turns mid new last Lost e calm = absurd (true≢false (sym calm))
+
+logout-text : (o : Outcome) → end_with o ≡ Some Logout → has_text o ≡ true
+logout-text (replied text) e = refl
+logout-text (ended text) e = refl
+logout-text failed e = absurd cc
+logout-text lost e = absurd cc
+
+never-both : (o : Outcome) → end_with o ≡ Some Logout → end_with o ≡ None → ⊥
+never-both o some none = let never : Some Logout ≡ None = sym some ∙ none in absurd cc
+
+-- an input that is over has no frame
+over-takes : (input : List ℕ) (ending : Ending) (payload : List ℕ) (c : Option (List ℕ)) → front input ≡ over ending → Takes payload (Some input) c → ⊥
+over-takes input ending payload None at takes = takes
+over-takes input ending payload (Some rest) at takes = let never : over ending ≡ whole payload rest = sym at ∙ takes in absurd cc
+
+module _ (p : PolicyRules) (new new2 : SessionState Desk) (last last2 : List ℕ) (end end2 : SessionEnd) (clean : new.peer.book.is_clean ≡ true) (clean2 : new2.peer.book.is_clean ≡ true) where
+  record EndAlike (written sent : List ℕ) : Type 0 where
+    pub written_is : written ≡ sent
+    pub end_is : end ≡ end2
+    pub held : now p new.peer.book.content.registry ≡ now p new2.peer.book.content.registry
+
+  first-over : (a b c : SessionState Desk) (y : Turn) → AreEven p a b → IsOver a last end new → IsTurn (AnswersAt p) y b c → ⊥
+  first-over a b c y even o is =
+      over-takes even.input o.ending y.payload c.input (subst (λ (i : Option (List ℕ)). IfSome i (λ input. front input ≡ over o.ending)) even.first_input o.at)
+      (subst (λ (i : Option (List ℕ)). Takes y.payload i c.input) even.second_input is.payload)
+
+  second-over : (a b c : SessionState Desk) (x : Turn) → AreEven p a b → IsTurn (AnswersAt p) x a c → IsOver b last2 end2 new2 → ⊥
+  second-over a b c x even is o =
+      over-takes even.input o.ending x.payload c.input (subst (λ (i : Option (List ℕ)). IfSome i (λ input. front input ≡ over o.ending)) even.second_input o.at)
+      (subst (λ (i : Option (List ℕ)). Takes x.payload i c.input) even.first_input is.payload)
+
+  both-over : (a b : SessionState Desk) → AreEven p a b → IsOver a last end new → IsOver b last2 end2 new2 → EndAlike last last2
+  both-over a b even o q =
+      let at : front even.input ≡ over o.ending = subst (λ (i : Option (List ℕ)). IfSome i (λ input. front input ≡ over o.ending)) even.first_input o.at in
+      let at2 : front even.input ≡ over q.ending = subst (λ (i : Option (List ℕ)). IfSome i (λ input. front input ≡ over q.ending)) even.second_input q.at in
+      let overs : over o.ending ≡ over q.ending = sym at ∙ at2 in
+      let endings : o.ending ≡ q.ending = cc in
+      record {
+        written_is = o.last_is ∙ ap last_text endings ∙ sym q.last_is;
+        end_is = o.end_is ∙ ap end_at endings ∙ sym q.end_is;
+        held = ap (λ (d : Desk). now p d.book.content.registry) o.rests.peer ∙ even.held ∙ sym (ap (λ (d : Desk). now p d.book.content.registry) q.rests.peer);
+      }
+
+  both-out : (a b : SessionState Desk) → AreEven p a b → IsLoggedOut p a last end new → IsLoggedOut p b last2 end2 new2 → EndAlike last last2
+  both-out a b even o q =
+      let it = even-turn p o.turn q.turn a b new new2 even o.is q.is clean clean2 (logout-text o.turn.outcome o.ends) (logout-text q.turn.outcome q.ends) in
+      record {
+        written_is = o.last_is ∙ ap (λ (t : Turn). frame (sent t.outcome)) it.0 ∙ sym q.last_is;
+        end_is = o.end_is ∙ sym q.end_is;
+        held = (it.1).held;
+      }
+
+  both-end : (a b : SessionState Desk) → AreEven p a b → IsCalmEnd p a last end new → IsCalmEnd p b last2 end2 new2 → EndAlike last last2
+  both-end a b even (inl o) (inl q) = both-over a b even o q
+  both-end a b even (inl o) (inr q) = absurd (first-over a b new2 q.turn even o q.is)
+  both-end a b even (inr o) (inl q) = absurd (second-over a b new o.turn even o.is q)
+  both-end a b even (inr o) (inr q) = both-out a b even o q
+
+  -- one ends where the other goes on
+  first-ends : (a b c : SessionState Desk) (y : Turn) → AreEven p a b → IsCalmEnd p a last end new → IsTurn (AnswersAt p) y b c → c.peer.book.is_clean ≡ true → has_text y.outcome ≡ true → end_with y.outcome ≡ None → ⊥
+  first-ends a b c y even (inl o) is clean3 text goes = first-over a b c y even o is
+  first-ends a b c y even (inr o) is clean3 text goes =
+      let it = even-turn p o.turn y a b new c even o.is is clean clean3 (logout-text o.turn.outcome o.ends) text in
+      never-both o.turn.outcome o.ends (ap (λ (t : Turn). end_with t.outcome) it.0 ∙ goes)
+
+  second-ends : (a b c : SessionState Desk) (x : Turn) → AreEven p a b → IsTurn (AnswersAt p) x a c → c.peer.book.is_clean ≡ true → has_text x.outcome ≡ true → end_with x.outcome ≡ None → IsCalmEnd p b last2 end2 new2 → ⊥
+  second-ends a b c x even is clean3 text goes (inl q) = second-over a b c x even is q
+  second-ends a b c x even is clean3 text goes (inr q) =
+      let it = even-turn p x q.turn a b c new2 even is q.is clean3 clean2 text (logout-text q.turn.outcome q.ends) in
+      never-both q.turn.outcome q.ends (sym (ap (λ (t : Turn). end_with t.outcome) it.0) ∙ goes)
+
+  runs-alike : (xs ys : List Turn) (a b mid mid2 : SessionState Desk) → Run (AnswersAt p) xs a mid → Run (AnswersAt p) ys b mid2 → AreEven p a b → mid.peer.book.is_clean ≡ true → mid2.peer.book.is_clean ≡ true
+      → IsCalmEnd p mid last end new → IsCalmEnd p mid2 last2 end2 new2 → are_sent xs ≡ true → are_sent ys ≡ true → EndAlike (frames xs ++ last) (frames ys ++ last2)
+  runs-alike [] [] a b mid mid2 run run2 even still still2 stop stop2 all every =
+      both-end a b even (subst (λ (s : SessionState Desk). IsCalmEnd p s last end new) run stop) (subst (λ (s : SessionState Desk). IsCalmEnd p s last2 end2 new2) run2 stop2)
+  runs-alike [] (y ∷ ys) a b mid mid2 run (goes2, next2, is2, more2) even still still2 stop stop2 all every =
+      let both2 = and_parts (has_text y.outcome) (are_sent ys) every in
+      absurd (first-ends a b next2 y even (subst (λ (s : SessionState Desk). IsCalmEnd p s last end new) run stop) is2 ((run-follows p ys next2 mid2 more2).clean still2) both2.0 goes2)
+  runs-alike (x ∷ xs) [] a b mid mid2 (goes, next, is, more) run2 even still still2 stop stop2 all every =
+      let both = and_parts (has_text x.outcome) (are_sent xs) all in
+      absurd (second-ends a b next x even is ((run-follows p xs next mid more).clean still) both.0 goes (subst (λ (s : SessionState Desk). IsCalmEnd p s last2 end2 new2) run2 stop2))
+  runs-alike (x ∷ xs) (y ∷ ys) a b mid mid2 (goes, next, is, more) (goes2, next2, is2, more2) even still still2 stop stop2 all every =
+      let both = and_parts (has_text x.outcome) (are_sent xs) all in
+      let both2 = and_parts (has_text y.outcome) (are_sent ys) every in
+      let it = even-turn p x y a b next next2 even is is2 ((run-follows p xs next mid more).clean still) ((run-follows p ys next2 mid2 more2).clean still2) both.0 both2.0 in
+      let rest = runs-alike xs ys next next2 mid mid2 more more2 it.1 still still2 stop stop2 both.1 both2.1 in
+      record {
+        written_is = append_assoc (frame (sent x.outcome)) (frames xs) last ∙ (λ i. frame (sent (it.0 i).outcome) ++ rest.written_is i) ∙ sym (append_assoc (frame (sent y.outcome)) (frames ys) last2);
+        end_is = rest.end_is;
+        held = rest.held;
+      }
+
+calm-follows : (p : PolicyRules) (mid new : SessionState Desk) (last : List ℕ) (end : SessionEnd) → IsCalmEnd p mid last end new → new.peer.book.is_clean ≡ true → mid.peer.book.is_clean ≡ true
+calm-follows p mid new last end (inl o) clean = ap (λ (d : Desk). d.book.is_clean) (sym o.rests.peer) ∙ clean
+calm-follows p mid new last end (inr o) clean = (turn-follows p o.turn mid new o.is).clean clean
+
+pub sessions-are-alike : SessionsAreAlike
+sessions-are-alike p input clock old other new another written sent end ending one two caller held =
+    let s = one.session in
+    let t = two.session in
+    let stop = calm-end p s.turns s.reached new s.last end s.ends one.calm in
+    let stop2 = calm-end p t.turns t.reached another t.last ending t.ends two.calm in
+    let even : AreEven p old other = record {
+      input = input;
+      clock = clock;
+      first_input = one.input_is;
+      second_input = two.input_is;
+      first_clock = one.clock_is;
+      second_clock = two.clock_is;
+      caller = caller;
+      held = held;
+    } in
+    let it = runs-alike p new another s.last t.last end ending one.clean two.clean s.turns t.turns old other s.reached t.reached s.run t.run even
+    (calm-follows p s.reached new s.last end stop one.clean) (calm-follows p t.reached another t.last ending stop2 two.clean) stop stop2 one.texts two.texts in
+    (s.bytes ∙ it.written_is ∙ sym t.bytes, it.end_is, it.held)

@@ -1,8 +1,9 @@
 -- A session as a run of the registry: what its frames ask, one after another, and what is sent for the answers.
-use Rattle.std.specs.Prelude.{◌≡◌, ℕ, Bool, true, false, if◌then◌else◌, List, [], ◌∷◌, ◌++◌, map, take, Option, Some, None}
+use Rattle.std.specs.Prelude.{◌≡◌, ◌⊎◌, ℕ, Bool, true, false, if◌then◌else◌, List, [], ◌∷◌, ◌++◌, map, take, Option, Some, None, IfSome, ⊤}
 use Rattle.std.specs.List.{list_all}
 use Rattle.eppcommands.specs.Session.{before_login, in_session}
-use Rattle.frames.specs.Frames.{frame}
+use Rattle.frames.specs.Clocks as clocks
+use Rattle.frames.specs.Frames.{frame, Takes, bad_length, closed, cut, front, over}
 use Rattle.frames.specs.Texts.{closing_text}
 use Rattle.eppwire.specs.Answers.{Tells, caller_of, greeting_outcome, login_code, nobodys_outcome, reply_outcome}
 use Rattle.model.specs.Lapse.{now}
@@ -18,6 +19,7 @@ use Rattle.runs.specs.Runs.{IsRun}
 use Rattle.frames.specs.Outcomes.{Outcome, ended, failed, lost, replied}
 use Rattle.frames.specs.Sessions.{Session, SessionState, Turn, frames}
 use Rattle.frames.specs.declared.session.SessionEnd.{SessionEnd}
+use Rattle.frames.specs.declared.session.SessionEnd.TheVariants.{Logout, End, Cut, Length, ReadFault, WriteFault, Lost}
 use Rattle.server.specs.Connections.{AnswersAt, Desk}
 
 -- ---- what a frame asks
@@ -98,13 +100,46 @@ asked_over p caller [] = []
 asked_over p caller (turn ∷ turns) =
     asked_by caller turn ++ asked_over p (caller_after p caller turn) turns
 
--- The frames of a session, the last among them: they are answered one after another, and what was written is what is
--- sent for them, or a beginning of it; the closing text may come last.
-pub record IsAnsweredAll (p : PolicyRules) (old : Desk) (written : List ℕ) (new : Desk) : Type 0 where
+-- The frames are the first of the input, and come at the moments of the clock, where these are known; and then this is
+-- left of both.
+abbrev pub AreHeard : List Turn → (input clock rest later : Option (List ℕ)) → Type 0
+AreHeard [] input clock rest later = (rest ≡ input) × (later ≡ clock)
+AreHeard (turn ∷ turns) input clock rest later =
+    (next : Option (List ℕ)) × (moments : Option (List ℕ)) × Takes turn.payload input next
+    × clocks.Tells clock moments turn.moment × AreHeard turns next moments rest later
+
+-- what is left of the input of a session that ends so
+abbrev pub IsLeftAt : SessionEnd → Option (List ℕ) → Type 0
+IsLeftAt End rest = IfSome rest (λ input. front input ≡ over closed)
+IsLeftAt Cut rest = IfSome rest (λ input. front input ≡ over cut)
+IsLeftAt Length rest = IfSome rest (λ input. front input ≡ over bad_length)
+IsLeftAt Logout rest = ⊤
+IsLeftAt ReadFault rest = ⊤
+IsLeftAt WriteFault rest = ⊤
+IsLeftAt Lost rest = ⊤
+
+-- What is written for these frames by a session that ends so: the reply to each. The closing text comes after them for
+-- a length that no frame has, or alone if there was no memory for the first frame. A write that failed leaves a beginning.
+abbrev pub IsWritten : SessionEnd → List Turn → List ℕ → Type 0
+IsWritten Logout turns written = written ≡ frames turns
+IsWritten End turns written = written ≡ frames turns
+IsWritten Cut turns written = written ≡ frames turns
+IsWritten ReadFault turns written = written ≡ frames turns
+IsWritten Length turns written = written ≡ frames turns ++ frame closing_text
+IsWritten Lost turns written =
+    (written ≡ frames turns) ⊎ ((turns ≡ []) × (written ≡ frame closing_text))
+IsWritten WriteFault turns written =
+    (n : ℕ) × (written ≡ take n (frames turns ++ frame closing_text))
+
+-- The frames of a session, the last among them: its input has them, its clock tells their moments, and they are
+-- answered one after another, to the byte.
+pub record IsAnsweredAll (p : PolicyRules) (old : SessionState Desk) (written : List ℕ) (end : SessionEnd) (new : SessionState Desk) : Type 0 where
   pub turns : List Turn
-  pub answered : AreAnswered p old.caller turns old.book.content.registry new.book.content.registry
-  pub length : ℕ
-  pub bytes : written ≡ take length (frames turns ++ frame closing_text)
+  pub rest : Option (List ℕ)
+  pub heard : AreHeard turns old.input old.clock rest new.clock
+  pub left : IsLeftAt end rest
+  pub answered : AreAnswered p old.peer.caller turns old.peer.book.content.registry new.peer.book.content.registry
+  pub bytes : IsWritten end turns written
 
 -- ---- laws
 
@@ -113,7 +148,7 @@ abbrev pub SessionsAreAnswered : Type 0
 SessionsAreAnswered =
     (p : PolicyRules) (old new : SessionState Desk) (written : List ℕ) (end : SessionEnd)
     → Session (AnswersAt p) old written new end → new.peer.book.is_clean ≡ true
-    → IsAnsweredAll p old.peer written new.peer
+    → IsAnsweredAll p old written end new
 
 -- Frames that are answered one after another are a run, so that the laws of runs say of sessions what they say.
 abbrev pub SessionsAreRuns : Type 0
@@ -143,3 +178,35 @@ SessionsAreSentTheSame =
     (p : PolicyRules) (caller : Option ℕ) (xs ys : List Turn) (s t x y : Registry)
     → now p s ≡ now p t → AreAnswered p caller xs s x → AreAnswered p caller ys t y
     → said xs ≡ said ys → are_sent xs ≡ true → are_sent ys ≡ true → (xs ≡ ys) × (now p x ≡ now p y)
+
+-- no read and no write of the session failed, and there was memory for its last text
+abbrev pub is_calm : SessionEnd → Bool
+is_calm Logout = true
+is_calm End = true
+is_calm Cut = true
+is_calm Length = true
+is_calm ReadFault = false
+is_calm WriteFault = false
+is_calm Lost = false
+
+-- A session that nothing disturbed, with these bytes as its input, at these moments.
+pub record IsUndisturbed (p : PolicyRules) (input clock : List ℕ) (old : SessionState Desk) (written : List ℕ) (new : SessionState Desk) (end : SessionEnd) : Type 0 where
+  pub session : Session (AnswersAt p) old written new end
+  pub input_is : old.input ≡ Some input
+  pub clock_is : old.clock ≡ Some clock
+  pub clean : new.peer.book.is_clean ≡ true
+  pub texts : are_sent session.turns ≡ true
+  pub calm : is_calm end ≡ true
+
+-- Two sessions that nothing disturbed, with the same bytes as their input, at the same moments, with registries that are
+-- the same now, whatever was settled before: they are sent the same bytes, end alike, and leave registries that are the
+-- same now.
+abbrev pub SessionsAreAlike : Type 0
+SessionsAreAlike =
+    (p : PolicyRules) (input clock : List ℕ) (old other new another : SessionState Desk)
+    (written sent : List ℕ) (end ending : SessionEnd)
+    → IsUndisturbed p input clock old written new end
+    → IsUndisturbed p input clock other sent another ending → old.peer.caller ≡ other.peer.caller
+    → now p old.peer.book.content.registry ≡ now p other.peer.book.content.registry
+    → (written ≡ sent) × (end ≡ ending)
+    × (now p new.peer.book.content.registry ≡ now p another.peer.book.content.registry)

@@ -1,4 +1,4 @@
-use Rattle.server.proofs.SessionRunLemmas.{sessions-are-answered, sessions-are-runs, sessions-are-sent-the-same}
+use Rattle.server.proofs.SessionRunLemmas.{sessions-are-alike, sessions-are-answered, sessions-are-runs, sessions-are-sent-the-same}
 use Rattle.server.proofs.laws.sessions_are_runs.Goals as goal
 
 pub returns-clause-answered : goal.returns-clause-answered
@@ -9,3 +9,6 @@ returns-clause-runs c = sessions-are-runs
 
 pub returns-clause-same : goal.returns-clause-same
 returns-clause-same c = sessions-are-sent-the-same
+
+pub returns-clause-alike : goal.returns-clause-alike
+returns-clause-alike c = sessions-are-alike
