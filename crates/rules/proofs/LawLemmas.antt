@@ -30,7 +30,7 @@ use Rattle.rules.specs.Deletion.{goes_at_once}
 use Rattle.rules.specs.Laws.{AnswersLawfully, KeepsLaws, SecretIsRight, Keeps}
 use Rattle.rules.specs.Poll.{code_of_poll}
 use Rattle.rules.specs.Refusals.{code_of, first_refusal}
-use Rattle.rules.specs.Rules.{refusal_of, table_of}
+use Rattle.rules.specs.Rules.{table_of}
 use Rattle.rules.specs.Transfers.{code_of_transfer}
 use Rattle.rules.specs.Verdicts.{granted, judged, unless_refused, code_granted}
 use Rattle.rules.specs.declared.refusal.Cause.TheVariants.{NamesRefused, Exists, Missing, NotSponsor, WrongSecret, TransferPends, NoTransferPends, StatusProhibits, AssociationProhibits, NotRenewable, NotTransferable, ParametersRefused, LimitReached, BillingFailure}
