@@ -81,34 +81,25 @@ module _ (p : PolicyRules) (r t : ℕ) (f : Facts) where
   lists-given _ = search (inl, inr) depth 20
 
   acting : (a : Action) → ActsOnObject a → OfEach (IsAnswered IsMissing) a
-  acting actions.Info is = search (inl, inr) depth 20
-  acting actions.Delete is = search (inl, inr) depth 20
-  acting actions.Update is = search (inl, inr) depth 20
-  acting actions.Renew is = search (inl, inr) depth 20
-  acting actions.RequestRestore is = search (inl, inr) depth 20
-  acting actions.ReportRestore is = search (inl, inr) depth 20
-  acting actions.RequestTransfer is = search (inl, inr) depth 20
-  acting actions.QueryTransfer is = search (inl, inr) depth 20
-  acting actions.ApproveTransfer is = search (inl, inr) depth 20
-  acting actions.RejectTransfer is = search (inl, inr) depth 20
-  acting actions.CancelTransfer is = search (inl, inr) depth 20
-  acting _ is = absurd is
+  acting actions.Logout is = absurd is
+  acting actions.Balance is = absurd is
+  acting actions.Check is = absurd is
+  acting actions.PollRequest is = absurd is
+  acting _ is = search (inl, inr) depth 20
 
   altering : (a : Action) → Alters a → OfEach (IsAnswered IsAnothers) a
-  altering actions.Delete is = search (inl, inr) depth 20
-  altering actions.Update is = search (inl, inr) depth 20
-  altering actions.Renew is = search (inl, inr) depth 20
-  altering actions.RequestRestore is = search (inl, inr) depth 20
-  altering actions.ReportRestore is = search (inl, inr) depth 20
-  altering actions.ApproveTransfer is = search (inl, inr) depth 20
-  altering actions.RejectTransfer is = search (inl, inr) depth 20
-  altering _ is = absurd is
+  altering actions.Logout is = absurd is
+  altering actions.Balance is = absurd is
+  altering actions.Check is = absurd is
+  altering actions.PollRequest is = absurd is
+  altering _ is = search (inl, inr) depth 20
 
   ending : (a : Action) → EndsTransfer a → OfEach (IsAnswered IsNotPending) a
-  ending actions.ApproveTransfer is = search (inl, inr) depth 20
-  ending actions.RejectTransfer is = search (inl, inr) depth 20
-  ending actions.CancelTransfer is = search (inl, inr) depth 20
-  ending _ is = absurd is
+  ending actions.Logout is = absurd is
+  ending actions.Balance is = absurd is
+  ending actions.Check is = absurd is
+  ending actions.PollRequest is = absurd is
+  ending _ is = search (inl, inr) depth 20
 
   pub names-kept : (q : Request) → Clear p r t q f NamesRefused → NamesAreKept p q
   names-kept q clear = record {

@@ -30,7 +30,7 @@ use Rattle.rules.specs.Deletion.{goes_at_once}
 use Rattle.rules.specs.Laws.{AnswersLawfully, KeepsLaws, SecretIsRight, Keeps}
 use Rattle.rules.specs.Poll.{code_of_poll}
 use Rattle.rules.specs.Refusals.{code_of, first_refusal}
-use Rattle.rules.specs.Rules.{refusal_of, table_of}
+use Rattle.rules.specs.Rules.{table_of}
 use Rattle.rules.specs.Transfers.{code_of_transfer}
 use Rattle.rules.specs.Verdicts.{granted, judged, unless_refused, code_granted}
 use Rattle.rules.specs.declared.refusal.Cause.TheVariants.{NamesRefused, Exists, Missing, NotSponsor, WrongSecret, TransferPends, NoTransferPends, StatusProhibits, AssociationProhibits, NotRenewable, NotTransferable, ParametersRefused, LimitReached, BillingFailure}
@@ -147,8 +147,7 @@ answers-lawfully p r t (Bad cl_trid code) f v is = ap (λ (w : Verdict). w.conte
 answers-lawfully p r t (Asked cl_trid request) f v is = subst (λ (w : Verdict). KeepsLaws p r t request f w) (sym is) (by-first p r t f request (find (holds p r t request f) (table_of request)) refl)
 
 -- what is granted to a request that isn't refused is its verdict
-pub granted-is-judged : {E : Type 0} (p : PolicyRules) (r t : ℕ) (c : Command) (cl_trid : Option (List ℕ)) (q : Request) (f : Facts) (result : Result Verdict E)
-    → c ≡ Asked cl_trid q → refusal_of p r t q f ≡ None → IfOk result (λ v. v ≡ granted p r t q f) → IfOk result (λ v. v ≡ judged p r t c f)
-unfolding judged
-granted-is-judged p r t c cl_trid q f (Ok v) is free given = given ∙ sym (ap (λ (d : Command). judged p r t d f) is ∙ ap (λ (o : Option Code). unless_refused o (granted p r t q f)) free)
-granted-is-judged p r t c cl_trid q f (Err e) is free given = tt
+pub granted-is-answered : {E : Type 0} (refusal : Option Code) (granted : Verdict) (result : Result Verdict E)
+    → refusal ≡ None → IfOk result (λ v. v ≡ granted) → IfOk result (λ v. v ≡ unless_refused refusal granted)
+granted-is-answered refusal granted (Ok v) free given = given ∙ sym (ap (λ (o : Option Code). unless_refused o granted) free)
+granted-is-answered refusal granted (Err e) free given = tt

@@ -36,7 +36,10 @@ pub(crate) trait Sponsored {
         ensures { result ≡ transfer self.now };
 
     fn is_of(&self, registrar: RegistrarNo) -> bool
-        ensures { result ≡ (sponsor self.now == registrar) };
+        ensures { result ≡ (sponsor self.now == registrar) }
+    {
+        self.sponsored_by() == registrar
+    }
 
     fn authorizes(&self, presented: Option<&Text>) -> bool
         ensures { result ≡ authorizes (option_copied presented.entry) (secret self.now) };
@@ -59,10 +62,6 @@ impl Sponsored for Contact {
         self.transfer
     }
 
-    fn is_of(&self, registrar: RegistrarNo) -> bool {
-        self.is_sponsored_by(registrar)
-    }
-
     fn authorizes(&self, presented: Option<&Text>) -> bool {
         self.is_authorized_by(presented)
     }
@@ -83,10 +82,6 @@ impl Sponsored for FullDomain {
 
     fn last_transfer(&self) -> Option<Transfer> {
         self.domain.transfer
-    }
-
-    fn is_of(&self, registrar: RegistrarNo) -> bool {
-        self.domain.is_sponsored_by(registrar)
     }
 
     fn authorizes(&self, presented: Option<&Text>) -> bool {

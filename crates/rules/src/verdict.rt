@@ -1,8 +1,8 @@
 //! What a command is answered.
 ghost use Rattle.std.specs.Prelude.{◌≡◌, IfOk, None};
 ghost use Rattle.rules.specs.Laws.{AnswersLawfully};
-ghost use Rattle.rules.specs.Rules as spec;
-ghost use Rattle.rules.specs.Verdicts.{granted, judged};
+ghost use Rattle.rules.specs.Verdicts.{judged};
+ghost use Rattle.rules.specs.inner.Told.{answer_in, grant_in};
 
 use crate::case::Case;
 use crate::deletion::code_granted;
@@ -11,7 +11,7 @@ use basis::registrar::RegistrarNo;
 use calendar::Moment;
 use facts::Facts;
 use policy::Policy;
-use protocol::{Code, Command, Data, Request};
+use protocol::{Code, Command, Data};
 use std::alloc::{AllocError, Global};
 
 /// The code that a command is answered, and its data.
@@ -56,28 +56,38 @@ fn verdict_on(
 {
     match command {
         Command::Bad { fault, .. } => Ok(refused(fault.code())),
-        Command::Asked { request, .. } => match refusal_of(facts, caller, moment, request, policy) {
-            Some(code) => Ok(refused(code)),
-            None => grant(alloc, facts, caller, request, moment, policy),
-        },
+        Command::Asked { request, .. } => {
+            let case = Case {
+                facts,
+                caller,
+                moment,
+                request,
+                policy,
+            };
+            answer(alloc, &case)
+        }
     }
 }
 
-/// What a request is answered that isn't refused.
-fn grant(
-    alloc: Global,
-    facts: &Facts,
-    caller: RegistrarNo,
-    request: &Request,
-    moment: Moment,
-    policy: &Policy,
-) -> Result<Verdict, AllocError>
-    ensures { IfOk result (λ verdict. verdict ≡ granted policy.now caller moment request.now
-        facts.now) }
+/// What a well formed command is answered.
+fn answer(alloc: Global, case: &Case<'_>) -> Result<Verdict, AllocError>
+    ensures { IfOk result (λ verdict. verdict ≡ answer_in case.now) }
 {
+    match case.refusal() {
+        Some(code) => Ok(refused(code)),
+        None => grant(alloc, case),
+    }
+}
+
+/// What it is answered unless it is refused.
+fn grant(alloc: Global, case: &Case<'_>) -> Result<Verdict, AllocError>
+    ensures { IfOk result (λ verdict. verdict ≡ grant_in case.now) }
+{
+    let (facts, request) = (case.facts, case.request);
+    let content = response_data(alloc, facts, case.caller, request, case.moment, case.policy)?;
     Ok(Verdict {
         code: code_granted(request, facts),
-        content: response_data(alloc, facts, caller, request, moment, policy)?,
+        content,
     })
 }
 
@@ -88,24 +98,4 @@ fn refused(code: Code) -> Verdict
         code,
         content: None,
     }
-}
-
-/// The code with which a well formed command is refused.
-fn refusal_of(
-    facts: &Facts,
-    caller: RegistrarNo,
-    moment: Moment,
-    request: &Request,
-    policy: &Policy,
-) -> Option<Code>
-    ensures { result ≡ spec.refusal_of policy.now caller moment request.now facts.now }
-{
-    let case = Case {
-        facts,
-        caller,
-        moment,
-        request,
-        policy,
-    };
-    case.refusal()
 }

@@ -18,12 +18,10 @@ use Rattle.sqltables.specs.inner.Whole.{AreKeyed}
 use Rattle.sqltables.specs.Meta as meta_table
 use Rattle.sqltables.specs.Account as account_table
 use Rattle.sqltables.specs.Contact as contact_table
-use Rattle.sqltables.specs.Domain as domain_table
 use Rattle.sqltables.specs.inner.Domain as inner_domain_table
 use Rattle.sqltables.specs.Host as host_table
 use Rattle.sqltables.specs.Address as address_table
 use Rattle.sqltables.specs.Link as link_table
-use Rattle.sqltables.specs.Message as message_table
 use Rattle.sqltables.specs.inner.Message as inner_message_table
 use Rattle.sqltables.specs.Transfer as transfer_table
 use Rattle.oldrows.specs.inner.Lines.{first_line_in, first_lines, without_end}

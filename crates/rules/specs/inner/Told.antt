@@ -1,4 +1,4 @@
--- The data of an object, if it is there.
+-- The data of an object, if it is there, and of a case.
 use Rattle.std.specs.Prelude.{ℕ, List, Option, option_and_then, option_map}
 use Rattle.std.specs.Borrow.{Bor}
 use Rattle.std.specs.Option.{option_copied}
@@ -16,11 +16,15 @@ use Rattle.policy.specs.Rules.{PolicyRules}
 use Rattle.protocol.specs.declared.reply.CheckResult.{CheckResult}
 use Rattle.protocol.specs.declared.reply.Data.{Data}
 use Rattle.protocol.specs.declared.reply.Data.TheVariants as told
+use Rattle.rules.specs.declared.case.Case.{Case}
 use Rattle.rules.specs.declared.response.Named.{Named}
 use Rattle.rules.specs.declared.response.Named.TheVariants as names
+use Rattle.rules.specs.declared.verdict.Verdict.{Verdict}
 use Rattle.rules.specs.Conditions.{domain_in_full}
 use Rattle.rules.specs.Deletion.{deleted}
 use Rattle.rules.specs.Poll.{polled}
+use Rattle.rules.specs.Verdicts.{granted, unless_refused}
+use Rattle.rules.specs.inner.Cases.{refusal_in}
 use Rattle.rules.specs.ResponseData.{contact_info_at, domain_info_at, domain_result, host_info_at, host_result, renewed}
 
 -- of a name, by the kind that it is to name
@@ -49,3 +53,10 @@ domain_data p r secret known = option_map told.Domain (option_and_then (domain_i
 
 abbrev pub host_data : PolicyRules → Option (Bor HostFacts) → Option Data
 host_data p known = option_map told.Host (option_and_then (host_info_at p) (option_copied known))
+
+-- what a well formed command is answered, and what unless it is refused
+abbrev pub grant_in : Case → Verdict
+grant_in it = granted it.policy.now it.caller it.moment it.request.now it.facts.now
+
+abbrev pub answer_in : Case → Verdict
+answer_in it = unless_refused (refusal_in it) (grant_in it)
