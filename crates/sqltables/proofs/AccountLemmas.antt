@@ -21,7 +21,7 @@ use Rattle.sqltables.specs.inner.Tables.{account_all, account_by_id, account_put
 use Rattle.sqltables.specs.Account.{Account, account_shown, accounts, account_with_id}
 use Rattle.sqltables.specs.inner.Content.{accounts_to}
 use Rattle.sqltables.specs.inner.Statements.{Alters, Asks}
-use Rattle.sqltables.proofs.TableLemmas.{asks_accounts, alters_accounts}
+use Rattle.sqltables.proofs.TableLemmas.{account_part, alters, asks}
 
 abbrev columns : List Term
 columns = col 1 0 ∷ col 1 2 ∷ col 1 3 ∷ col 1 4 ∷ col 1 5 ∷ col 1 6 ∷ col 1 7 ∷ col 1 8 ∷ []
@@ -34,7 +34,7 @@ unfolding understood everything
 all_is = record { names = codes "id" ∷ codes "ident" ∷ codes "commands" ∷ codes "messages" ∷ codes "serial" ∷ codes "waiting" ∷ codes "balance" ∷ codes "held" ∷ []; command = refl; plain = (refl, refl); unlisted = refl }
 
 pub all_asks : Asks accounts.tree account_shown account_all [] (λ c. c.accounts)
-all_asks = asks_accounts account_shown account_all [] _ (λ xs. xs) all_is refl (λ db xs rows h answer.
+all_asks = asks account_part account_shown account_all [] _ (λ xs. xs) all_is refl (λ db xs rows h answer.
     selects accounts _ _ [] (λ _. true) account_shown (λ x. refl) (λ x. refl) db xs rows h answer ∙ ap (map account_shown) (filter_all (λ _. true) xs (all_of _ (λ x. refl) xs)))
 
 pub by_id_is : IsSelect registry account_by_id (select_query 1 (op2 (Compare Eq Binary) (col 1 0) (col 0 0) ∷ []) columns)
@@ -42,7 +42,7 @@ unfolding understood everything
 by_id_is = record { names = codes "id" ∷ codes "ident" ∷ codes "commands" ∷ codes "messages" ∷ codes "serial" ∷ codes "waiting" ∷ codes "balance" ∷ codes "held" ∷ []; command = refl; plain = (refl, refl); unlisted = refl }
 
 pub by_id_asks : (v : ℤ) → Asks accounts.tree account_shown account_by_id (Int v ∷ []) (λ c. filter (account_with_id v) c.accounts)
-by_id_asks v = asks_accounts account_shown account_by_id (Int v ∷ []) _ (λ xs. filter (account_with_id v) xs) by_id_is refl (λ db xs rows h answer.
+by_id_asks v = asks account_part account_shown account_by_id (Int v ∷ []) _ (λ xs. filter (account_with_id v) xs) by_id_is refl (λ db xs rows h answer.
     selects accounts _ _ (Int v ∷ []) (account_with_id v) account_shown (λ x. last_term (at_ints false Eq x.id v)) (λ x. refl) db xs rows h answer)
 
 listed : Listed accounts registry 1 table
@@ -62,4 +62,4 @@ gives : Gives accounts registry table 8 values sets account_shown
 gives = record { values = λ x. refl; place = λ x v. refl; updates = λ x v r. refl; unshared = λ new r. refl; headed = λ x. refl }
 
 pub put_alters : (x : Account) → Alters accounts.tree account_put (account_shown x) (accounts_to (λ xs. insert_by accounts.key xs x))
-put_alters x = alters_accounts account_put (account_shown x) (λ xs. insert_by accounts.key xs x) put_is.plain (ap writes_tables put_is.command) (puts accounts registry 1 table listed 8 values sets account_shown gives account_put x put_is)
+put_alters x = alters account_part account_put (account_shown x) (λ xs. insert_by accounts.key xs x) put_is.plain (ap writes_tables put_is.command) (puts accounts registry 1 table listed 8 values sets account_shown gives account_put x put_is)

@@ -17,7 +17,7 @@ use Rattle.sqltables.specs.Tables as schema
 use Rattle.sqltables.specs.Day.{Day, day_shown, days}
 use Rattle.sqltables.specs.inner.Content.{days_to}
 use Rattle.sqltables.specs.inner.Statements.{Alters, Asks}
-use Rattle.sqltables.proofs.TableLemmas.{asks_days, alters_days}
+use Rattle.sqltables.proofs.TableLemmas.{day_part, alters, asks}
 
 abbrev columns : List Term
 columns = col 1 0 ∷ col 1 2 ∷ col 1 3 ∷ col 1 4 ∷ col 1 5 ∷ col 1 6 ∷ col 1 7 ∷ col 1 8 ∷ col 1 9 ∷ col 1 10 ∷ col 1 11 ∷ []
@@ -30,7 +30,7 @@ unfolding understood everything
 all_is = record { names = codes "id" ∷ codes "starts" ∷ codes "days_add" ∷ codes "days_auto_renew" ∷ codes "days_renew" ∷ codes "days_transfer" ∷ codes "days_redemption" ∷ codes "days_restore" ∷ codes "days_pending_delete" ∷ codes "days_answer" ∷ codes "days_lock" ∷ []; command = refl; plain = (refl, refl); unlisted = refl }
 
 pub all_asks : Asks days.tree day_shown days_all [] (λ c. c.days)
-all_asks = asks_days day_shown days_all [] _ (λ xs. xs) all_is refl (λ db xs rows h answer.
+all_asks = asks day_part day_shown days_all [] _ (λ xs. xs) all_is refl (λ db xs rows h answer.
     selects days _ _ [] (λ _. true) day_shown (λ x. refl) (λ x. refl) db xs rows h answer ∙ ap (map day_shown) (filter_all (λ _. true) xs (all_of _ (λ x. refl) xs)))
 
 listed : Listed days registry 10 table
@@ -47,4 +47,4 @@ numbers : Numbers days table unnumbered (λ x. drop 1 (day_shown x)) (λ x id. r
 numbers = record { values = λ x. refl; casts = λ x. simp (cast_int, cast_null, cast_text, cast_maybe_int, cast_maybe_text); row = λ x id. refl }
 
 pub append_alters : (x : Day) → Alters days.tree days_append (drop 1 (day_shown x)) (days_to (λ xs. appended days (λ id. record x { id = id }) xs))
-append_alters x = alters_days days_append (drop 1 (day_shown x)) (λ xs. appended days (λ id. record x { id = id }) xs) append_is.plain (ap writes_tables append_is.command) (appends days registry 10 table listed unnumbered (λ x. drop 1 (day_shown x)) (λ x id. record x { id = id }) numbers days_append x append_is)
+append_alters x = alters day_part days_append (drop 1 (day_shown x)) (λ xs. appended days (λ id. record x { id = id }) xs) append_is.plain (ap writes_tables append_is.command) (appends days registry 10 table listed unnumbered (λ x. drop 1 (day_shown x)) (λ x id. record x { id = id }) numbers days_append x append_is)

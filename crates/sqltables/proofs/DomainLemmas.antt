@@ -29,7 +29,7 @@ use Rattle.sqltables.specs.Domain.{Domain, domain_with_name}
 use Rattle.sqltables.specs.inner.Domain.{domain_shown, domains, domain_with_id, domain_with_registrant, domain_within_due, by_due, domains_by_due, domain_of_sponsor_within, domain_of_registrant_within, domain_with_roid}
 use Rattle.sqltables.specs.inner.Content.{domains_to}
 use Rattle.sqltables.specs.inner.Statements.{Alters, Asks}
-use Rattle.sqltables.proofs.TableLemmas.{asks_domains, alters_domains}
+use Rattle.sqltables.proofs.TableLemmas.{domain_part, alters, asks}
 
 abbrev columns : List Term
 columns = col 1 0 ∷ col 1 2 ∷ col 1 3 ∷ col 1 4 ∷ col 1 5 ∷ col 1 6 ∷ col 1 7 ∷ col 1 8 ∷ col 1 9 ∷ col 1 10 ∷ col 1 11 ∷ col 1 12 ∷ col 1 13 ∷ col 1 14 ∷ col 1 15 ∷ []
@@ -49,7 +49,7 @@ unfolding understood everything
 all_is = record { names = titles; command = refl; plain = (refl, refl); unlisted = refl }
 
 pub all_asks : Asks domains.tree domain_shown domain_all [] (λ c. c.domains)
-all_asks = asks_domains domain_shown domain_all [] _ (λ xs. xs) all_is refl (λ db xs rows h answer.
+all_asks = asks domain_part domain_shown domain_all [] _ (λ xs. xs) all_is refl (λ db xs rows h answer.
     selects domains _ _ [] (λ _. true) domain_shown (λ x. refl) (λ x. refl) db xs rows h answer ∙ ap (map domain_shown) (filter_all (λ _. true) xs (all_of _ (λ x. refl) xs)))
 
 pub by_id_is : IsSelect registry domain_by_id (select_query 5 (op2 (Compare Eq Binary) (col 1 0) (col 0 0) ∷ []) columns)
@@ -57,7 +57,7 @@ unfolding understood everything
 by_id_is = record { names = titles; command = refl; plain = (refl, refl); unlisted = refl }
 
 pub by_id_asks : (v : ℤ) → Asks domains.tree domain_shown domain_by_id (Int v ∷ []) (λ c. filter (domain_with_id v) c.domains)
-by_id_asks v = asks_domains domain_shown domain_by_id (Int v ∷ []) _ (λ xs. filter (domain_with_id v) xs) by_id_is refl (λ db xs rows h answer.
+by_id_asks v = asks domain_part domain_shown domain_by_id (Int v ∷ []) _ (λ xs. filter (domain_with_id v) xs) by_id_is refl (λ db xs rows h answer.
     selects domains _ _ (Int v ∷ []) (domain_with_id v) domain_shown (λ x. last_term (at_ints false Eq x.id v)) (λ x. refl) db xs rows h answer)
 
 pub by_name_is : IsSelect registry domain_by_name (select_query 5 (op2 (Compare Eq Binary) (col 1 2) (col 0 0) ∷ []) columns)
@@ -65,7 +65,7 @@ unfolding understood everything
 by_name_is = record { names = titles; command = refl; plain = (refl, refl); unlisted = refl }
 
 pub by_name_asks : (v : List ℕ) → Asks domains.tree domain_shown domain_by_name (Text v ∷ []) (λ c. filter (domain_with_name v) c.domains)
-by_name_asks v = asks_domains domain_shown domain_by_name (Text v ∷ []) _ (λ xs. filter (domain_with_name v) xs) by_name_is refl (λ db xs rows h answer.
+by_name_asks v = asks domain_part domain_shown domain_by_name (Text v ∷ []) _ (λ xs. filter (domain_with_name v) xs) by_name_is refl (λ db xs rows h answer.
     selects domains _ _ (Text v ∷ []) (domain_with_name v) domain_shown (λ x. last_term (at_texts false Eq x.name v)) (λ x. refl) db xs rows h answer)
 
 pub first_by_registrant_is : IsSelect registry domain_first_by_registrant (limited_query 5 (op2 (Compare Eq Binary) (col 1 12) (col 0 0) ∷ []) columns (pos 1))
@@ -73,7 +73,7 @@ unfolding understood everything
 first_by_registrant_is = record { names = titles; command = refl; plain = (refl, refl); unlisted = refl }
 
 pub first_by_registrant_asks : (v : ℤ) → Asks domains.tree domain_shown domain_first_by_registrant (Int v ∷ []) (λ c. take 1 (filter (domain_with_registrant v) c.domains))
-first_by_registrant_asks v = asks_domains domain_shown domain_first_by_registrant (Int v ∷ []) _ (λ xs. take 1 (filter (domain_with_registrant v) xs)) first_by_registrant_is refl (λ db xs rows h answer.
+first_by_registrant_asks v = asks domain_part domain_shown domain_first_by_registrant (Int v ∷ []) _ (λ xs. take 1 (filter (domain_with_registrant v) xs)) first_by_registrant_is refl (λ db xs rows h answer.
     limits domains _ columns (pos 1) (Int v ∷ []) (domain_with_registrant v) domain_shown (λ x. last_term (at_ints false Eq x.registrant v)) (λ x. refl) db xs rows h answer
     ∙ take-map domain_shown 1 (filter (domain_with_registrant v) xs))
 
@@ -85,7 +85,7 @@ unfolding understood everything
 until_due_is = record { names = titles; command = refl; plain = (refl, refl); unlisted = refl }
 
 pub until_due_asks : (v : ℤ) → Asks domains.tree domain_shown domain_until_due (Int v ∷ []) (λ c. domains_by_due (filter (domain_within_due v) c.domains))
-until_due_asks v = asks_domains domain_shown domain_until_due (Int v ∷ []) _ (λ xs. domains_by_due (filter (domain_within_due v) xs)) until_due_is refl (λ db xs rows h answer.
+until_due_asks v = asks domain_part domain_shown domain_until_due (Int v ∷ []) _ (λ xs. domains_by_due (filter (domain_within_due v) xs)) until_due_is refl (λ db xs rows h answer.
     sorts domains _ columns due_columns (negsuc 0) (Int v ∷ []) (domain_within_due v) domain_shown by_due (λ x. last_term (at_ints false Le x.due v)) (λ x. refl) due_order db xs rows h answer)
 
 pub first_until_due_is : IsSelect registry domain_first_until_due (sorted_query 5 (op2 (Compare Le Binary) (col 1 15) (col 0 0) ∷ []) columns due_columns (pos 1))
@@ -93,7 +93,7 @@ unfolding understood everything
 first_until_due_is = record { names = titles; command = refl; plain = (refl, refl); unlisted = refl }
 
 pub first_until_due_asks : (v : ℤ) → Asks domains.tree domain_shown domain_first_until_due (Int v ∷ []) (λ c. take 1 (domains_by_due (filter (domain_within_due v) c.domains)))
-first_until_due_asks v = asks_domains domain_shown domain_first_until_due (Int v ∷ []) _ (λ xs. take 1 (domains_by_due (filter (domain_within_due v) xs))) first_until_due_is refl (λ db xs rows h answer.
+first_until_due_asks v = asks domain_part domain_shown domain_first_until_due (Int v ∷ []) _ (λ xs. take 1 (domains_by_due (filter (domain_within_due v) xs))) first_until_due_is refl (λ db xs rows h answer.
     sorts domains _ columns due_columns (pos 1) (Int v ∷ []) (domain_within_due v) domain_shown by_due (λ x. last_term (at_ints false Le x.due v)) (λ x. refl) due_order db xs rows h answer
     ∙ take-map domain_shown 1 (domains_by_due (filter (domain_within_due v) xs)))
 
@@ -102,7 +102,7 @@ unfolding understood everything
 by_sponsor_until_due_is = record { names = titles; command = refl; plain = (refl, refl); unlisted = refl }
 
 pub by_sponsor_until_due_asks : (sponsor due : ℤ) → Asks domains.tree domain_shown domain_by_sponsor_until_due (Int sponsor ∷ Int due ∷ []) (λ c. filter (domain_of_sponsor_within sponsor due) c.domains)
-by_sponsor_until_due_asks sponsor due = asks_domains domain_shown domain_by_sponsor_until_due (Int sponsor ∷ Int due ∷ []) _ (λ xs. filter (domain_of_sponsor_within sponsor due) xs) by_sponsor_until_due_is refl (λ db xs rows h answer.
+by_sponsor_until_due_asks sponsor due = asks domain_part domain_shown domain_by_sponsor_until_due (Int sponsor ∷ Int due ∷ []) _ (λ xs. filter (domain_of_sponsor_within sponsor due) xs) by_sponsor_until_due_is refl (λ db xs rows h answer.
     selects domains _ _ (Int sponsor ∷ Int due ∷ []) (domain_of_sponsor_within sponsor due) domain_shown (λ x. then_term (at_ints false Eq x.sponsor sponsor) (last_term (at_ints false Le x.due due))) (λ x. refl) db xs rows h answer)
 
 pub by_registrant_until_due_is : IsSelect registry domain_by_registrant_until_due (select_query 5 (op2 (Compare Eq Binary) (col 1 12) (col 0 0) ∷ op2 (Compare Le Binary) (col 1 15) (col 0 1) ∷ []) columns)
@@ -110,7 +110,7 @@ unfolding understood everything
 by_registrant_until_due_is = record { names = titles; command = refl; plain = (refl, refl); unlisted = refl }
 
 pub by_registrant_until_due_asks : (registrant due : ℤ) → Asks domains.tree domain_shown domain_by_registrant_until_due (Int registrant ∷ Int due ∷ []) (λ c. filter (domain_of_registrant_within registrant due) c.domains)
-by_registrant_until_due_asks registrant due = asks_domains domain_shown domain_by_registrant_until_due (Int registrant ∷ Int due ∷ []) _ (λ xs. filter (domain_of_registrant_within registrant due) xs) by_registrant_until_due_is refl (λ db xs rows h answer.
+by_registrant_until_due_asks registrant due = asks domain_part domain_shown domain_by_registrant_until_due (Int registrant ∷ Int due ∷ []) _ (λ xs. filter (domain_of_registrant_within registrant due) xs) by_registrant_until_due_is refl (λ db xs rows h answer.
     selects domains _ _ (Int registrant ∷ Int due ∷ []) (domain_of_registrant_within registrant due) domain_shown (λ x. then_term (at_ints false Eq x.registrant registrant) (last_term (at_ints false Le x.due due))) (λ x. refl) db xs rows h answer)
 
 pub by_roid_is : IsSelect registry domain_by_roid (select_query 5 (op2 (Compare Eq Binary) (col 1 3) (col 0 0) ∷ op2 (Compare Eq Binary) (col 1 4) (col 0 1) ∷ []) columns)
@@ -118,7 +118,7 @@ unfolding understood everything
 by_roid_is = record { names = titles; command = refl; plain = (refl, refl); unlisted = refl }
 
 pub by_roid_asks : (creator serial : ℤ) → Asks domains.tree domain_shown domain_by_roid (Int creator ∷ Int serial ∷ []) (λ c. filter (domain_with_roid creator serial) c.domains)
-by_roid_asks creator serial = asks_domains domain_shown domain_by_roid (Int creator ∷ Int serial ∷ []) _ (λ xs. filter (domain_with_roid creator serial) xs) by_roid_is refl (λ db xs rows h answer.
+by_roid_asks creator serial = asks domain_part domain_shown domain_by_roid (Int creator ∷ Int serial ∷ []) _ (λ xs. filter (domain_with_roid creator serial) xs) by_roid_is refl (λ db xs rows h answer.
     selects domains _ _ (Int creator ∷ Int serial ∷ []) (domain_with_roid creator serial) domain_shown (λ x. then_term (at_ints false Eq x.creator creator) (last_term (at_ints false Eq x.serial serial))) (λ x. refl) db xs rows h answer)
 
 listed : Listed domains registry 3 table
@@ -138,7 +138,7 @@ gives : Gives domains registry table 15 values sets domain_shown
 gives = record { values = λ x. refl; place = λ x v. refl; updates = λ x v r. refl; unshared = λ new r. refl; headed = λ x. refl }
 
 pub put_alters : (x : Domain) → Alters domains.tree domain_put (domain_shown x) (domains_to (λ xs. insert_by domains.key xs x))
-put_alters x = alters_domains domain_put (domain_shown x) (λ xs. insert_by domains.key xs x) put_is.plain (ap writes_tables put_is.command) (puts domains registry 3 table listed 15 values sets domain_shown gives domain_put x put_is)
+put_alters x = alters domain_part domain_put (domain_shown x) (λ xs. insert_by domains.key xs x) put_is.plain (ap writes_tables put_is.command) (puts domains registry 3 table listed 15 values sets domain_shown gives domain_put x put_is)
 
 abbrev unnumbered : List Term
 unnumbered = lit Null ∷ lit Null ∷ col 0 0 ∷ col 0 1 ∷ col 0 2 ∷ col 0 3 ∷ col 0 4 ∷ col 0 5 ∷ col 0 6 ∷ col 0 7 ∷ col 0 8 ∷ col 0 9 ∷ col 0 10 ∷ col 0 11 ∷ col 0 12 ∷ col 0 13 ∷ []
@@ -151,11 +151,11 @@ numbers : Numbers domains table unnumbered (λ x. drop 1 (domain_shown x)) (λ x
 numbers = record { values = λ x. refl; casts = λ x. simp (cast_int, cast_null, cast_text, cast_maybe_int, cast_maybe_text); row = λ x id. refl }
 
 pub append_alters : (x : Domain) → Alters domains.tree domain_append (drop 1 (domain_shown x)) (domains_to (λ xs. appended domains (λ id. record x { id = id }) xs))
-append_alters x = alters_domains domain_append (drop 1 (domain_shown x)) (λ xs. appended domains (λ id. record x { id = id }) xs) append_is.plain (ap writes_tables append_is.command) (appends domains registry 3 table listed unnumbered (λ x. drop 1 (domain_shown x)) (λ x id. record x { id = id }) numbers domain_append x append_is)
+append_alters x = alters domain_part domain_append (drop 1 (domain_shown x)) (λ xs. appended domains (λ id. record x { id = id }) xs) append_is.plain (ap writes_tables append_is.command) (appends domains registry 3 table listed unnumbered (λ x. drop 1 (domain_shown x)) (λ x id. record x { id = id }) numbers domain_append x append_is)
 
 pub remove_id_is : IsDelete registry domain_remove_id 3 5 (op2 (Compare Eq Binary) (col 1 0) (col 0 0) ∷ [])
 unfolding understood everything
 remove_id_is = record { command = refl; plain = (refl, refl) }
 
 pub remove_id_alters : (v : ℤ) → Alters domains.tree domain_remove_id (Int v ∷ []) (domains_to (λ xs. delete_where (domain_with_id v) xs))
-remove_id_alters v = alters_domains domain_remove_id (Int v ∷ []) (λ xs. delete_where (domain_with_id v) xs) remove_id_is.plain (ap writes_tables remove_id_is.command) (deletes domains registry 3 table listed domain_remove_id (Int v ∷ []) _ (domain_with_id v) (λ x. last_term (at_ints false Eq x.id v)) remove_id_is)
+remove_id_alters v = alters domain_part domain_remove_id (Int v ∷ []) (λ xs. delete_where (domain_with_id v) xs) remove_id_is.plain (ap writes_tables remove_id_is.command) (deletes domains registry 3 table listed domain_remove_id (Int v ∷ []) _ (domain_with_id v) (λ x. last_term (at_ints false Eq x.id v)) remove_id_is)

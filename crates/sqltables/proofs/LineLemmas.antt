@@ -23,7 +23,7 @@ use Rattle.sqltables.specs.inner.Tables.{line_by_account, line_by_object, line_p
 use Rattle.sqltables.specs.Line.{Line, line_shown, lines, line_with_account, line_with_id, line_of_object}
 use Rattle.sqltables.specs.inner.Content.{lines_to}
 use Rattle.sqltables.specs.inner.Statements.{Alters, Asks}
-use Rattle.sqltables.proofs.TableLemmas.{asks_lines, alters_lines}
+use Rattle.sqltables.proofs.TableLemmas.{line_part, alters, asks}
 
 abbrev columns : List Term
 columns = col 1 0 ∷ col 1 2 ∷ col 1 3 ∷ col 1 4 ∷ col 1 5 ∷ col 1 6 ∷ col 1 7 ∷ col 1 8 ∷ col 1 9 ∷ col 1 10 ∷ col 1 11 ∷ []
@@ -36,7 +36,7 @@ unfolding understood everything
 by_account_is = record { names = codes "id" ∷ codes "account" ∷ codes "kind" ∷ codes "creator" ∷ codes "serial" ∷ codes "years" ∷ codes "cents" ∷ codes "started" ∷ codes "ends" ∷ codes "refunded" ∷ codes "recorded" ∷ []; command = refl; plain = (refl, refl); unlisted = refl }
 
 pub by_account_asks : (v : ℤ) → Asks lines.tree line_shown line_by_account (Int v ∷ []) (λ c. filter (line_with_account v) c.lines)
-by_account_asks v = asks_lines line_shown line_by_account (Int v ∷ []) _ (λ xs. filter (line_with_account v) xs) by_account_is refl (λ db xs rows h answer.
+by_account_asks v = asks line_part line_shown line_by_account (Int v ∷ []) _ (λ xs. filter (line_with_account v) xs) by_account_is refl (λ db xs rows h answer.
     selects lines _ _ (Int v ∷ []) (line_with_account v) line_shown (λ x. last_term (at_ints false Eq x.account v)) (λ x. refl) db xs rows h answer)
 
 pub by_object_is : IsSelect registry line_by_object (select_query 11 (op2 (Compare Eq Binary) (col 1 2) (col 0 0) ∷ op2 (Compare Eq Binary) (col 1 4) (col 0 1) ∷ op2 (Compare Eq Binary) (col 1 5) (col 0 2) ∷ []) columns)
@@ -44,7 +44,7 @@ unfolding understood everything
 by_object_is = record { names = codes "id" ∷ codes "account" ∷ codes "kind" ∷ codes "creator" ∷ codes "serial" ∷ codes "years" ∷ codes "cents" ∷ codes "started" ∷ codes "ends" ∷ codes "refunded" ∷ codes "recorded" ∷ []; command = refl; plain = (refl, refl); unlisted = refl }
 
 pub by_object_asks : (account creator serial : ℤ) → Asks lines.tree line_shown line_by_object (Int account ∷ Int creator ∷ Int serial ∷ []) (λ c. filter (line_of_object account creator serial) c.lines)
-by_object_asks account creator serial = asks_lines line_shown line_by_object (Int account ∷ Int creator ∷ Int serial ∷ []) _ (λ xs. filter (line_of_object account creator serial) xs) by_object_is refl (λ db xs rows h answer.
+by_object_asks account creator serial = asks line_part line_shown line_by_object (Int account ∷ Int creator ∷ Int serial ∷ []) _ (λ xs. filter (line_of_object account creator serial) xs) by_object_is refl (λ db xs rows h answer.
     selects lines _ _ (Int account ∷ Int creator ∷ Int serial ∷ []) (line_of_object account creator serial) line_shown (λ x. then_term (at_ints false Eq x.account account) (then_term (at_points_to x.creator creator) (last_term (at_points_to x.serial serial)))) (λ x. refl) db xs rows h answer)
 
 listed : Listed lines registry 7 table
@@ -64,7 +64,7 @@ gives : Gives lines registry table 11 values sets line_shown
 gives = record { values = λ x. refl; place = λ x v. refl; updates = λ x v r. refl; unshared = λ new r. refl; headed = λ x. refl }
 
 pub put_alters : (x : Line) → Alters lines.tree line_put (line_shown x) (lines_to (λ xs. insert_by lines.key xs x))
-put_alters x = alters_lines line_put (line_shown x) (λ xs. insert_by lines.key xs x) put_is.plain (ap writes_tables put_is.command) (puts lines registry 7 table listed 11 values sets line_shown gives line_put x put_is)
+put_alters x = alters line_part line_put (line_shown x) (λ xs. insert_by lines.key xs x) put_is.plain (ap writes_tables put_is.command) (puts lines registry 7 table listed 11 values sets line_shown gives line_put x put_is)
 
 abbrev unnumbered : List Term
 unnumbered = lit Null ∷ lit Null ∷ col 0 0 ∷ col 0 1 ∷ col 0 2 ∷ col 0 3 ∷ col 0 4 ∷ col 0 5 ∷ col 0 6 ∷ col 0 7 ∷ col 0 8 ∷ col 0 9 ∷ []
@@ -77,11 +77,11 @@ numbers : Numbers lines table unnumbered (λ x. drop 1 (line_shown x)) (λ x id.
 numbers = record { values = λ x. refl; casts = λ x. simp (cast_int, cast_null, cast_text, cast_maybe_int, cast_maybe_text); row = λ x id. refl }
 
 pub append_alters : (x : Line) → Alters lines.tree line_append (drop 1 (line_shown x)) (lines_to (λ xs. appended lines (λ id. record x { id = id }) xs))
-append_alters x = alters_lines line_append (drop 1 (line_shown x)) (λ xs. appended lines (λ id. record x { id = id }) xs) append_is.plain (ap writes_tables append_is.command) (appends lines registry 7 table listed unnumbered (λ x. drop 1 (line_shown x)) (λ x id. record x { id = id }) numbers line_append x append_is)
+append_alters x = alters line_part line_append (drop 1 (line_shown x)) (λ xs. appended lines (λ id. record x { id = id }) xs) append_is.plain (ap writes_tables append_is.command) (appends lines registry 7 table listed unnumbered (λ x. drop 1 (line_shown x)) (λ x id. record x { id = id }) numbers line_append x append_is)
 
 pub remove_id_is : IsDelete registry line_remove_id 7 11 (op2 (Compare Eq Binary) (col 1 0) (col 0 0) ∷ [])
 unfolding understood everything
 remove_id_is = record { command = refl; plain = (refl, refl) }
 
 pub remove_id_alters : (v : ℤ) → Alters lines.tree line_remove_id (Int v ∷ []) (lines_to (λ xs. delete_where (line_with_id v) xs))
-remove_id_alters v = alters_lines line_remove_id (Int v ∷ []) (λ xs. delete_where (line_with_id v) xs) remove_id_is.plain (ap writes_tables remove_id_is.command) (deletes lines registry 7 table listed line_remove_id (Int v ∷ []) _ (line_with_id v) (λ x. last_term (at_ints false Eq x.id v)) remove_id_is)
+remove_id_alters v = alters line_part line_remove_id (Int v ∷ []) (λ xs. delete_where (line_with_id v) xs) remove_id_is.plain (ap writes_tables remove_id_is.command) (deletes lines registry 7 table listed line_remove_id (Int v ∷ []) _ (line_with_id v) (λ x. last_term (at_ints false Eq x.id v)) remove_id_is)

@@ -25,7 +25,7 @@ use Rattle.sqltables.specs.inner.Tables.{link_by_domain, link_by_host, link_firs
 use Rattle.sqltables.specs.Link.{Link, link_shown, links, link_with_domain, link_with_contact, link_with_host, link_of_contact_within, link_of_host_within}
 use Rattle.sqltables.specs.inner.Content.{links_to}
 use Rattle.sqltables.specs.inner.Statements.{Alters, Asks}
-use Rattle.sqltables.proofs.TableLemmas.{asks_links, alters_links}
+use Rattle.sqltables.proofs.TableLemmas.{link_part, alters, asks}
 
 abbrev columns : List Term
 columns = col 1 0 ∷ col 1 2 ∷ col 1 3 ∷ col 1 4 ∷ col 1 5 ∷ col 1 6 ∷ []
@@ -42,7 +42,7 @@ unfolding understood everything
 by_domain_is = record { names = titles; command = refl; plain = (refl, refl); unlisted = refl }
 
 pub by_domain_asks : (v : ℤ) → Asks links.tree link_shown link_by_domain (Int v ∷ []) (λ c. filter (link_with_domain v) c.links)
-by_domain_asks v = asks_links link_shown link_by_domain (Int v ∷ []) _ (λ xs. filter (link_with_domain v) xs) by_domain_is refl (λ db xs rows h answer.
+by_domain_asks v = asks link_part link_shown link_by_domain (Int v ∷ []) _ (λ xs. filter (link_with_domain v) xs) by_domain_is refl (λ db xs rows h answer.
     selects links _ _ (Int v ∷ []) (link_with_domain v) link_shown (λ x. last_term (at_ints false Eq x.domain v)) (λ x. refl) db xs rows h answer)
 
 pub by_host_is : IsSelect registry link_by_host (select_query 10 (op2 (Compare Eq Binary) (col 1 4) (col 0 0) ∷ []) columns)
@@ -50,7 +50,7 @@ unfolding understood everything
 by_host_is = record { names = titles; command = refl; plain = (refl, refl); unlisted = refl }
 
 pub by_host_asks : (v : ℤ) → Asks links.tree link_shown link_by_host (Int v ∷ []) (λ c. filter (link_with_host v) c.links)
-by_host_asks v = asks_links link_shown link_by_host (Int v ∷ []) _ (λ xs. filter (link_with_host v) xs) by_host_is refl (λ db xs rows h answer.
+by_host_asks v = asks link_part link_shown link_by_host (Int v ∷ []) _ (λ xs. filter (link_with_host v) xs) by_host_is refl (λ db xs rows h answer.
     selects links _ _ (Int v ∷ []) (link_with_host v) link_shown (λ x. last_term (at_points_to x.host v)) (λ x. refl) db xs rows h answer)
 
 pub first_by_contact_is : IsSelect registry link_first_by_contact (limited_query 10 (op2 (Compare Eq Binary) (col 1 3) (col 0 0) ∷ []) columns (pos 1))
@@ -58,7 +58,7 @@ unfolding understood everything
 first_by_contact_is = record { names = titles; command = refl; plain = (refl, refl); unlisted = refl }
 
 pub first_by_contact_asks : (v : ℤ) → Asks links.tree link_shown link_first_by_contact (Int v ∷ []) (λ c. take 1 (filter (link_with_contact v) c.links))
-first_by_contact_asks v = asks_links link_shown link_first_by_contact (Int v ∷ []) _ (λ xs. take 1 (filter (link_with_contact v) xs)) first_by_contact_is refl (λ db xs rows h answer.
+first_by_contact_asks v = asks link_part link_shown link_first_by_contact (Int v ∷ []) _ (λ xs. take 1 (filter (link_with_contact v) xs)) first_by_contact_is refl (λ db xs rows h answer.
     limits links _ columns (pos 1) (Int v ∷ []) (link_with_contact v) link_shown (λ x. last_term (at_points_to x.contact v)) (λ x. refl) db xs rows h answer
     ∙ take-map link_shown 1 (filter (link_with_contact v) xs))
 
@@ -67,7 +67,7 @@ unfolding understood everything
 first_by_host_is = record { names = titles; command = refl; plain = (refl, refl); unlisted = refl }
 
 pub first_by_host_asks : (v : ℤ) → Asks links.tree link_shown link_first_by_host (Int v ∷ []) (λ c. take 1 (filter (link_with_host v) c.links))
-first_by_host_asks v = asks_links link_shown link_first_by_host (Int v ∷ []) _ (λ xs. take 1 (filter (link_with_host v) xs)) first_by_host_is refl (λ db xs rows h answer.
+first_by_host_asks v = asks link_part link_shown link_first_by_host (Int v ∷ []) _ (λ xs. take 1 (filter (link_with_host v) xs)) first_by_host_is refl (λ db xs rows h answer.
     limits links _ columns (pos 1) (Int v ∷ []) (link_with_host v) link_shown (λ x. last_term (at_points_to x.host v)) (λ x. refl) db xs rows h answer
     ∙ take-map link_shown 1 (filter (link_with_host v) xs))
 
@@ -76,7 +76,7 @@ unfolding understood everything
 by_contact_until_due_is = record { names = titles; command = refl; plain = (refl, refl); unlisted = refl }
 
 pub by_contact_until_due_asks : (contact due : ℤ) → Asks links.tree link_shown link_by_contact_until_due (Int contact ∷ Int due ∷ []) (λ c. filter (link_of_contact_within contact due) c.links)
-by_contact_until_due_asks contact due = asks_links link_shown link_by_contact_until_due (Int contact ∷ Int due ∷ []) _ (λ xs. filter (link_of_contact_within contact due) xs) by_contact_until_due_is refl (λ db xs rows h answer.
+by_contact_until_due_asks contact due = asks link_part link_shown link_by_contact_until_due (Int contact ∷ Int due ∷ []) _ (λ xs. filter (link_of_contact_within contact due) xs) by_contact_until_due_is refl (λ db xs rows h answer.
     selects links _ _ (Int contact ∷ Int due ∷ []) (link_of_contact_within contact due) link_shown (λ x. then_term (at_points_to x.contact contact) (last_term (at_ints false Le x.due due))) (λ x. refl) db xs rows h answer)
 
 pub by_host_until_due_is : IsSelect registry link_by_host_until_due (select_query 10 (op2 (Compare Eq Binary) (col 1 4) (col 0 0) ∷ op2 (Compare Le Binary) (col 1 6) (col 0 1) ∷ []) columns)
@@ -84,7 +84,7 @@ unfolding understood everything
 by_host_until_due_is = record { names = titles; command = refl; plain = (refl, refl); unlisted = refl }
 
 pub by_host_until_due_asks : (host due : ℤ) → Asks links.tree link_shown link_by_host_until_due (Int host ∷ Int due ∷ []) (λ c. filter (link_of_host_within host due) c.links)
-by_host_until_due_asks host due = asks_links link_shown link_by_host_until_due (Int host ∷ Int due ∷ []) _ (λ xs. filter (link_of_host_within host due) xs) by_host_until_due_is refl (λ db xs rows h answer.
+by_host_until_due_asks host due = asks link_part link_shown link_by_host_until_due (Int host ∷ Int due ∷ []) _ (λ xs. filter (link_of_host_within host due) xs) by_host_until_due_is refl (λ db xs rows h answer.
     selects links _ _ (Int host ∷ Int due ∷ []) (link_of_host_within host due) link_shown (λ x. then_term (at_points_to x.host host) (last_term (at_ints false Le x.due due))) (λ x. refl) db xs rows h answer)
 
 listed : Listed links registry 6 table
@@ -104,7 +104,7 @@ gives : Gives links registry table 6 values sets link_shown
 gives = record { values = λ x. refl; place = λ x v. refl; updates = λ x v r. refl; unshared = λ new r. refl; headed = λ x. refl }
 
 pub put_alters : (x : Link) → Alters links.tree link_put (link_shown x) (links_to (λ xs. insert_by links.key xs x))
-put_alters x = alters_links link_put (link_shown x) (λ xs. insert_by links.key xs x) put_is.plain (ap writes_tables put_is.command) (puts links registry 6 table listed 6 values sets link_shown gives link_put x put_is)
+put_alters x = alters link_part link_put (link_shown x) (λ xs. insert_by links.key xs x) put_is.plain (ap writes_tables put_is.command) (puts links registry 6 table listed 6 values sets link_shown gives link_put x put_is)
 
 abbrev unnumbered : List Term
 unnumbered = lit Null ∷ lit Null ∷ col 0 0 ∷ col 0 1 ∷ col 0 2 ∷ col 0 3 ∷ col 0 4 ∷ []
@@ -117,14 +117,14 @@ numbers : Numbers links table unnumbered (λ x. drop 1 (link_shown x)) (λ x id.
 numbers = record { values = λ x. refl; casts = λ x. simp (cast_int, cast_null, cast_text, cast_maybe_int, cast_maybe_text); row = λ x id. refl }
 
 pub append_alters : (x : Link) → Alters links.tree link_append (drop 1 (link_shown x)) (links_to (λ xs. appended links (λ id. record x { id = id }) xs))
-append_alters x = alters_links link_append (drop 1 (link_shown x)) (λ xs. appended links (λ id. record x { id = id }) xs) append_is.plain (ap writes_tables append_is.command) (appends links registry 6 table listed unnumbered (λ x. drop 1 (link_shown x)) (λ x id. record x { id = id }) numbers link_append x append_is)
+append_alters x = alters link_part link_append (drop 1 (link_shown x)) (λ xs. appended links (λ id. record x { id = id }) xs) append_is.plain (ap writes_tables append_is.command) (appends links registry 6 table listed unnumbered (λ x. drop 1 (link_shown x)) (λ x id. record x { id = id }) numbers link_append x append_is)
 
 pub remove_domain_is : IsDelete registry link_remove_domain 6 10 (op2 (Compare Eq Binary) (col 1 2) (col 0 0) ∷ [])
 unfolding understood everything
 remove_domain_is = record { command = refl; plain = (refl, refl) }
 
 pub remove_domain_alters : (v : ℤ) → Alters links.tree link_remove_domain (Int v ∷ []) (links_to (λ xs. delete_where (link_with_domain v) xs))
-remove_domain_alters v = alters_links link_remove_domain (Int v ∷ []) (λ xs. delete_where (link_with_domain v) xs) remove_domain_is.plain (ap writes_tables remove_domain_is.command) (deletes links registry 6 table listed link_remove_domain (Int v ∷ []) _ (link_with_domain v) (λ x. last_term (at_ints false Eq x.domain v)) remove_domain_is)
+remove_domain_alters v = alters link_part link_remove_domain (Int v ∷ []) (λ xs. delete_where (link_with_domain v) xs) remove_domain_is.plain (ap writes_tables remove_domain_is.command) (deletes links registry 6 table listed link_remove_domain (Int v ∷ []) _ (link_with_domain v) (λ x. last_term (at_ints false Eq x.domain v)) remove_domain_is)
 
 abbrev updated_due : List Term
 updated_due = col 1 0 ∷ lit Null ∷ col 1 2 ∷ col 1 3 ∷ col 1 4 ∷ col 1 5 ∷ col 0 1 ∷ []
@@ -137,4 +137,4 @@ renews_due : (v due : ℤ) → Renews links updated_due (Int v ∷ Int due ∷ [
 renews_due v due = record { row = λ x. refl; key = λ x. refl }
 
 pub update_due_alters : (v due : ℤ) → Alters links.tree link_update_due (Int v ∷ Int due ∷ []) (links_to (λ xs. update_where (link_with_domain v) (λ x. record x { due = due }) xs))
-update_due_alters v due = alters_links link_update_due (Int v ∷ Int due ∷ []) (λ xs. update_where (link_with_domain v) (λ x. record x { due = due }) xs) update_due_is.plain (ap writes_tables update_due_is.command) (updates links registry 6 table listed link_update_due (Int v ∷ Int due ∷ []) _ updated_due (link_with_domain v) (λ x. record x { due = due }) (λ x. last_term (at_ints false Eq x.domain v)) (renews_due v due) update_due_is)
+update_due_alters v due = alters link_part link_update_due (Int v ∷ Int due ∷ []) (λ xs. update_where (link_with_domain v) (λ x. record x { due = due }) xs) update_due_is.plain (ap writes_tables update_due_is.command) (updates links registry 6 table listed link_update_due (Int v ∷ Int due ∷ []) _ updated_due (link_with_domain v) (λ x. record x { due = due }) (λ x. last_term (at_ints false Eq x.domain v)) (renews_due v due) update_due_is)

@@ -28,7 +28,7 @@ use Rattle.sqltables.specs.Message.{Message, message_with_account}
 use Rattle.sqltables.specs.inner.Message.{message_shown, messages, message_with_id, is_same_message, message_order, queue_of}
 use Rattle.sqltables.specs.inner.Content.{messages_to}
 use Rattle.sqltables.specs.inner.Statements.{Alters, Asks}
-use Rattle.sqltables.proofs.TableLemmas.{asks_messages, alters_messages}
+use Rattle.sqltables.proofs.TableLemmas.{message_part, alters, asks}
 
 abbrev columns : List Term
 columns = col 1 0 ∷ col 1 2 ∷ col 1 3 ∷ col 1 4 ∷ col 1 5 ∷ col 1 6 ∷ col 1 7 ∷ col 1 8 ∷ []
@@ -52,7 +52,7 @@ unfolding understood everything
 first_by_account_is = record { names = codes "id" ∷ codes "account" ∷ codes "moment" ∷ codes "class" ∷ codes "number" ∷ codes "name" ∷ codes "subject" ∷ codes "notice" ∷ []; command = refl; plain = (refl, refl); unlisted = refl }
 
 pub first_by_account_asks : (v : ℤ) → Asks messages.tree message_shown message_first_by_account (Int v ∷ []) (λ c. take 1 (queue_of v c.messages))
-first_by_account_asks v = asks_messages message_shown message_first_by_account (Int v ∷ []) _ (λ xs. take 1 (queue_of v xs)) first_by_account_is refl (λ db xs rows h answer.
+first_by_account_asks v = asks message_part message_shown message_first_by_account (Int v ∷ []) _ (λ xs. take 1 (queue_of v xs)) first_by_account_is refl (λ db xs rows h answer.
     sorts messages _ columns queue_columns (pos 1) (Int v ∷ []) (message_with_account v) message_shown message_order (λ x. last_term (at_ints false Eq x.account v)) (λ x. refl) queue_order db xs rows h answer
     ∙ take-map message_shown 1 (queue_of v xs))
 
@@ -61,7 +61,7 @@ unfolding understood everything
 same_is = record { names = codes "id" ∷ codes "account" ∷ codes "moment" ∷ codes "class" ∷ codes "number" ∷ codes "name" ∷ codes "subject" ∷ codes "notice" ∷ []; command = refl; plain = (refl, refl); unlisted = refl }
 
 pub same_asks : (m : Message) → Asks messages.tree message_shown message_same (drop 1 (message_shown m)) (λ c. filter (is_same_message m) c.messages)
-same_asks m = asks_messages message_shown message_same (drop 1 (message_shown m)) _ (λ xs. filter (is_same_message m) xs) same_is refl (λ db xs rows h answer.
+same_asks m = asks message_part message_shown message_same (drop 1 (message_shown m)) _ (λ xs. filter (is_same_message m) xs) same_is refl (λ db xs rows h answer.
     selects messages _ _ (drop 1 (message_shown m)) (is_same_message m) message_shown
     (λ x. then_term (at_ints false Eq x.account m.account) (then_term (at_ints false Eq x.moment m.moment) (then_term (at_ints false Eq x.class m.class) (then_term (at_ints false Eq x.number m.number) (then_term (at_texts false Eq x.name m.name) (then_term (at_ints false Eq x.subject m.subject) (last_term (at_ints false Eq x.notice m.notice))))))))
     (λ x. refl) db xs rows h answer)
@@ -83,7 +83,7 @@ gives : Gives messages registry table 8 values sets message_shown
 gives = record { values = λ x. refl; place = λ x v. refl; updates = λ x v r. refl; unshared = λ new r. refl; headed = λ x. refl }
 
 pub put_alters : (x : Message) → Alters messages.tree message_put (message_shown x) (messages_to (λ xs. insert_by messages.key xs x))
-put_alters x = alters_messages message_put (message_shown x) (λ xs. insert_by messages.key xs x) put_is.plain (ap writes_tables put_is.command) (puts messages registry 8 table listed 8 values sets message_shown gives message_put x put_is)
+put_alters x = alters message_part message_put (message_shown x) (λ xs. insert_by messages.key xs x) put_is.plain (ap writes_tables put_is.command) (puts messages registry 8 table listed 8 values sets message_shown gives message_put x put_is)
 
 abbrev unnumbered : List Term
 unnumbered = lit Null ∷ lit Null ∷ col 0 0 ∷ col 0 1 ∷ col 0 2 ∷ col 0 3 ∷ col 0 4 ∷ col 0 5 ∷ col 0 6 ∷ []
@@ -96,11 +96,11 @@ numbers : Numbers messages table unnumbered (λ x. drop 1 (message_shown x)) (λ
 numbers = record { values = λ x. refl; casts = λ x. simp (cast_int, cast_null, cast_text, cast_maybe_int, cast_maybe_text); row = λ x id. refl }
 
 pub append_alters : (x : Message) → Alters messages.tree message_append (drop 1 (message_shown x)) (messages_to (λ xs. appended messages (λ id. record x { id = id }) xs))
-append_alters x = alters_messages message_append (drop 1 (message_shown x)) (λ xs. appended messages (λ id. record x { id = id }) xs) append_is.plain (ap writes_tables append_is.command) (appends messages registry 8 table listed unnumbered (λ x. drop 1 (message_shown x)) (λ x id. record x { id = id }) numbers message_append x append_is)
+append_alters x = alters message_part message_append (drop 1 (message_shown x)) (λ xs. appended messages (λ id. record x { id = id }) xs) append_is.plain (ap writes_tables append_is.command) (appends messages registry 8 table listed unnumbered (λ x. drop 1 (message_shown x)) (λ x id. record x { id = id }) numbers message_append x append_is)
 
 pub remove_id_is : IsDelete registry message_remove_id 8 12 (op2 (Compare Eq Binary) (col 1 0) (col 0 0) ∷ [])
 unfolding understood everything
 remove_id_is = record { command = refl; plain = (refl, refl) }
 
 pub remove_id_alters : (v : ℤ) → Alters messages.tree message_remove_id (Int v ∷ []) (messages_to (λ xs. delete_where (message_with_id v) xs))
-remove_id_alters v = alters_messages message_remove_id (Int v ∷ []) (λ xs. delete_where (message_with_id v) xs) remove_id_is.plain (ap writes_tables remove_id_is.command) (deletes messages registry 8 table listed message_remove_id (Int v ∷ []) _ (message_with_id v) (λ x. last_term (at_ints false Eq x.id v)) remove_id_is)
+remove_id_alters v = alters message_part message_remove_id (Int v ∷ []) (λ xs. delete_where (message_with_id v) xs) remove_id_is.plain (ap writes_tables remove_id_is.command) (deletes messages registry 8 table listed message_remove_id (Int v ∷ []) _ (message_with_id v) (λ x. last_term (at_ints false Eq x.id v)) remove_id_is)

@@ -17,7 +17,7 @@ use Rattle.sqltables.specs.inner.Tables.{meta_all, meta_put}
 use Rattle.sqltables.specs.Meta.{Meta, meta_shown, metas}
 use Rattle.sqltables.specs.inner.Content.{metas_to}
 use Rattle.sqltables.specs.inner.Statements.{Alters, Asks}
-use Rattle.sqltables.proofs.TableLemmas.{asks_metas, alters_metas}
+use Rattle.sqltables.proofs.TableLemmas.{meta_part, alters, asks}
 
 abbrev columns : List Term
 columns = col 1 0 ∷ col 1 2 ∷ col 1 3 ∷ col 1 4 ∷ col 1 5 ∷ col 1 6 ∷ col 1 7 ∷ col 1 8 ∷ col 1 9 ∷ col 1 10 ∷ col 1 11 ∷ col 1 12 ∷ col 1 13 ∷ col 1 14 ∷ col 1 15 ∷ col 1 16 ∷ col 1 17 ∷ []
@@ -30,7 +30,7 @@ unfolding understood everything
 all_is = record { names = codes "id" ∷ codes "version" ∷ codes "clock" ∷ codes "zone" ∷ codes "reserved" ∷ codes "days_add" ∷ codes "days_auto_renew" ∷ codes "days_renew" ∷ codes "days_transfer" ∷ codes "days_redemption" ∷ codes "days_restore" ∷ codes "days_pending_delete" ∷ codes "days_answer" ∷ codes "days_lock" ∷ codes "price_create" ∷ codes "price_renew" ∷ codes "price_transfer" ∷ []; command = refl; plain = (refl, refl); unlisted = refl }
 
 pub all_asks : Asks metas.tree meta_shown meta_all [] (λ c. c.metas)
-all_asks = asks_metas meta_shown meta_all [] _ (λ xs. xs) all_is refl (λ db xs rows h answer.
+all_asks = asks meta_part meta_shown meta_all [] _ (λ xs. xs) all_is refl (λ db xs rows h answer.
     selects metas _ _ [] (λ _. true) meta_shown (λ x. refl) (λ x. refl) db xs rows h answer ∙ ap (map meta_shown) (filter_all (λ _. true) xs (all_of _ (λ x. refl) xs)))
 
 listed : Listed metas registry 0 table
@@ -50,4 +50,4 @@ gives : Gives metas registry table 17 values sets meta_shown
 gives = record { values = λ x. refl; place = λ x v. refl; updates = λ x v r. refl; unshared = λ new r. refl; headed = λ x. refl }
 
 pub put_alters : (x : Meta) → Alters metas.tree meta_put (meta_shown x) (metas_to (λ xs. insert_by metas.key xs x))
-put_alters x = alters_metas meta_put (meta_shown x) (λ xs. insert_by metas.key xs x) put_is.plain (ap writes_tables put_is.command) (puts metas registry 0 table listed 17 values sets meta_shown gives meta_put x put_is)
+put_alters x = alters meta_part meta_put (meta_shown x) (λ xs. insert_by metas.key xs x) put_is.plain (ap writes_tables put_is.command) (puts metas registry 0 table listed 17 values sets meta_shown gives meta_put x put_is)
