@@ -1,5 +1,5 @@
 -- Statements on one of the eleven tables, as statements on all of them.
-use Rattle.std.proofs.Common.{◌≡◌, ◌≢◌, ◌==◌, ◌||◌, Bool, true, false, ℕ, List, [], ◌∷◌, map, Option, ◌∙◌, refl, ap, ap₂, subst, sym, true≢false}
+use Rattle.std.proofs.Common.{◌≡◌, ◌≢◌, ◌==◌, ◌||◌, Bool, true, false, ℕ, List, [], ◌∷◌, map, Option, Some, slice_get, ◌∙◌, refl, ap, ap₂, subst, sym, true≢false}
 use Rattle.std.proofs.lemmas.Bool.{eqb-true, eq-eqb}
 use Rattle.std.specs.List.{AllByRecursion, list_any}
 use Rattle.sqlite_schema.specs.declared.schema.Table.{Table}
@@ -7,18 +7,22 @@ use Rattle.sqlite_value.specs.declared.value.Value.{Value}
 use Rattle.sqlite_value.specs.Order.{Row}
 use Rattle.sqlite.specs.Values.{bound_value}
 use Rattle.sqlite_trees.specs.Tree.{Trees}
+use Rattle.sqlite_rules.specs.Cast.{cast_row}
 use Rattle.sqlite_sql.specs.Query.{Query, IsAnswer, inner, end}
 use Rattle.sqlite_sql.specs.Program.{overlay}
 use Rattle.sqlite.specs.Does.{Tally}
 use Rattle.sqlite.specs.Effect.{Database}
 use Rattle.sqlite.specs.Given.{IsPlain}
 use Rattle.sqlite.specs.Listing.{understood}
-use Rattle.sqlrows.specs.inner.Layouts.{command_of, writes_tables, Holds, IsSelect, Leads, Sets}
+use Rattle.sqlrows.specs.inner.Layouts.{command_of, writes_tables, Holds, IsSelect, Leads, Listed, Sets}
 use Rattle.sqlrows.specs.Layouts.{Layout}
+use Rattle.sqlrows.proofs.CastLemmas.{cast_int, cast_null, cast_text, cast_maybe_int, cast_maybe_text}
+use Rattle.sqlrows.proofs.QuietLemmas.{quiet_if_idle}
 use Rattle.sqltables.specs.Content.{Content}
 use Rattle.sqltables.specs.inner.Content.{IsContent, metas_to, accounts_to, contacts_to, domains_to, hosts_to, addresses_to, links_to, lines_to, messages_to, transfers_to, days_to}
 use Rattle.sqltables.specs.inner.Statements.{Alters, AreOthersSame, Asks, is_table}
 use Rattle.sqltables.specs.Tables.{registry}
+use Rattle.sqltables.specs.Tables as schema
 use Rattle.sqltables.specs.Meta.{Meta, metas}
 use Rattle.sqltables.specs.Account.{Account, accounts}
 use Rattle.sqltables.specs.Contact.{Contact, contacts}
@@ -94,47 +98,87 @@ turned written old after was xs same others h it = record {
   days = turns days written old after.trees was.days xs.days others refl h.days it.10;
 }
 
--- one of the tables: how its rows lie, which they are of all that is held, and a change of them alone
+-- one of the tables: how its rows lie and where, which they are of all that is held, and a change of them alone
 pub record Part (X : Type 0) : Type 0 where
   pub layout : Layout X
+  pub at : ℕ
+  pub table : Table
+  pub listed : Listed layout registry at table
   pub rows : Content → List X
   pub to : (List X → List X) → Content → Content
   pub is : is_table layout.tree ≡ true
   pub holds : (xs : Content) (db : Database) → IsContent xs db → Holds layout db.trees (rows xs)
   pub turned : (change : List X → List X) (new : Trees) (xs : Content) → Holds layout new (change (rows xs)) → Turned layout.tree new xs (to change xs)
 
+listed : {X : Type 0} (L : Layout X) (at : ℕ) (table : Table) → slice_get registry.tables at ≡ Some table → table.tree ≡ L.tree → table.is_counted ≡ false
+    → table.stamps ≡ record { places = []; terms = []; formats = [] } → ((x : X) → cast_row table (L.to_row x) ≡ L.to_row x) → Listed L registry at table
+listed L at table is tree uncounted unstamped casts = record { is = is; tree = tree; quiet = quiet_if_idle registry refl; uncounted = uncounted; unstamped = unstamped; casts = casts }
+
+pub meta_listed : Listed metas registry 0 (record schema.meta { tree = 0 })
+meta_listed = listed metas 0 (record schema.meta { tree = 0 }) refl refl refl refl (λ x. simp (cast_int, cast_null, cast_text, cast_maybe_int, cast_maybe_text))
+
 abbrev pub meta_part : Part Meta
-meta_part = record { layout = metas; rows = λ c. c.metas; to = metas_to; is = refl; holds = λ xs db h. h.metas; turned = λ f new xs h. (h, refl, refl, refl, refl, refl, refl, refl, refl, refl, refl) }
+meta_part = record { layout = metas; at = 0; table = record schema.meta { tree = 0 }; listed = meta_listed; rows = λ c. c.metas; to = metas_to; is = refl; holds = λ xs db h. h.metas; turned = λ f new xs h. (h, refl, refl, refl, refl, refl, refl, refl, refl, refl, refl) }
+
+pub account_listed : Listed accounts registry 1 (record schema.account { tree = 1 })
+account_listed = listed accounts 1 (record schema.account { tree = 1 }) refl refl refl refl (λ x. simp (cast_int, cast_null, cast_text, cast_maybe_int, cast_maybe_text))
 
 abbrev pub account_part : Part Account
-account_part = record { layout = accounts; rows = λ c. c.accounts; to = accounts_to; is = refl; holds = λ xs db h. h.accounts; turned = λ f new xs h. (refl, h, refl, refl, refl, refl, refl, refl, refl, refl, refl) }
+account_part = record { layout = accounts; at = 1; table = record schema.account { tree = 1 }; listed = account_listed; rows = λ c. c.accounts; to = accounts_to; is = refl; holds = λ xs db h. h.accounts; turned = λ f new xs h. (refl, h, refl, refl, refl, refl, refl, refl, refl, refl, refl) }
+
+pub contact_listed : Listed contacts registry 2 (record schema.contact { tree = 3 })
+contact_listed = listed contacts 2 (record schema.contact { tree = 3 }) refl refl refl refl (λ x. simp (cast_int, cast_null, cast_text, cast_maybe_int, cast_maybe_text))
 
 abbrev pub contact_part : Part Contact
-contact_part = record { layout = contacts; rows = λ c. c.contacts; to = contacts_to; is = refl; holds = λ xs db h. h.contacts; turned = λ f new xs h. (refl, refl, h, refl, refl, refl, refl, refl, refl, refl, refl) }
+contact_part = record { layout = contacts; at = 2; table = record schema.contact { tree = 3 }; listed = contact_listed; rows = λ c. c.contacts; to = contacts_to; is = refl; holds = λ xs db h. h.contacts; turned = λ f new xs h. (refl, refl, h, refl, refl, refl, refl, refl, refl, refl, refl) }
+
+pub domain_listed : Listed domains registry 3 (record schema.domain { tree = 5 })
+domain_listed = listed domains 3 (record schema.domain { tree = 5 }) refl refl refl refl (λ x. simp (cast_int, cast_null, cast_text, cast_maybe_int, cast_maybe_text))
 
 abbrev pub domain_part : Part Domain
-domain_part = record { layout = domains; rows = λ c. c.domains; to = domains_to; is = refl; holds = λ xs db h. h.domains; turned = λ f new xs h. (refl, refl, refl, h, refl, refl, refl, refl, refl, refl, refl) }
+domain_part = record { layout = domains; at = 3; table = record schema.domain { tree = 5 }; listed = domain_listed; rows = λ c. c.domains; to = domains_to; is = refl; holds = λ xs db h. h.domains; turned = λ f new xs h. (refl, refl, refl, h, refl, refl, refl, refl, refl, refl, refl) }
+
+pub host_listed : Listed hosts registry 4 (record schema.host { tree = 7 })
+host_listed = listed hosts 4 (record schema.host { tree = 7 }) refl refl refl refl (λ x. simp (cast_int, cast_null, cast_text, cast_maybe_int, cast_maybe_text))
 
 abbrev pub host_part : Part Host
-host_part = record { layout = hosts; rows = λ c. c.hosts; to = hosts_to; is = refl; holds = λ xs db h. h.hosts; turned = λ f new xs h. (refl, refl, refl, refl, h, refl, refl, refl, refl, refl, refl) }
+host_part = record { layout = hosts; at = 4; table = record schema.host { tree = 7 }; listed = host_listed; rows = λ c. c.hosts; to = hosts_to; is = refl; holds = λ xs db h. h.hosts; turned = λ f new xs h. (refl, refl, refl, refl, h, refl, refl, refl, refl, refl, refl) }
+
+pub address_listed : Listed addresses registry 5 (record schema.address { tree = 9 })
+address_listed = listed addresses 5 (record schema.address { tree = 9 }) refl refl refl refl (λ x. simp (cast_int, cast_null, cast_text, cast_maybe_int, cast_maybe_text))
 
 abbrev pub address_part : Part Address
-address_part = record { layout = addresses; rows = λ c. c.addresses; to = addresses_to; is = refl; holds = λ xs db h. h.addresses; turned = λ f new xs h. (refl, refl, refl, refl, refl, h, refl, refl, refl, refl, refl) }
+address_part = record { layout = addresses; at = 5; table = record schema.address { tree = 9 }; listed = address_listed; rows = λ c. c.addresses; to = addresses_to; is = refl; holds = λ xs db h. h.addresses; turned = λ f new xs h. (refl, refl, refl, refl, refl, h, refl, refl, refl, refl, refl) }
+
+pub link_listed : Listed links registry 6 (record schema.link { tree = 10 })
+link_listed = listed links 6 (record schema.link { tree = 10 }) refl refl refl refl (λ x. simp (cast_int, cast_null, cast_text, cast_maybe_int, cast_maybe_text))
 
 abbrev pub link_part : Part Link
-link_part = record { layout = links; rows = λ c. c.links; to = links_to; is = refl; holds = λ xs db h. h.links; turned = λ f new xs h. (refl, refl, refl, refl, refl, refl, h, refl, refl, refl, refl) }
+link_part = record { layout = links; at = 6; table = record schema.link { tree = 10 }; listed = link_listed; rows = λ c. c.links; to = links_to; is = refl; holds = λ xs db h. h.links; turned = λ f new xs h. (refl, refl, refl, refl, refl, refl, h, refl, refl, refl, refl) }
+
+pub line_listed : Listed lines registry 7 (record schema.line { tree = 11 })
+line_listed = listed lines 7 (record schema.line { tree = 11 }) refl refl refl refl (λ x. simp (cast_int, cast_null, cast_text, cast_maybe_int, cast_maybe_text))
 
 abbrev pub line_part : Part Line
-line_part = record { layout = lines; rows = λ c. c.lines; to = lines_to; is = refl; holds = λ xs db h. h.lines; turned = λ f new xs h. (refl, refl, refl, refl, refl, refl, refl, h, refl, refl, refl) }
+line_part = record { layout = lines; at = 7; table = record schema.line { tree = 11 }; listed = line_listed; rows = λ c. c.lines; to = lines_to; is = refl; holds = λ xs db h. h.lines; turned = λ f new xs h. (refl, refl, refl, refl, refl, refl, refl, h, refl, refl, refl) }
+
+pub message_listed : Listed messages registry 8 (record schema.message { tree = 12 })
+message_listed = listed messages 8 (record schema.message { tree = 12 }) refl refl refl refl (λ x. simp (cast_int, cast_null, cast_text, cast_maybe_int, cast_maybe_text))
 
 abbrev pub message_part : Part Message
-message_part = record { layout = messages; rows = λ c. c.messages; to = messages_to; is = refl; holds = λ xs db h. h.messages; turned = λ f new xs h. (refl, refl, refl, refl, refl, refl, refl, refl, h, refl, refl) }
+message_part = record { layout = messages; at = 8; table = record schema.message { tree = 12 }; listed = message_listed; rows = λ c. c.messages; to = messages_to; is = refl; holds = λ xs db h. h.messages; turned = λ f new xs h. (refl, refl, refl, refl, refl, refl, refl, refl, h, refl, refl) }
+
+pub transfer_listed : Listed transfers registry 9 (record schema.transfer { tree = 13 })
+transfer_listed = listed transfers 9 (record schema.transfer { tree = 13 }) refl refl refl refl (λ x. simp (cast_int, cast_null, cast_text, cast_maybe_int, cast_maybe_text))
 
 abbrev pub transfer_part : Part Transfer
-transfer_part = record { layout = transfers; rows = λ c. c.transfers; to = transfers_to; is = refl; holds = λ xs db h. h.transfers; turned = λ f new xs h. (refl, refl, refl, refl, refl, refl, refl, refl, refl, h, refl) }
+transfer_part = record { layout = transfers; at = 9; table = record schema.transfer { tree = 13 }; listed = transfer_listed; rows = λ c. c.transfers; to = transfers_to; is = refl; holds = λ xs db h. h.transfers; turned = λ f new xs h. (refl, refl, refl, refl, refl, refl, refl, refl, refl, h, refl) }
+
+pub day_listed : Listed days registry 10 (record schema.days { tree = 34 })
+day_listed = listed days 10 (record schema.days { tree = 34 }) refl refl refl refl (λ x. simp (cast_int, cast_null, cast_text, cast_maybe_int, cast_maybe_text))
 
 abbrev pub day_part : Part Day
-day_part = record { layout = days; rows = λ c. c.days; to = days_to; is = refl; holds = λ xs db h. h.days; turned = λ f new xs h. (refl, refl, refl, refl, refl, refl, refl, refl, refl, refl, h) }
+day_part = record { layout = days; at = 10; table = record schema.days { tree = 34 }; listed = day_listed; rows = λ c. c.days; to = days_to; is = refl; holds = λ xs db h. h.days; turned = λ f new xs h. (refl, refl, refl, refl, refl, refl, refl, refl, refl, refl, h) }
 
 -- a query of one table
 abbrev Answers : {X : Type 0} → Layout X → (X → Row) → Query → Row → (List X → List X) → Type 0
