@@ -70,11 +70,7 @@ impl Record for AddressRow {
     ghost shown = { address_shown };
 
     fn from_row(row: &Row) -> Result<AddressRow, Error> {
-        Ok(AddressRow {
-            id: row.get(0)?,
-            host: row.get(1)?,
-            address: row.get(2)?,
-        })
+        by_columns!(AddressRow of row: id 0, host 1, address 2)
     }
 }
 

@@ -74,15 +74,9 @@ impl Model for PostalRow {
 fn postal_of(row: &Row) -> Result<PostalRow, Error>
     ensures { (x : Contact) → row.now ≡ contact_shown x → IfOk result (λ r. r ≡ x.postal) }
 {
-    Ok(PostalRow {
-        name: row.get(10)?,
-        org: row.get(11)?,
-        street: row.get(12)?,
-        city: row.get(13)?,
-        state: row.get(14)?,
-        postal_code: row.get(15)?,
-        country: row.get(16)?,
-    })
+    by_columns!(
+        PostalRow of row: name 10, org 11, street 12, city 13, state 14, postal_code 15, country 16
+    )
 }
 
 /// A row of the table `contact`.
@@ -175,12 +169,7 @@ fn dates_of(row: &Row) -> Result<ContactDates, Error>
         → IfOk result (λ dates. (dates.created ≡ x.created) × (dates.transferred ≡ x.transferred)
         × (dates.updated ≡ x.updated) × (dates.due ≡ x.due)) }
 {
-    Ok(ContactDates {
-        created: row.get(5)?,
-        transferred: row.get(6)?,
-        updated: row.get(7)?,
-        due: row.get(18)?,
-    })
+    by_columns!(ContactDates of row: created 5, transferred 6, updated 7, due 18)
 }
 
 impl Record for ContactRow {

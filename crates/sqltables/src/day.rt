@@ -111,19 +111,11 @@ impl Record for DayRow {
     ghost shown = { day_shown };
 
     fn from_row(row: &Row) -> Result<DayRow, Error> {
-        Ok(DayRow {
-            id: row.get(0)?,
-            starts: row.get(1)?,
-            days_add: row.get(2)?,
-            days_auto_renew: row.get(3)?,
-            days_renew: row.get(4)?,
-            days_transfer: row.get(5)?,
-            days_redemption: row.get(6)?,
-            days_restore: row.get(7)?,
-            days_pending_delete: row.get(8)?,
-            days_answer: row.get(9)?,
-            days_lock: row.get(10)?,
-        })
+        by_columns!(
+            DayRow of row: id 0, starts 1, days_add 2, days_auto_renew 3, days_renew 4,
+            days_transfer 5, days_redemption 6, days_restore 7, days_pending_delete 8,
+            days_answer 9, days_lock 10
+        )
     }
 }
 

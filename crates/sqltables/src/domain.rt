@@ -133,23 +133,11 @@ impl Record for DomainRow {
     ghost shown = { domain_shown };
 
     fn from_row(row: &Row) -> Result<DomainRow, Error> {
-        Ok(DomainRow {
-            id: row.get(0)?,
-            name: row.get(1)?,
-            creator: row.get(2)?,
-            serial: row.get(3)?,
-            sponsor: row.get(4)?,
-            created: row.get(5)?,
-            years: row.get(6)?,
-            transferred: row.get(7)?,
-            updated: row.get(8)?,
-            statuses: row.get(9)?,
-            secret: row.get(10)?,
-            registrant: row.get(11)?,
-            deleted: row.get(12)?,
-            restore_requested: row.get(13)?,
-            due: row.get(14)?,
-        })
+        by_columns!(
+            DomainRow of row: id 0, name 1, creator 2, serial 3, sponsor 4, created 5, years 6,
+            transferred 7, updated 8, statuses 9, secret 10, registrant 11, deleted 12,
+            restore_requested 13, due 14
+        )
     }
 }
 

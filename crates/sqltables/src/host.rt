@@ -103,18 +103,10 @@ impl Record for HostRow {
     ghost shown = { host_shown };
 
     fn from_row(row: &Row) -> Result<HostRow, Error> {
-        Ok(HostRow {
-            id: row.get(0)?,
-            name: row.get(1)?,
-            creator: row.get(2)?,
-            serial: row.get(3)?,
-            above: row.get(4)?,
-            external_sponsor: row.get(5)?,
-            sponsor: row.get(6)?,
-            created: row.get(7)?,
-            updated: row.get(8)?,
-            statuses: row.get(9)?,
-        })
+        by_columns!(
+            HostRow of row: id 0, name 1, creator 2, serial 3, above 4, external_sponsor 5,
+            sponsor 6, created 7, updated 8, statuses 9
+        )
     }
 }
 

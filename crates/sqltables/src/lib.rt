@@ -2,6 +2,13 @@
 //! put and remove them.
 #![tactic(auto)]
 
+/// A record of a row's values, each by the place of its column.
+macro_rules! by_columns {
+    ($record:ident of $row:ident: $($field:ident $at:literal),*) => {
+        Ok($record { $($field: $row.get($at)?),* })
+    };
+}
+
 mod account;
 mod address;
 mod adoption;

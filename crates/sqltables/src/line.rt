@@ -51,10 +51,7 @@ impl Model for GraceRow {
 fn grace_of(row: &Row) -> Result<GraceRow, Error>
     ensures { (x : Line) → row.now ≡ line_shown x → IfOk result (λ r. r ≡ x.grace) }
 {
-    Ok(GraceRow {
-        started: row.get(7)?,
-        ends: row.get(8)?,
-    })
+    by_columns!(GraceRow of row: started 7, ends 8)
 }
 
 /// A row of the table `line`.

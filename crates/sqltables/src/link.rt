@@ -98,14 +98,7 @@ impl Record for LinkRow {
     ghost shown = { link_shown };
 
     fn from_row(row: &Row) -> Result<LinkRow, Error> {
-        Ok(LinkRow {
-            id: row.get(0)?,
-            domain: row.get(1)?,
-            contact: row.get(2)?,
-            host: row.get(3)?,
-            role: row.get(4)?,
-            due: row.get(5)?,
-        })
+        by_columns!(LinkRow of row: id 0, domain 1, contact 2, host 3, role 4, due 5)
     }
 }
 
