@@ -56,11 +56,7 @@ impl AddressRow {
     fn params(&self) -> [ValueRef<'_>; 3]
         ensures { bound result ≡ address_shown self.now }
     {
-        [
-            self.id.to_sql(),
-            self.host.to_sql(),
-            (&self.address).to_sql(),
-        ]
+        parameters!(self: number id, number host, text address)
     }
 }
 

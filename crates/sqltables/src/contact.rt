@@ -130,28 +130,13 @@ impl ContactRow {
     fn params(&self) -> [ValueRef<'_>; 20]
         ensures { bound result ≡ contact_shown self.now }
     {
-        [
-            self.id.to_sql(),
-            (&self.name).to_sql(),
-            self.creator.to_sql(),
-            self.serial.to_sql(),
-            self.sponsor.to_sql(),
-            self.created.to_sql(),
-            maybe_number(self.transferred),
-            maybe_number(self.updated),
-            (&self.statuses).to_sql(),
-            (&self.secret).to_sql(),
-            (&self.postal.name).to_sql(),
-            maybe_text(&self.postal.org),
-            (&self.postal.street).to_sql(),
-            (&self.postal.city).to_sql(),
-            maybe_text(&self.postal.state),
-            maybe_text(&self.postal.postal_code),
-            (&self.postal.country).to_sql(),
-            maybe_text(&self.voice),
-            maybe_number(self.due),
-            (&self.mail).to_sql(),
-        ]
+        parameters!(
+            self: number id, text name, number creator, number serial, number sponsor,
+            number created, maybe_number transferred, maybe_number updated, text statuses,
+            text secret, text postal.name, maybe_text postal.org, text postal.street,
+            text postal.city, maybe_text postal.state, maybe_text postal.postal_code,
+            text postal.country, maybe_text voice, maybe_number due, text mail
+        )
     }
 }
 

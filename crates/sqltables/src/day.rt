@@ -89,19 +89,11 @@ impl DayRow {
     fn params(&self) -> [ValueRef<'_>; 11]
         ensures { bound result ≡ day_shown self.now }
     {
-        [
-            self.id.to_sql(),
-            self.starts.to_sql(),
-            self.days_add.to_sql(),
-            self.days_auto_renew.to_sql(),
-            self.days_renew.to_sql(),
-            self.days_transfer.to_sql(),
-            self.days_redemption.to_sql(),
-            self.days_restore.to_sql(),
-            self.days_pending_delete.to_sql(),
-            self.days_answer.to_sql(),
-            self.days_lock.to_sql(),
-        ]
+        parameters!(
+            self: number id, number starts, number days_add, number days_auto_renew,
+            number days_renew, number days_transfer, number days_redemption, number days_restore,
+            number days_pending_delete, number days_answer, number days_lock
+        )
     }
 }
 

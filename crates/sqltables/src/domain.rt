@@ -107,23 +107,12 @@ impl DomainRow {
     fn params(&self) -> [ValueRef<'_>; 15]
         ensures { bound result ≡ domain_shown self.now }
     {
-        [
-            self.id.to_sql(),
-            (&self.name).to_sql(),
-            self.creator.to_sql(),
-            self.serial.to_sql(),
-            self.sponsor.to_sql(),
-            self.created.to_sql(),
-            self.years.to_sql(),
-            maybe_number(self.transferred),
-            maybe_number(self.updated),
-            (&self.statuses).to_sql(),
-            (&self.secret).to_sql(),
-            self.registrant.to_sql(),
-            maybe_number(self.deleted),
-            maybe_number(self.restore_requested),
-            self.due.to_sql(),
-        ]
+        parameters!(
+            self: number id, text name, number creator, number serial, number sponsor,
+            number created, number years, maybe_number transferred, maybe_number updated,
+            text statuses, text secret, number registrant, maybe_number deleted,
+            maybe_number restore_requested, number due
+        )
     }
 }
 

@@ -82,18 +82,11 @@ impl HostRow {
     fn params(&self) -> [ValueRef<'_>; 10]
         ensures { bound result ≡ host_shown self.now }
     {
-        [
-            self.id.to_sql(),
-            (&self.name).to_sql(),
-            self.creator.to_sql(),
-            self.serial.to_sql(),
-            (&self.above).to_sql(),
-            maybe_number(self.external_sponsor),
-            maybe_number(self.sponsor),
-            self.created.to_sql(),
-            maybe_number(self.updated),
-            (&self.statuses).to_sql(),
-        ]
+        parameters!(
+            self: number id, text name, number creator, number serial, text above,
+            maybe_number external_sponsor, maybe_number sponsor, number created,
+            maybe_number updated, text statuses
+        )
     }
 }
 

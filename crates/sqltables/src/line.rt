@@ -96,19 +96,11 @@ impl LineRow {
     fn params(&self) -> [ValueRef<'_>; 11]
         ensures { bound result ≡ line_shown self.now }
     {
-        [
-            self.id.to_sql(),
-            self.account.to_sql(),
-            self.kind.to_sql(),
-            maybe_number(self.creator),
-            maybe_number(self.serial),
-            self.years.to_sql(),
-            self.cents.to_sql(),
-            maybe_number(self.grace.started),
-            maybe_number(self.grace.ends),
-            maybe_number(self.refunded),
-            self.recorded.to_sql(),
-        ]
+        parameters!(
+            self: number id, number account, number kind, maybe_number creator, maybe_number serial,
+            number years, number cents, maybe_number grace.started, maybe_number grace.ends,
+            maybe_number refunded, number recorded
+        )
     }
 }
 

@@ -81,14 +81,10 @@ impl LinkRow {
     fn params(&self) -> [ValueRef<'_>; 6]
         ensures { bound result ≡ link_shown self.now }
     {
-        [
-            self.id.to_sql(),
-            self.domain.to_sql(),
-            maybe_number(self.contact),
-            maybe_number(self.host),
-            self.role.to_sql(),
-            self.due.to_sql(),
-        ]
+        parameters!(
+            self: number id, number domain, maybe_number contact, maybe_number host, number role,
+            number due
+        )
     }
 }
 

@@ -75,16 +75,10 @@ impl MessageRow {
     fn params(&self) -> [ValueRef<'_>; 8]
         ensures { bound result ≡ message_shown self.now }
     {
-        [
-            self.id.to_sql(),
-            self.account.to_sql(),
-            self.moment.to_sql(),
-            self.class.to_sql(),
-            self.number.to_sql(),
-            (&self.name).to_sql(),
-            self.subject.to_sql(),
-            self.notice.to_sql(),
-        ]
+        parameters!(
+            self: number id, number account, number moment, number class, number number, text name,
+            number subject, number notice
+        )
     }
 }
 

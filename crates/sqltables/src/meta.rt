@@ -108,25 +108,13 @@ impl MetaRow {
     fn params(&self) -> [ValueRef<'_>; 17]
         ensures { bound result ≡ meta_shown self.now }
     {
-        [
-            self.id.to_sql(),
-            self.version.to_sql(),
-            self.clock.to_sql(),
-            (&self.zone).to_sql(),
-            (&self.reserved).to_sql(),
-            self.days_add.to_sql(),
-            self.days_auto_renew.to_sql(),
-            self.days_renew.to_sql(),
-            self.days_transfer.to_sql(),
-            self.days_redemption.to_sql(),
-            self.days_restore.to_sql(),
-            self.days_pending_delete.to_sql(),
-            self.days_answer.to_sql(),
-            self.days_lock.to_sql(),
-            self.price_create.to_sql(),
-            self.price_renew.to_sql(),
-            self.price_transfer.to_sql(),
-        ]
+        parameters!(
+            self: number id, number version, number clock, text zone, text reserved,
+            number days_add, number days_auto_renew, number days_renew, number days_transfer,
+            number days_redemption, number days_restore, number days_pending_delete,
+            number days_answer, number days_lock, number price_create, number price_renew,
+            number price_transfer
+        )
     }
 }
 

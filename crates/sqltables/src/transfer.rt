@@ -80,17 +80,10 @@ impl TransferRow {
     fn params(&self) -> [ValueRef<'_>; 9]
         ensures { bound result ≡ transfer_shown self.now }
     {
-        [
-            self.id.to_sql(),
-            maybe_number(self.contact),
-            maybe_number(self.domain),
-            self.requester.to_sql(),
-            self.losing.to_sql(),
-            self.requested.to_sql(),
-            self.ac_date.to_sql(),
-            maybe_number(self.due),
-            self.state.to_sql(),
-        ]
+        parameters!(
+            self: number id, maybe_number contact, maybe_number domain, number requester,
+            number losing, number requested, number ac_date, maybe_number due, number state
+        )
     }
 }
 
