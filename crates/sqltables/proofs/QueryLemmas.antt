@@ -30,6 +30,7 @@ use Rattle.sqltables.specs.inner.Statements.{Asks}
 use Rattle.sqltables.proofs.DueLemmas.{at_due, at_ever}
 use Rattle.sqltables.proofs.StatementLemmas.{all_columns, asks_all, asks_where, asks_first, asks_sorted, asks_first_sorted, equals, at_most, from_zero}
 use Rattle.sqltables.proofs.TableLemmas.{meta_part, account_part, contact_part, domain_part, host_part, address_part, link_part, line_part, message_part, transfer_part, day_part}
+pub use Rattle.sqltables.proofs.TableLemmas.{asks-by, bound-last, bound-then}
 
 -- ---- what the columns are called
 

@@ -1,5 +1,4 @@
-use Rattle.sqltables.proofs.QueryLemmas.{accounts_by_id}
-use Rattle.sqltables.proofs.TableLemmas.{asks-by, bound-last}
+use Rattle.sqltables.proofs.QueryLemmas.{asks-by, bound-last, accounts_by_id}
 use Rattle.sqltables.proofs.base.Base.accounts_by_id.Goals as goal
 
 pub select-requires : goal.select-requires

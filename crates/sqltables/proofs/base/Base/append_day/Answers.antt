@@ -1,6 +1,5 @@
 use Rattle.sqlrows.proofs.ParameterLemmas.{past_first}
-use Rattle.sqltables.proofs.WritingLemmas.{append_day}
-use Rattle.sqltables.proofs.TableLemmas.{alters-by}
+use Rattle.sqltables.proofs.WritingLemmas.{alters-by, append_day}
 use Rattle.sqltables.proofs.base.Base.append_day.Goals as goal
 
 pub write-requires-clause-means : goal.write-requires-clause-means

@@ -1,5 +1,4 @@
-use Rattle.sqltables.proofs.WritingLemmas.{put_account}
-use Rattle.sqltables.proofs.TableLemmas.{alters-by}
+use Rattle.sqltables.proofs.WritingLemmas.{alters-by, put_account}
 use Rattle.sqltables.proofs.base.Base.put_account.Goals as goal
 
 pub write-requires-clause-means : goal.write-requires-clause-means

@@ -1,6 +1,5 @@
 use Rattle.std.proofs.Common.{refl}
-use Rattle.sqltables.proofs.QueryLemmas.{addresses_by_host}
-use Rattle.sqltables.proofs.TableLemmas.{asks-by, bound-last}
+use Rattle.sqltables.proofs.QueryLemmas.{asks-by, bound-last, addresses_by_host}
 use Rattle.sqltables.proofs.store.RowStore.addresses_by_host.Goals as goal
 
 pub select-requires : goal.select-requires

@@ -1,7 +1,5 @@
 use Rattle.sqlrows.proofs.ParameterLemmas.{past_first}
-use Rattle.sqltables.proofs.WritingLemmas.{append_address}
-use Rattle.sqltables.proofs.TableLemmas.{alters-by}
-use Rattle.sqltables.proofs.HandLemmas.{apart-addresses}
+use Rattle.sqltables.proofs.WritingLemmas.{alters-by, apart-addresses, append_address}
 use Rattle.sqltables.proofs.store.RowStore.append_address.Goals as goal
 
 pub write-requires-clause-means : goal.write-requires-clause-means

@@ -1,7 +1,5 @@
 use Rattle.sqlrows.proofs.ParameterLemmas.{past_first}
-use Rattle.sqltables.proofs.WritingLemmas.{append_domain}
-use Rattle.sqltables.proofs.TableLemmas.{alters-by}
-use Rattle.sqltables.proofs.HandLemmas.{apart-domains}
+use Rattle.sqltables.proofs.WritingLemmas.{alters-by, apart-domains, append_domain}
 use Rattle.sqltables.proofs.store.RowStore.append_domain.Goals as goal
 
 pub write-requires-clause-means : goal.write-requires-clause-means

@@ -1,7 +1,5 @@
 use Rattle.sqlrows.proofs.ParameterLemmas.{past_first}
-use Rattle.sqltables.proofs.WritingLemmas.{append_host}
-use Rattle.sqltables.proofs.TableLemmas.{alters-by}
-use Rattle.sqltables.proofs.HandLemmas.{apart-hosts}
+use Rattle.sqltables.proofs.WritingLemmas.{alters-by, apart-hosts, append_host}
 use Rattle.sqltables.proofs.store.RowStore.append_host.Goals as goal
 
 pub write-requires-clause-means : goal.write-requires-clause-means

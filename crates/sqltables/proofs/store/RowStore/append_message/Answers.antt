@@ -1,7 +1,5 @@
 use Rattle.sqlrows.proofs.ParameterLemmas.{past_first}
-use Rattle.sqltables.proofs.WritingLemmas.{append_message}
-use Rattle.sqltables.proofs.TableLemmas.{alters-by}
-use Rattle.sqltables.proofs.HandLemmas.{apart-messages}
+use Rattle.sqltables.proofs.WritingLemmas.{alters-by, apart-messages, append_message}
 use Rattle.sqltables.proofs.store.RowStore.append_message.Goals as goal
 
 pub write-requires-clause-means : goal.write-requires-clause-means

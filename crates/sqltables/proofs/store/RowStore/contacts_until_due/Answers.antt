@@ -1,6 +1,5 @@
 use Rattle.std.proofs.Common.{refl}
-use Rattle.sqltables.proofs.QueryLemmas.{contacts_until_due}
-use Rattle.sqltables.proofs.TableLemmas.{asks-by, bound-last}
+use Rattle.sqltables.proofs.QueryLemmas.{asks-by, bound-last, contacts_until_due}
 use Rattle.sqltables.proofs.store.RowStore.contacts_until_due.Goals as goal
 
 pub select-requires : goal.select-requires

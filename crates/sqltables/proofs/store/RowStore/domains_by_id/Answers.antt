@@ -1,6 +1,5 @@
 use Rattle.std.proofs.Common.{refl}
-use Rattle.sqltables.proofs.QueryLemmas.{domains_by_id}
-use Rattle.sqltables.proofs.TableLemmas.{asks-by, bound-last}
+use Rattle.sqltables.proofs.QueryLemmas.{asks-by, bound-last, domains_by_id}
 use Rattle.sqltables.proofs.store.RowStore.domains_by_id.Goals as goal
 
 pub select-requires : goal.select-requires

@@ -1,6 +1,5 @@
 use Rattle.std.proofs.Common.{refl}
-use Rattle.sqltables.proofs.QueryLemmas.{first_domains_by_registrant}
-use Rattle.sqltables.proofs.TableLemmas.{asks-by, bound-last}
+use Rattle.sqltables.proofs.QueryLemmas.{asks-by, bound-last, first_domains_by_registrant}
 use Rattle.sqltables.proofs.store.RowStore.first_domains_by_registrant.Goals as goal
 
 pub select-requires : goal.select-requires

@@ -1,6 +1,5 @@
 use Rattle.std.proofs.Common.{refl}
-use Rattle.sqltables.proofs.QueryLemmas.{hosts_by_above}
-use Rattle.sqltables.proofs.TableLemmas.{asks-by, bound-last}
+use Rattle.sqltables.proofs.QueryLemmas.{asks-by, bound-last, hosts_by_above}
 use Rattle.sqltables.proofs.store.RowStore.hosts_by_above.Goals as goal
 
 pub select-requires : goal.select-requires

@@ -1,6 +1,5 @@
 use Rattle.std.proofs.Common.{refl}
-use Rattle.sqltables.proofs.QueryLemmas.{lines_by_account}
-use Rattle.sqltables.proofs.TableLemmas.{asks-by, bound-last}
+use Rattle.sqltables.proofs.QueryLemmas.{asks-by, bound-last, lines_by_account}
 use Rattle.sqltables.proofs.store.RowStore.lines_by_account.Goals as goal
 
 pub select-requires : goal.select-requires

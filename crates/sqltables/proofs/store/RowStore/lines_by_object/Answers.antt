@@ -1,6 +1,5 @@
 use Rattle.std.proofs.Common.{refl}
-use Rattle.sqltables.proofs.QueryLemmas.{lines_by_object}
-use Rattle.sqltables.proofs.TableLemmas.{asks-by, bound-last, bound-then}
+use Rattle.sqltables.proofs.QueryLemmas.{asks-by, bound-last, bound-then, lines_by_object}
 use Rattle.sqltables.proofs.store.RowStore.lines_by_object.Goals as goal
 
 pub select-requires : goal.select-requires

@@ -1,6 +1,5 @@
 use Rattle.std.proofs.Common.{refl}
-use Rattle.sqltables.proofs.QueryLemmas.{links_by_contact_until_due}
-use Rattle.sqltables.proofs.TableLemmas.{asks-by, bound-last, bound-then}
+use Rattle.sqltables.proofs.QueryLemmas.{asks-by, bound-last, bound-then, links_by_contact_until_due}
 use Rattle.sqltables.proofs.store.RowStore.links_by_contact_until_due.Goals as goal
 
 pub select-requires : goal.select-requires

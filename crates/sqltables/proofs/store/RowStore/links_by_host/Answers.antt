@@ -1,6 +1,5 @@
 use Rattle.std.proofs.Common.{refl}
-use Rattle.sqltables.proofs.QueryLemmas.{links_by_host}
-use Rattle.sqltables.proofs.TableLemmas.{asks-by, bound-last}
+use Rattle.sqltables.proofs.QueryLemmas.{asks-by, bound-last, links_by_host}
 use Rattle.sqltables.proofs.store.RowStore.links_by_host.Goals as goal
 
 pub select-requires : goal.select-requires

@@ -1,6 +1,5 @@
 use Rattle.std.proofs.Common.{refl}
-use Rattle.sqltables.proofs.QueryLemmas.{pending_transfers_by_losing}
-use Rattle.sqltables.proofs.TableLemmas.{asks-by, bound-last}
+use Rattle.sqltables.proofs.QueryLemmas.{asks-by, bound-last, pending_transfers_by_losing}
 use Rattle.sqltables.proofs.store.RowStore.pending_transfers_by_losing.Goals as goal
 
 pub select-requires : goal.select-requires

@@ -1,6 +1,4 @@
-use Rattle.sqltables.proofs.WritingLemmas.{put_address}
-use Rattle.sqltables.proofs.TableLemmas.{alters-by}
-use Rattle.sqltables.proofs.HandLemmas.{apart-addresses}
+use Rattle.sqltables.proofs.WritingLemmas.{alters-by, apart-addresses, put_address}
 use Rattle.sqltables.proofs.store.RowStore.put_address.Goals as goal
 
 pub write-requires-clause-means : goal.write-requires-clause-means

@@ -1,6 +1,4 @@
-use Rattle.sqltables.proofs.WritingLemmas.{put_contact}
-use Rattle.sqltables.proofs.TableLemmas.{alters-by}
-use Rattle.sqltables.proofs.HandLemmas.{apart-contacts}
+use Rattle.sqltables.proofs.WritingLemmas.{alters-by, apart-contacts, put_contact}
 use Rattle.sqltables.proofs.store.RowStore.put_contact.Goals as goal
 
 pub write-requires-clause-means : goal.write-requires-clause-means

@@ -1,6 +1,4 @@
-use Rattle.sqltables.proofs.WritingLemmas.{put_domain}
-use Rattle.sqltables.proofs.TableLemmas.{alters-by}
-use Rattle.sqltables.proofs.HandLemmas.{apart-domains}
+use Rattle.sqltables.proofs.WritingLemmas.{alters-by, apart-domains, put_domain}
 use Rattle.sqltables.proofs.store.RowStore.put_domain.Goals as goal
 
 pub write-requires-clause-means : goal.write-requires-clause-means

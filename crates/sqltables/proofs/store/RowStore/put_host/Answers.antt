@@ -1,6 +1,4 @@
-use Rattle.sqltables.proofs.WritingLemmas.{put_host}
-use Rattle.sqltables.proofs.TableLemmas.{alters-by}
-use Rattle.sqltables.proofs.HandLemmas.{apart-hosts}
+use Rattle.sqltables.proofs.WritingLemmas.{alters-by, apart-hosts, put_host}
 use Rattle.sqltables.proofs.store.RowStore.put_host.Goals as goal
 
 pub write-requires-clause-means : goal.write-requires-clause-means

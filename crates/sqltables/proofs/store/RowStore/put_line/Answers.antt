@@ -1,6 +1,4 @@
-use Rattle.sqltables.proofs.WritingLemmas.{put_line}
-use Rattle.sqltables.proofs.TableLemmas.{alters-by}
-use Rattle.sqltables.proofs.HandLemmas.{apart-lines}
+use Rattle.sqltables.proofs.WritingLemmas.{alters-by, apart-lines, put_line}
 use Rattle.sqltables.proofs.store.RowStore.put_line.Goals as goal
 
 pub write-requires-clause-means : goal.write-requires-clause-means

@@ -1,6 +1,4 @@
-use Rattle.sqltables.proofs.WritingLemmas.{put_link}
-use Rattle.sqltables.proofs.TableLemmas.{alters-by}
-use Rattle.sqltables.proofs.HandLemmas.{apart-links}
+use Rattle.sqltables.proofs.WritingLemmas.{alters-by, apart-links, put_link}
 use Rattle.sqltables.proofs.store.RowStore.put_link.Goals as goal
 
 pub write-requires-clause-means : goal.write-requires-clause-means

@@ -1,6 +1,4 @@
-use Rattle.sqltables.proofs.WritingLemmas.{put_message}
-use Rattle.sqltables.proofs.TableLemmas.{alters-by}
-use Rattle.sqltables.proofs.HandLemmas.{apart-messages}
+use Rattle.sqltables.proofs.WritingLemmas.{alters-by, apart-messages, put_message}
 use Rattle.sqltables.proofs.store.RowStore.put_message.Goals as goal
 
 pub write-requires-clause-means : goal.write-requires-clause-means

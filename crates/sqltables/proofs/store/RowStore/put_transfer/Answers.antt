@@ -1,6 +1,4 @@
-use Rattle.sqltables.proofs.WritingLemmas.{put_transfer}
-use Rattle.sqltables.proofs.TableLemmas.{alters-by}
-use Rattle.sqltables.proofs.HandLemmas.{apart-transfers}
+use Rattle.sqltables.proofs.WritingLemmas.{alters-by, apart-transfers, put_transfer}
 use Rattle.sqltables.proofs.store.RowStore.put_transfer.Goals as goal
 
 pub write-requires-clause-means : goal.write-requires-clause-means

@@ -1,6 +1,4 @@
-use Rattle.sqltables.proofs.WritingLemmas.{remove_addresses_by_host}
-use Rattle.sqltables.proofs.TableLemmas.{alters-by, bound-last}
-use Rattle.sqltables.proofs.HandLemmas.{apart-addresses}
+use Rattle.sqltables.proofs.WritingLemmas.{alters-by, bound-last, apart-addresses, remove_addresses_by_host}
 use Rattle.sqltables.proofs.store.RowStore.remove_addresses_by_host.Goals as goal
 
 pub write-requires-clause-means : goal.write-requires-clause-means

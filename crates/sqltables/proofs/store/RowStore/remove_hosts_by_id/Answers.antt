@@ -1,6 +1,4 @@
-use Rattle.sqltables.proofs.WritingLemmas.{remove_hosts_by_id}
-use Rattle.sqltables.proofs.TableLemmas.{alters-by, bound-last}
-use Rattle.sqltables.proofs.HandLemmas.{apart-hosts}
+use Rattle.sqltables.proofs.WritingLemmas.{alters-by, bound-last, apart-hosts, remove_hosts_by_id}
 use Rattle.sqltables.proofs.store.RowStore.remove_hosts_by_id.Goals as goal
 
 pub write-requires-clause-means : goal.write-requires-clause-means

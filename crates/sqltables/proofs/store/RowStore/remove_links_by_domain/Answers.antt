@@ -1,6 +1,4 @@
-use Rattle.sqltables.proofs.WritingLemmas.{remove_links_by_domain}
-use Rattle.sqltables.proofs.TableLemmas.{alters-by, bound-last}
-use Rattle.sqltables.proofs.HandLemmas.{apart-links}
+use Rattle.sqltables.proofs.WritingLemmas.{alters-by, bound-last, apart-links, remove_links_by_domain}
 use Rattle.sqltables.proofs.store.RowStore.remove_links_by_domain.Goals as goal
 
 pub write-requires-clause-means : goal.write-requires-clause-means

@@ -1,6 +1,4 @@
-use Rattle.sqltables.proofs.WritingLemmas.{remove_transfers_by_contact}
-use Rattle.sqltables.proofs.TableLemmas.{alters-by, bound-last}
-use Rattle.sqltables.proofs.HandLemmas.{apart-transfers}
+use Rattle.sqltables.proofs.WritingLemmas.{alters-by, bound-last, apart-transfers, remove_transfers_by_contact}
 use Rattle.sqltables.proofs.store.RowStore.remove_transfers_by_contact.Goals as goal
 
 pub write-requires-clause-means : goal.write-requires-clause-means

@@ -1,7 +1,6 @@
 use Rattle.std.proofs.Common.{refl}
 use Rattle.sqlrows.proofs.ParameterLemmas.{past_first}
-use Rattle.sqltables.proofs.QueryLemmas.{same_messages}
-use Rattle.sqltables.proofs.TableLemmas.{asks-by}
+use Rattle.sqltables.proofs.QueryLemmas.{asks-by, same_messages}
 use Rattle.sqltables.proofs.store.RowStore.same_messages.Goals as goal
 
 pub select-requires : goal.select-requires

@@ -1,6 +1,5 @@
 use Rattle.std.proofs.Common.{refl}
-use Rattle.sqltables.proofs.QueryLemmas.{transfers_by_contact}
-use Rattle.sqltables.proofs.TableLemmas.{asks-by, bound-last}
+use Rattle.sqltables.proofs.QueryLemmas.{asks-by, bound-last, transfers_by_contact}
 use Rattle.sqltables.proofs.store.RowStore.transfers_by_contact.Goals as goal
 
 pub select-requires : goal.select-requires

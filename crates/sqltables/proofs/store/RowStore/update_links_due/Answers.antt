@@ -1,6 +1,4 @@
-use Rattle.sqltables.proofs.WritingLemmas.{update_links_due}
-use Rattle.sqltables.proofs.TableLemmas.{alters-by, bound-last, bound-then}
-use Rattle.sqltables.proofs.HandLemmas.{apart-links}
+use Rattle.sqltables.proofs.WritingLemmas.{alters-by, bound-last, bound-then, apart-links, update_links_due}
 use Rattle.sqltables.proofs.store.RowStore.update_links_due.Goals as goal
 
 pub write-requires-clause-means : goal.write-requires-clause-means
