@@ -7,17 +7,9 @@ use Rattle.sqlite_keyed.specs.Keyed.{IsKeyedBy, insert_by}
 use Rattle.sqlite_keyed.proofs.KeyedLemmas.{IsKeyedBy-insert_by, same_int}
 use Rattle.sqlite_rules.specs.Lists.{Has}
 use Rattle.sqltables.specs.Account.{Account, accounts, account_with_id}
-use Rattle.sqltables.specs.Address.{Address}
-use Rattle.sqltables.specs.Contact.{Contact}
 use Rattle.sqltables.specs.Content.{Content}
-use Rattle.sqltables.specs.inner.Content.{accounts_to, addresses_to, contacts_to, domains_to, hosts_to, lines_to, links_to, messages_to, transfers_to}
-use Rattle.sqltables.specs.Domain.{Domain}
-use Rattle.sqltables.specs.Host.{Host}
-use Rattle.sqltables.specs.Line.{Line}
-use Rattle.sqltables.specs.Link.{Link}
-use Rattle.sqltables.specs.Message.{Message}
-use Rattle.sqltables.specs.Transfer.{Transfer}
-use Rattle.sqltables.specs.inner.Hand.{IsApart, IsSameRow, IsThere, has_number, rows_at, with_owed}
+use Rattle.sqltables.specs.inner.Content.{accounts_to}
+use Rattle.sqltables.specs.inner.Hand.{IsSameRow, IsThere, has_number, rows_at, with_owed}
 use Rattle.sqltables.specs.inner.Whole.{IsNamedBy, IsWhole, LeadsTo}
 use Rattle.sqltables.proofs.RowLemmas.{all_at, same_by_key}
 
@@ -189,29 +181,3 @@ pub seen-renewed : (owed : Bool) (account : Option Account) (row : Account) (xs 
 seen-renewed owed None row xs same = absurd same
 seen-renewed false (Some it) row xs same = refl
 seen-renewed true (Some it) row xs same = sym (ap (λ rows. accounts_to (λ _. rows) xs) (put-twice accounts.key xs.accounts it row same.0))
-
--- ---- statements on other tables
-
-pub apart-contacts : (change : List Contact → List Contact) → IsApart (contacts_to change)
-apart-contacts change = record { accounts = λ f xs. refl; metas = λ xs. refl; days = λ xs. refl }
-
-pub apart-domains : (change : List Domain → List Domain) → IsApart (domains_to change)
-apart-domains change = record { accounts = λ f xs. refl; metas = λ xs. refl; days = λ xs. refl }
-
-pub apart-hosts : (change : List Host → List Host) → IsApart (hosts_to change)
-apart-hosts change = record { accounts = λ f xs. refl; metas = λ xs. refl; days = λ xs. refl }
-
-pub apart-addresses : (change : List Address → List Address) → IsApart (addresses_to change)
-apart-addresses change = record { accounts = λ f xs. refl; metas = λ xs. refl; days = λ xs. refl }
-
-pub apart-links : (change : List Link → List Link) → IsApart (links_to change)
-apart-links change = record { accounts = λ f xs. refl; metas = λ xs. refl; days = λ xs. refl }
-
-pub apart-lines : (change : List Line → List Line) → IsApart (lines_to change)
-apart-lines change = record { accounts = λ f xs. refl; metas = λ xs. refl; days = λ xs. refl }
-
-pub apart-messages : (change : List Message → List Message) → IsApart (messages_to change)
-apart-messages change = record { accounts = λ f xs. refl; metas = λ xs. refl; days = λ xs. refl }
-
-pub apart-transfers : (change : List Transfer → List Transfer) → IsApart (transfers_to change)
-apart-transfers change = record { accounts = λ f xs. refl; metas = λ xs. refl; days = λ xs. refl }

@@ -1,235 +1,192 @@
 -- What the texts make of a database that was never used, and what its tables hold then.
-use Rattle.std.proofs.Common.{refl, inl, inr, [], ◌∷◌, Result, Ok, Err, OnOk}
+use Rattle.std.proofs.Common.{◌++◌, ℕ, List, codes, map, refl, inl, inr, [], ◌∷◌, Result, Ok, Err, OnOk}
+use Rattle.std.specs.Bool.{⊤}
 use Rattle.sqlite.specs.declared.error.Error.{Error}
 use Rattle.sqlite.specs.Listing.{understood}
 use Rattle.sqlite_tied.specs.Compute.{everything}
-use Rattle.sqlrows.specs.Columns.{no_schema}
+use Rattle.sqlrows.specs.Columns.{filled, no_schema, nullable}
+use Rattle.sqlite.specs.Kind.TheVariants.{Integer}
+use Rattle.sqlite.specs.Schema.{Schema}
+use Rattle.sqlite_schema.specs.declared.schema.Column.{Column}
+use Rattle.sqlite_catalog.specs.Change.{created, indexed}
 use Rattle.sqlrows.specs.inner.Definitions.{IsTable, IsIndex, DefinesAll, IsBlank}
 use Rattle.sqlite.specs.Effect.{Database}
-use Rattle.sqltables.specs.Tables.{registry, meta, account, contact, domain, host, address, link, line, message, transfer, with_meta, with_account, with_contact, with_domain, with_host, with_address, with_link, with_line, with_message, with_transfer, contact_due, domain_registrant, domain_due, domain_sponsor, host_above, address_host, link_domain, link_contact, link_host, line_object, message_queue, transfer_contact, transfer_domain, transfer_requester, with_contact_due, with_domain_registrant, with_domain_due, with_domain_sponsor, with_host_above, with_address_host, with_link_domain, with_link_contact, with_link_host, with_line_object, with_message_queue, with_transfer_contact, with_transfer_domain, with_transfer_requester, contact_sponsor, with_contact_sponsor, domain_roid, with_domain_roid, domain_registrant_due, with_domain_registrant_due, link_contact_due, with_link_contact_due, link_host_due, with_link_host_due, transfer_losing, with_transfer_losing, days}
-use Rattle.sqltables.specs.inner.Tables.{creation, meta_create, account_create, contact_create, domain_create, host_create, address_create, link_create, line_create, message_create, transfer_create, contact_due_create, domain_registrant_create, domain_due_create, domain_sponsor_create, host_above_create, address_host_create, link_domain_create, link_contact_create, link_host_create, line_object_create, message_queue_create, transfer_contact_create, transfer_domain_create, transfer_requester_create, contact_sponsor_create, domain_roid_create, domain_registrant_due_create, link_contact_due_create, link_host_due_create, transfer_losing_create, days_create}
+use Rattle.sqltables.specs.Tables.{registry, meta, account, contact, domain, host, address, link, line, message, transfer, days, with_meta, with_account, with_contact, with_domain, with_host, with_address, with_link, with_transfer_losing}
+use Rattle.sqltables.specs.inner.Tables.{creation, meta_create, account_create, contact_create, domain_create, host_create, address_create, link_create, line_create, message_create, transfer_create, days_create}
+use Rattle.sqltables.specs.inner.FirstTables.{Indexing, indexed_by, indexings, line_with, with_transfer_behind}
 use Rattle.sqltables.specs.inner.Content.{IsContent}
 use Rattle.sqltables.specs.Content.{no_content}
 
-pub meta_is : IsTable no_schema meta_create meta
+meta_is : IsTable no_schema meta_create meta
 unfolding understood everything
 meta_is = record { command = refl; whole = refl; defined = refl; plain = (refl, refl); uncounted = refl }
 
-pub account_is : IsTable with_meta account_create account
+account_is : IsTable with_meta account_create account
 unfolding understood everything
 account_is = record { command = refl; whole = refl; defined = refl; plain = (refl, refl); uncounted = refl }
 
-pub contact_is : IsTable with_account contact_create contact
+contact_is : IsTable with_account contact_create contact
 unfolding understood everything
 contact_is = record { command = refl; whole = refl; defined = refl; plain = (refl, refl); uncounted = refl }
 
-pub domain_is : IsTable with_contact domain_create domain
+domain_is : IsTable with_contact domain_create domain
 unfolding understood everything
 domain_is = record { command = refl; whole = refl; defined = refl; plain = (refl, refl); uncounted = refl }
 
-pub host_is : IsTable with_domain host_create host
+host_is : IsTable with_domain host_create host
 unfolding understood everything
 host_is = record { command = refl; whole = refl; defined = refl; plain = (refl, refl); uncounted = refl }
 
-pub address_is : IsTable with_host address_create address
+address_is : IsTable with_host address_create address
 unfolding understood everything
 address_is = record { command = refl; whole = refl; defined = refl; plain = (refl, refl); uncounted = refl }
 
-pub link_is : IsTable with_address link_create link
+link_is : IsTable with_address link_create link
 unfolding understood everything
 link_is = record { command = refl; whole = refl; defined = refl; plain = (refl, refl); uncounted = refl }
+
+-- ---- what is made behind the lines
+
+-- each text makes its index
+abbrev AreIndexings : Schema → List Indexing → Type 0
+AreIndexings schema [] = ⊤
+AreIndexings schema (it ∷ more) = IsIndex schema it.text it.at it.table it.index × AreIndexings (indexed schema it.table it.index) more
+
+indexings_define : (schema to : Schema) (texts : List (List ℕ)) (more : List Indexing) → AreIndexings schema more → DefinesAll (indexed_by schema more) texts to → DefinesAll schema (map (λ it. it.text) more ++ texts) to
+indexings_define schema to texts [] are rest = rest
+indexings_define schema to texts (it ∷ more) are rest =
+    (indexed schema it.table it.index, inr (it.at, it.table, it.index, are.0, refl), indexings_define (indexed schema it.table it.index) to texts more are.1 rest)
+
+-- whatever columns the lines have behind the first seven
+indexings_are : (more : List Column) → AreIndexings (with_transfer_behind (line_with more)) (indexings (line_with more))
+unfolding understood everything
+indexings_are more = (
+  record { command = refl; whole = refl; place = refl; defined = refl; plain = (refl, refl) },
+  (
+    record { command = refl; whole = refl; place = refl; defined = refl; plain = (refl, refl) },
+    (
+      record { command = refl; whole = refl; place = refl; defined = refl; plain = (refl, refl) },
+      (
+        record { command = refl; whole = refl; place = refl; defined = refl; plain = (refl, refl) },
+        (
+          record { command = refl; whole = refl; place = refl; defined = refl; plain = (refl, refl) },
+          (
+            record { command = refl; whole = refl; place = refl; defined = refl; plain = (refl, refl) },
+            (
+              record { command = refl; whole = refl; place = refl; defined = refl; plain = (refl, refl) },
+              (
+                record { command = refl; whole = refl; place = refl; defined = refl; plain = (refl, refl) },
+                (
+                  record { command = refl; whole = refl; place = refl; defined = refl; plain = (refl, refl) },
+                  (
+                    record { command = refl; whole = refl; place = refl; defined = refl; plain = (refl, refl) },
+                    (
+                      record { command = refl; whole = refl; place = refl; defined = refl; plain = (refl, refl) },
+                      (
+                        record { command = refl; whole = refl; place = refl; defined = refl; plain = (refl, refl) },
+                        (
+                          record { command = refl; whole = refl; place = refl; defined = refl; plain = (refl, refl) },
+                          (
+                            record { command = refl; whole = refl; place = refl; defined = refl; plain = (refl, refl) },
+                            (
+                              record { command = refl; whole = refl; place = refl; defined = refl; plain = (refl, refl) },
+                              (
+                                record { command = refl; whole = refl; place = refl; defined = refl; plain = (refl, refl) },
+                                (
+                                  record { command = refl; whole = refl; place = refl; defined = refl; plain = (refl, refl) },
+                                  (
+                                    record { command = refl; whole = refl; place = refl; defined = refl; plain = (refl, refl) },
+                                    (
+                                      record { command = refl; whole = refl; place = refl; defined = refl; plain = (refl, refl) },
+                                      (
+                                        record { command = refl; whole = refl; place = refl; defined = refl; plain = (refl, refl) },
+                                        tt,
+                                      ),
+                                    ),
+                                  ),
+                                ),
+                              ),
+                            ),
+                          ),
+                        ),
+                      ),
+                    ),
+                  ),
+                ),
+              ),
+            ),
+          ),
+        ),
+      ),
+    ),
+  ),
+)
+
+message_is : (more : List Column) → IsTable (created with_link (line_with more)) message_create message
+unfolding understood everything
+message_is more = record { command = refl; whole = refl; defined = refl; plain = (refl, refl); uncounted = refl }
+
+transfer_is : (more : List Column) → IsTable (created (created with_link (line_with more)) message) transfer_create transfer
+unfolding understood everything
+transfer_is more = record { command = refl; whole = refl; defined = refl; plain = (refl, refl); uncounted = refl }
+
+-- a table of the lines, and all that is made around it
+pub all_defines : (line_text : List ℕ) (more : List Column) (texts : List (List ℕ)) (to : Schema) → IsTable with_link line_text (line_with more)
+    → DefinesAll (indexed_by (with_transfer_behind (line_with more)) (indexings (line_with more))) texts to
+    → DefinesAll no_schema (meta_create ∷ account_create ∷ contact_create ∷ domain_create ∷ host_create ∷ address_create ∷ link_create ∷ line_text ∷ message_create ∷ transfer_create ∷ map (λ it. it.text) (indexings (line_with more)) ++ texts) to
+all_defines line_text more texts to line_is rest = (
+  with_meta,
+  inl (meta, meta_is, refl),
+  (
+    with_account,
+    inl (account, account_is, refl),
+    (
+      with_contact,
+      inl (contact, contact_is, refl),
+      (
+        with_domain,
+        inl (domain, domain_is, refl),
+        (
+          with_host,
+          inl (host, host_is, refl),
+          (
+            with_address,
+            inl (address, address_is, refl),
+            (
+              with_link,
+              inl (link, link_is, refl),
+              (
+                created with_link (line_with more),
+                inl (line_with more, line_is, refl),
+                (
+                  created (created with_link (line_with more)) message,
+                  inl (message, message_is more, refl),
+                  (
+                    with_transfer_behind (line_with more),
+                    inl (transfer, transfer_is more, refl),
+                    indexings_define (with_transfer_behind (line_with more)) to texts (indexings (line_with more)) (indexings_are more) rest,
+                  ),
+                ),
+              ),
+            ),
+          ),
+        ),
+      ),
+    ),
+  ),
+)
 
 line_is : IsTable with_link line_create line
 unfolding understood everything
 line_is = record { command = refl; whole = refl; defined = refl; plain = (refl, refl); uncounted = refl }
 
-message_is : IsTable with_line message_create message
-unfolding understood everything
-message_is = record { command = refl; whole = refl; defined = refl; plain = (refl, refl); uncounted = refl }
-
-transfer_is : IsTable with_message transfer_create transfer
-unfolding understood everything
-transfer_is = record { command = refl; whole = refl; defined = refl; plain = (refl, refl); uncounted = refl }
-
-contact_due_is : IsIndex with_transfer contact_due_create 2 (record contact { tree = 3 }) contact_due
-unfolding understood everything
-contact_due_is = record { command = refl; whole = refl; place = refl; defined = refl; plain = (refl, refl) }
-
-domain_registrant_is : IsIndex with_contact_due domain_registrant_create 3 (record domain { tree = 5 }) domain_registrant
-unfolding understood everything
-domain_registrant_is = record { command = refl; whole = refl; place = refl; defined = refl; plain = (refl, refl) }
-
-domain_due_is : IsIndex with_domain_registrant domain_due_create 3 (record domain { tree = 5 }) domain_due
-unfolding understood everything
-domain_due_is = record { command = refl; whole = refl; place = refl; defined = refl; plain = (refl, refl) }
-
-domain_sponsor_is : IsIndex with_domain_due domain_sponsor_create 3 (record domain { tree = 5 }) domain_sponsor
-unfolding understood everything
-domain_sponsor_is = record { command = refl; whole = refl; place = refl; defined = refl; plain = (refl, refl) }
-
-host_above_is : IsIndex with_domain_sponsor host_above_create 4 (record host { tree = 7 }) host_above
-unfolding understood everything
-host_above_is = record { command = refl; whole = refl; place = refl; defined = refl; plain = (refl, refl) }
-
-address_host_is : IsIndex with_host_above address_host_create 5 (record address { tree = 9 }) address_host
-unfolding understood everything
-address_host_is = record { command = refl; whole = refl; place = refl; defined = refl; plain = (refl, refl) }
-
-link_domain_is : IsIndex with_address_host link_domain_create 6 (record link { tree = 10 }) link_domain
-unfolding understood everything
-link_domain_is = record { command = refl; whole = refl; place = refl; defined = refl; plain = (refl, refl) }
-
-link_contact_is : IsIndex with_link_domain link_contact_create 6 (record link { tree = 10 }) link_contact
-unfolding understood everything
-link_contact_is = record { command = refl; whole = refl; place = refl; defined = refl; plain = (refl, refl) }
-
-link_host_is : IsIndex with_link_contact link_host_create 6 (record link { tree = 10 }) link_host
-unfolding understood everything
-link_host_is = record { command = refl; whole = refl; place = refl; defined = refl; plain = (refl, refl) }
-
-line_object_is : IsIndex with_link_host line_object_create 7 (record line { tree = 11 }) line_object
-unfolding understood everything
-line_object_is = record { command = refl; whole = refl; place = refl; defined = refl; plain = (refl, refl) }
-
-message_queue_is : IsIndex with_line_object message_queue_create 8 (record message { tree = 12 }) message_queue
-unfolding understood everything
-message_queue_is = record { command = refl; whole = refl; place = refl; defined = refl; plain = (refl, refl) }
-
-transfer_contact_is : IsIndex with_message_queue transfer_contact_create 9 (record transfer { tree = 13 }) transfer_contact
-unfolding understood everything
-transfer_contact_is = record { command = refl; whole = refl; place = refl; defined = refl; plain = (refl, refl) }
-
-transfer_domain_is : IsIndex with_transfer_contact transfer_domain_create 9 (record transfer { tree = 13 }) transfer_domain
-unfolding understood everything
-transfer_domain_is = record { command = refl; whole = refl; place = refl; defined = refl; plain = (refl, refl) }
-
-transfer_requester_is : IsIndex with_transfer_domain transfer_requester_create 9 (record transfer { tree = 13 }) transfer_requester
-unfolding understood everything
-transfer_requester_is = record { command = refl; whole = refl; place = refl; defined = refl; plain = (refl, refl) }
-
-contact_sponsor_is : IsIndex with_transfer_requester contact_sponsor_create 2 (record contact { tree = 3 }) contact_sponsor
-unfolding understood everything
-contact_sponsor_is = record { command = refl; whole = refl; place = refl; defined = refl; plain = (refl, refl) }
-
-domain_roid_is : IsIndex with_contact_sponsor domain_roid_create 3 (record domain { tree = 5 }) domain_roid
-unfolding understood everything
-domain_roid_is = record { command = refl; whole = refl; place = refl; defined = refl; plain = (refl, refl) }
-
-domain_registrant_due_is : IsIndex with_domain_roid domain_registrant_due_create 3 (record domain { tree = 5 }) domain_registrant_due
-unfolding understood everything
-domain_registrant_due_is = record { command = refl; whole = refl; place = refl; defined = refl; plain = (refl, refl) }
-
-link_contact_due_is : IsIndex with_domain_registrant_due link_contact_due_create 6 (record link { tree = 10 }) link_contact_due
-unfolding understood everything
-link_contact_due_is = record { command = refl; whole = refl; place = refl; defined = refl; plain = (refl, refl) }
-
-link_host_due_is : IsIndex with_link_contact_due link_host_due_create 6 (record link { tree = 10 }) link_host_due
-unfolding understood everything
-link_host_due_is = record { command = refl; whole = refl; place = refl; defined = refl; plain = (refl, refl) }
-
-transfer_losing_is : IsIndex with_link_host_due transfer_losing_create 9 (record transfer { tree = 13 }) transfer_losing
-unfolding understood everything
-transfer_losing_is = record { command = refl; whole = refl; place = refl; defined = refl; plain = (refl, refl) }
-
 days_is : IsTable with_transfer_losing days_create days
 unfolding understood everything
 days_is = record { command = refl; whole = refl; defined = refl; plain = (refl, refl); uncounted = refl }
 
-from_with_transfer_losing : DefinesAll with_transfer_losing (days_create ∷ []) registry
-from_with_transfer_losing = (registry, inl (days, days_is, refl), refl)
-
-from_with_link_host_due : DefinesAll with_link_host_due (transfer_losing_create ∷ days_create ∷ []) registry
-from_with_link_host_due = (with_transfer_losing, inr (9, record transfer { tree = 13 }, transfer_losing, transfer_losing_is, refl), from_with_transfer_losing)
-
-from_with_link_contact_due : DefinesAll with_link_contact_due (link_host_due_create ∷ transfer_losing_create ∷ days_create ∷ []) registry
-from_with_link_contact_due = (with_link_host_due, inr (6, record link { tree = 10 }, link_host_due, link_host_due_is, refl), from_with_link_host_due)
-
-from_with_domain_registrant_due : DefinesAll with_domain_registrant_due (link_contact_due_create ∷ link_host_due_create ∷ transfer_losing_create ∷ days_create ∷ []) registry
-from_with_domain_registrant_due = (with_link_contact_due, inr (6, record link { tree = 10 }, link_contact_due, link_contact_due_is, refl), from_with_link_contact_due)
-
-from_with_domain_roid : DefinesAll with_domain_roid (domain_registrant_due_create ∷ link_contact_due_create ∷ link_host_due_create ∷ transfer_losing_create ∷ days_create ∷ []) registry
-from_with_domain_roid = (with_domain_registrant_due, inr (3, record domain { tree = 5 }, domain_registrant_due, domain_registrant_due_is, refl), from_with_domain_registrant_due)
-
-from_with_contact_sponsor : DefinesAll with_contact_sponsor (domain_roid_create ∷ domain_registrant_due_create ∷ link_contact_due_create ∷ link_host_due_create ∷ transfer_losing_create ∷ days_create ∷ []) registry
-from_with_contact_sponsor = (with_domain_roid, inr (3, record domain { tree = 5 }, domain_roid, domain_roid_is, refl), from_with_domain_roid)
-
-from_with_transfer_requester : DefinesAll with_transfer_requester (contact_sponsor_create ∷ domain_roid_create ∷ domain_registrant_due_create ∷ link_contact_due_create ∷ link_host_due_create ∷ transfer_losing_create ∷ days_create ∷ []) registry
-from_with_transfer_requester = (with_contact_sponsor, inr (2, record contact { tree = 3 }, contact_sponsor, contact_sponsor_is, refl), from_with_contact_sponsor)
-
-from_with_transfer_domain : DefinesAll with_transfer_domain (transfer_requester_create ∷ contact_sponsor_create ∷ domain_roid_create ∷ domain_registrant_due_create ∷ link_contact_due_create ∷ link_host_due_create ∷ transfer_losing_create ∷ days_create ∷ []) registry
-from_with_transfer_domain = (with_transfer_requester, inr (9, record transfer { tree = 13 }, transfer_requester, transfer_requester_is, refl), from_with_transfer_requester)
-
-from_with_transfer_contact : DefinesAll with_transfer_contact (transfer_domain_create ∷ transfer_requester_create ∷ contact_sponsor_create ∷ domain_roid_create ∷ domain_registrant_due_create ∷ link_contact_due_create ∷ link_host_due_create ∷ transfer_losing_create ∷ days_create ∷ []) registry
-from_with_transfer_contact = (with_transfer_domain, inr (9, record transfer { tree = 13 }, transfer_domain, transfer_domain_is, refl), from_with_transfer_domain)
-
-from_with_message_queue : DefinesAll with_message_queue (transfer_contact_create ∷ transfer_domain_create ∷ transfer_requester_create ∷ contact_sponsor_create ∷ domain_roid_create ∷ domain_registrant_due_create ∷ link_contact_due_create ∷ link_host_due_create ∷ transfer_losing_create ∷ days_create ∷ []) registry
-from_with_message_queue = (with_transfer_contact, inr (9, record transfer { tree = 13 }, transfer_contact, transfer_contact_is, refl), from_with_transfer_contact)
-
-from_with_line_object : DefinesAll with_line_object (message_queue_create ∷ transfer_contact_create ∷ transfer_domain_create ∷ transfer_requester_create ∷ contact_sponsor_create ∷ domain_roid_create ∷ domain_registrant_due_create ∷ link_contact_due_create ∷ link_host_due_create ∷ transfer_losing_create ∷ days_create ∷ []) registry
-from_with_line_object = (with_message_queue, inr (8, record message { tree = 12 }, message_queue, message_queue_is, refl), from_with_message_queue)
-
-from_with_link_host : DefinesAll with_link_host (line_object_create ∷ message_queue_create ∷ transfer_contact_create ∷ transfer_domain_create ∷ transfer_requester_create ∷ contact_sponsor_create ∷ domain_roid_create ∷ domain_registrant_due_create ∷ link_contact_due_create ∷ link_host_due_create ∷ transfer_losing_create ∷ days_create ∷ []) registry
-from_with_link_host = (with_line_object, inr (7, record line { tree = 11 }, line_object, line_object_is, refl), from_with_line_object)
-
-from_with_link_contact : DefinesAll with_link_contact (link_host_create ∷ line_object_create ∷ message_queue_create ∷ transfer_contact_create ∷ transfer_domain_create ∷ transfer_requester_create ∷ contact_sponsor_create ∷ domain_roid_create ∷ domain_registrant_due_create ∷ link_contact_due_create ∷ link_host_due_create ∷ transfer_losing_create ∷ days_create ∷ []) registry
-from_with_link_contact = (with_link_host, inr (6, record link { tree = 10 }, link_host, link_host_is, refl), from_with_link_host)
-
-from_with_link_domain : DefinesAll with_link_domain (link_contact_create ∷ link_host_create ∷ line_object_create ∷ message_queue_create ∷ transfer_contact_create ∷ transfer_domain_create ∷ transfer_requester_create ∷ contact_sponsor_create ∷ domain_roid_create ∷ domain_registrant_due_create ∷ link_contact_due_create ∷ link_host_due_create ∷ transfer_losing_create ∷ days_create ∷ []) registry
-from_with_link_domain = (with_link_contact, inr (6, record link { tree = 10 }, link_contact, link_contact_is, refl), from_with_link_contact)
-
-from_with_address_host : DefinesAll with_address_host (link_domain_create ∷ link_contact_create ∷ link_host_create ∷ line_object_create ∷ message_queue_create ∷ transfer_contact_create ∷ transfer_domain_create ∷ transfer_requester_create ∷ contact_sponsor_create ∷ domain_roid_create ∷ domain_registrant_due_create ∷ link_contact_due_create ∷ link_host_due_create ∷ transfer_losing_create ∷ days_create ∷ []) registry
-from_with_address_host = (with_link_domain, inr (6, record link { tree = 10 }, link_domain, link_domain_is, refl), from_with_link_domain)
-
-from_with_host_above : DefinesAll with_host_above (address_host_create ∷ link_domain_create ∷ link_contact_create ∷ link_host_create ∷ line_object_create ∷ message_queue_create ∷ transfer_contact_create ∷ transfer_domain_create ∷ transfer_requester_create ∷ contact_sponsor_create ∷ domain_roid_create ∷ domain_registrant_due_create ∷ link_contact_due_create ∷ link_host_due_create ∷ transfer_losing_create ∷ days_create ∷ []) registry
-from_with_host_above = (with_address_host, inr (5, record address { tree = 9 }, address_host, address_host_is, refl), from_with_address_host)
-
-from_with_domain_sponsor : DefinesAll with_domain_sponsor (host_above_create ∷ address_host_create ∷ link_domain_create ∷ link_contact_create ∷ link_host_create ∷ line_object_create ∷ message_queue_create ∷ transfer_contact_create ∷ transfer_domain_create ∷ transfer_requester_create ∷ contact_sponsor_create ∷ domain_roid_create ∷ domain_registrant_due_create ∷ link_contact_due_create ∷ link_host_due_create ∷ transfer_losing_create ∷ days_create ∷ []) registry
-from_with_domain_sponsor = (with_host_above, inr (4, record host { tree = 7 }, host_above, host_above_is, refl), from_with_host_above)
-
-from_with_domain_due : DefinesAll with_domain_due (domain_sponsor_create ∷ host_above_create ∷ address_host_create ∷ link_domain_create ∷ link_contact_create ∷ link_host_create ∷ line_object_create ∷ message_queue_create ∷ transfer_contact_create ∷ transfer_domain_create ∷ transfer_requester_create ∷ contact_sponsor_create ∷ domain_roid_create ∷ domain_registrant_due_create ∷ link_contact_due_create ∷ link_host_due_create ∷ transfer_losing_create ∷ days_create ∷ []) registry
-from_with_domain_due = (with_domain_sponsor, inr (3, record domain { tree = 5 }, domain_sponsor, domain_sponsor_is, refl), from_with_domain_sponsor)
-
-from_with_domain_registrant : DefinesAll with_domain_registrant (domain_due_create ∷ domain_sponsor_create ∷ host_above_create ∷ address_host_create ∷ link_domain_create ∷ link_contact_create ∷ link_host_create ∷ line_object_create ∷ message_queue_create ∷ transfer_contact_create ∷ transfer_domain_create ∷ transfer_requester_create ∷ contact_sponsor_create ∷ domain_roid_create ∷ domain_registrant_due_create ∷ link_contact_due_create ∷ link_host_due_create ∷ transfer_losing_create ∷ days_create ∷ []) registry
-from_with_domain_registrant = (with_domain_due, inr (3, record domain { tree = 5 }, domain_due, domain_due_is, refl), from_with_domain_due)
-
-from_with_contact_due : DefinesAll with_contact_due (domain_registrant_create ∷ domain_due_create ∷ domain_sponsor_create ∷ host_above_create ∷ address_host_create ∷ link_domain_create ∷ link_contact_create ∷ link_host_create ∷ line_object_create ∷ message_queue_create ∷ transfer_contact_create ∷ transfer_domain_create ∷ transfer_requester_create ∷ contact_sponsor_create ∷ domain_roid_create ∷ domain_registrant_due_create ∷ link_contact_due_create ∷ link_host_due_create ∷ transfer_losing_create ∷ days_create ∷ []) registry
-from_with_contact_due = (with_domain_registrant, inr (3, record domain { tree = 5 }, domain_registrant, domain_registrant_is, refl), from_with_domain_registrant)
-
-from_with_transfer : DefinesAll with_transfer (contact_due_create ∷ domain_registrant_create ∷ domain_due_create ∷ domain_sponsor_create ∷ host_above_create ∷ address_host_create ∷ link_domain_create ∷ link_contact_create ∷ link_host_create ∷ line_object_create ∷ message_queue_create ∷ transfer_contact_create ∷ transfer_domain_create ∷ transfer_requester_create ∷ contact_sponsor_create ∷ domain_roid_create ∷ domain_registrant_due_create ∷ link_contact_due_create ∷ link_host_due_create ∷ transfer_losing_create ∷ days_create ∷ []) registry
-from_with_transfer = (with_contact_due, inr (2, record contact { tree = 3 }, contact_due, contact_due_is, refl), from_with_contact_due)
-
-from_with_message : DefinesAll with_message (transfer_create ∷ contact_due_create ∷ domain_registrant_create ∷ domain_due_create ∷ domain_sponsor_create ∷ host_above_create ∷ address_host_create ∷ link_domain_create ∷ link_contact_create ∷ link_host_create ∷ line_object_create ∷ message_queue_create ∷ transfer_contact_create ∷ transfer_domain_create ∷ transfer_requester_create ∷ contact_sponsor_create ∷ domain_roid_create ∷ domain_registrant_due_create ∷ link_contact_due_create ∷ link_host_due_create ∷ transfer_losing_create ∷ days_create ∷ []) registry
-from_with_message = (with_transfer, inl (transfer, transfer_is, refl), from_with_transfer)
-
-from_with_line : DefinesAll with_line (message_create ∷ transfer_create ∷ contact_due_create ∷ domain_registrant_create ∷ domain_due_create ∷ domain_sponsor_create ∷ host_above_create ∷ address_host_create ∷ link_domain_create ∷ link_contact_create ∷ link_host_create ∷ line_object_create ∷ message_queue_create ∷ transfer_contact_create ∷ transfer_domain_create ∷ transfer_requester_create ∷ contact_sponsor_create ∷ domain_roid_create ∷ domain_registrant_due_create ∷ link_contact_due_create ∷ link_host_due_create ∷ transfer_losing_create ∷ days_create ∷ []) registry
-from_with_line = (with_message, inl (message, message_is, refl), from_with_message)
-
-from_with_link : DefinesAll with_link (line_create ∷ message_create ∷ transfer_create ∷ contact_due_create ∷ domain_registrant_create ∷ domain_due_create ∷ domain_sponsor_create ∷ host_above_create ∷ address_host_create ∷ link_domain_create ∷ link_contact_create ∷ link_host_create ∷ line_object_create ∷ message_queue_create ∷ transfer_contact_create ∷ transfer_domain_create ∷ transfer_requester_create ∷ contact_sponsor_create ∷ domain_roid_create ∷ domain_registrant_due_create ∷ link_contact_due_create ∷ link_host_due_create ∷ transfer_losing_create ∷ days_create ∷ []) registry
-from_with_link = (with_line, inl (line, line_is, refl), from_with_line)
-
-from_with_address : DefinesAll with_address (link_create ∷ line_create ∷ message_create ∷ transfer_create ∷ contact_due_create ∷ domain_registrant_create ∷ domain_due_create ∷ domain_sponsor_create ∷ host_above_create ∷ address_host_create ∷ link_domain_create ∷ link_contact_create ∷ link_host_create ∷ line_object_create ∷ message_queue_create ∷ transfer_contact_create ∷ transfer_domain_create ∷ transfer_requester_create ∷ contact_sponsor_create ∷ domain_roid_create ∷ domain_registrant_due_create ∷ link_contact_due_create ∷ link_host_due_create ∷ transfer_losing_create ∷ days_create ∷ []) registry
-from_with_address = (with_link, inl (link, link_is, refl), from_with_link)
-
-from_with_host : DefinesAll with_host (address_create ∷ link_create ∷ line_create ∷ message_create ∷ transfer_create ∷ contact_due_create ∷ domain_registrant_create ∷ domain_due_create ∷ domain_sponsor_create ∷ host_above_create ∷ address_host_create ∷ link_domain_create ∷ link_contact_create ∷ link_host_create ∷ line_object_create ∷ message_queue_create ∷ transfer_contact_create ∷ transfer_domain_create ∷ transfer_requester_create ∷ contact_sponsor_create ∷ domain_roid_create ∷ domain_registrant_due_create ∷ link_contact_due_create ∷ link_host_due_create ∷ transfer_losing_create ∷ days_create ∷ []) registry
-from_with_host = (with_address, inl (address, address_is, refl), from_with_address)
-
-from_with_domain : DefinesAll with_domain (host_create ∷ address_create ∷ link_create ∷ line_create ∷ message_create ∷ transfer_create ∷ contact_due_create ∷ domain_registrant_create ∷ domain_due_create ∷ domain_sponsor_create ∷ host_above_create ∷ address_host_create ∷ link_domain_create ∷ link_contact_create ∷ link_host_create ∷ line_object_create ∷ message_queue_create ∷ transfer_contact_create ∷ transfer_domain_create ∷ transfer_requester_create ∷ contact_sponsor_create ∷ domain_roid_create ∷ domain_registrant_due_create ∷ link_contact_due_create ∷ link_host_due_create ∷ transfer_losing_create ∷ days_create ∷ []) registry
-from_with_domain = (with_host, inl (host, host_is, refl), from_with_host)
-
-from_with_contact : DefinesAll with_contact (domain_create ∷ host_create ∷ address_create ∷ link_create ∷ line_create ∷ message_create ∷ transfer_create ∷ contact_due_create ∷ domain_registrant_create ∷ domain_due_create ∷ domain_sponsor_create ∷ host_above_create ∷ address_host_create ∷ link_domain_create ∷ link_contact_create ∷ link_host_create ∷ line_object_create ∷ message_queue_create ∷ transfer_contact_create ∷ transfer_domain_create ∷ transfer_requester_create ∷ contact_sponsor_create ∷ domain_roid_create ∷ domain_registrant_due_create ∷ link_contact_due_create ∷ link_host_due_create ∷ transfer_losing_create ∷ days_create ∷ []) registry
-from_with_contact = (with_domain, inl (domain, domain_is, refl), from_with_domain)
-
-from_with_account : DefinesAll with_account (contact_create ∷ domain_create ∷ host_create ∷ address_create ∷ link_create ∷ line_create ∷ message_create ∷ transfer_create ∷ contact_due_create ∷ domain_registrant_create ∷ domain_due_create ∷ domain_sponsor_create ∷ host_above_create ∷ address_host_create ∷ link_domain_create ∷ link_contact_create ∷ link_host_create ∷ line_object_create ∷ message_queue_create ∷ transfer_contact_create ∷ transfer_domain_create ∷ transfer_requester_create ∷ contact_sponsor_create ∷ domain_roid_create ∷ domain_registrant_due_create ∷ link_contact_due_create ∷ link_host_due_create ∷ transfer_losing_create ∷ days_create ∷ []) registry
-from_with_account = (with_contact, inl (contact, contact_is, refl), from_with_contact)
-
-from_with_meta : DefinesAll with_meta (account_create ∷ contact_create ∷ domain_create ∷ host_create ∷ address_create ∷ link_create ∷ line_create ∷ message_create ∷ transfer_create ∷ contact_due_create ∷ domain_registrant_create ∷ domain_due_create ∷ domain_sponsor_create ∷ host_above_create ∷ address_host_create ∷ link_domain_create ∷ link_contact_create ∷ link_host_create ∷ line_object_create ∷ message_queue_create ∷ transfer_contact_create ∷ transfer_domain_create ∷ transfer_requester_create ∷ contact_sponsor_create ∷ domain_roid_create ∷ domain_registrant_due_create ∷ link_contact_due_create ∷ link_host_due_create ∷ transfer_losing_create ∷ days_create ∷ []) registry
-from_with_meta = (with_account, inl (account, account_is, refl), from_with_account)
-
-from_no_schema : DefinesAll no_schema (meta_create ∷ account_create ∷ contact_create ∷ domain_create ∷ host_create ∷ address_create ∷ link_create ∷ line_create ∷ message_create ∷ transfer_create ∷ contact_due_create ∷ domain_registrant_create ∷ domain_due_create ∷ domain_sponsor_create ∷ host_above_create ∷ address_host_create ∷ link_domain_create ∷ link_contact_create ∷ link_host_create ∷ line_object_create ∷ message_queue_create ∷ transfer_contact_create ∷ transfer_domain_create ∷ transfer_requester_create ∷ contact_sponsor_create ∷ domain_roid_create ∷ domain_registrant_due_create ∷ link_contact_due_create ∷ link_host_due_create ∷ transfer_losing_create ∷ days_create ∷ []) registry
-from_no_schema = (with_meta, inl (meta, meta_is, refl), from_with_meta)
-
 pub creation_defines : DefinesAll no_schema creation registry
-creation_defines = from_no_schema
+creation_defines = all_defines line_create (nullable (codes "ends") Integer ∷ nullable (codes "refunded") Integer ∷ filled (codes "recorded") Integer ∷ []) (days_create ∷ []) registry line_is
+    (registry, inl (days, days_is, refl), refl)
 
 pub blank_holds_nothing : (db : Database) → IsBlank registry db → IsContent no_content db
 blank_holds_nothing db blank = record {

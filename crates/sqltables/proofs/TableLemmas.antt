@@ -1,24 +1,28 @@
 -- Statements on one of the eleven tables, as statements on all of them.
-use Rattle.std.proofs.Common.{◌≡◌, ◌≢◌, ◌==◌, ◌||◌, Bool, true, false, ℕ, List, [], ◌∷◌, map, Option, ◌∙◌, refl, ap, ap₂, subst, sym, true≢false}
-use Rattle.std.proofs.lemmas.Bool.{eqb-true}
+use Rattle.std.proofs.Common.{◌≡◌, ◌≢◌, ◌==◌, ◌||◌, Bool, true, false, ℕ, List, [], ◌∷◌, map, Option, Some, slice_get, ◌∙◌, refl, ap, ap₂, subst, sym, true≢false}
+use Rattle.std.proofs.lemmas.Bool.{eqb-true, eq-eqb}
 use Rattle.std.specs.List.{AllByRecursion, list_any}
 use Rattle.sqlite_schema.specs.declared.schema.Table.{Table}
 use Rattle.sqlite_value.specs.declared.value.Value.{Value}
 use Rattle.sqlite_value.specs.Order.{Row}
 use Rattle.sqlite.specs.Values.{bound_value}
 use Rattle.sqlite_trees.specs.Tree.{Trees}
+use Rattle.sqlite_rules.specs.Cast.{cast_row}
 use Rattle.sqlite_sql.specs.Query.{Query, IsAnswer, inner, end}
 use Rattle.sqlite_sql.specs.Program.{overlay}
 use Rattle.sqlite.specs.Does.{Tally}
 use Rattle.sqlite.specs.Effect.{Database}
 use Rattle.sqlite.specs.Given.{IsPlain}
 use Rattle.sqlite.specs.Listing.{understood}
-use Rattle.sqlrows.specs.inner.Layouts.{command_of, writes_tables, Holds, IsSelect, Leads, Sets}
+use Rattle.sqlrows.specs.inner.Layouts.{command_of, writes_tables, Holds, IsSelect, Leads, Listed, Sets}
 use Rattle.sqlrows.specs.Layouts.{Layout}
+use Rattle.sqlrows.proofs.CastLemmas.{cast_int, cast_null, cast_text, cast_maybe_int, cast_maybe_text}
+use Rattle.sqlrows.proofs.QuietLemmas.{quiet_if_idle}
 use Rattle.sqltables.specs.Content.{Content}
-use Rattle.sqltables.specs.inner.Content.{metas_to, accounts_to, contacts_to, domains_to, hosts_to, addresses_to, links_to, lines_to, messages_to, transfers_to, days_to}
-use Rattle.sqltables.specs.inner.Statements.{Alters, Asks}
+use Rattle.sqltables.specs.inner.Content.{IsContent, metas_to, accounts_to, contacts_to, domains_to, hosts_to, addresses_to, links_to, lines_to, messages_to, transfers_to, days_to}
+use Rattle.sqltables.specs.inner.Statements.{Alters, AreOthersSame, Asks, is_table}
 use Rattle.sqltables.specs.Tables.{registry}
+use Rattle.sqltables.specs.Tables as schema
 use Rattle.sqltables.specs.Meta.{Meta, metas}
 use Rattle.sqltables.specs.Account.{Account, accounts}
 use Rattle.sqltables.specs.Contact.{Contact, contacts}
@@ -39,35 +43,6 @@ kept L db next xs same h = record { rows = same ∙ h.rows; keyed = h.keyed }
 abbrev given : Trees → Database
 given db = record { schema = registry; trees = db }
 
--- each table is as it was whose tree isn't this one
-record Untouched (tree : ℕ) (old new : Trees) : Type 0 where
-  pub metas : metas.tree ≢ tree → new metas.tree ≡ old metas.tree
-  pub accounts : accounts.tree ≢ tree → new accounts.tree ≡ old accounts.tree
-  pub contacts : contacts.tree ≢ tree → new contacts.tree ≡ old contacts.tree
-  pub domains : domains.tree ≢ tree → new domains.tree ≡ old domains.tree
-  pub hosts : hosts.tree ≢ tree → new hosts.tree ≡ old hosts.tree
-  pub addresses : addresses.tree ≢ tree → new addresses.tree ≡ old addresses.tree
-  pub links : links.tree ≢ tree → new links.tree ≡ old links.tree
-  pub lines : lines.tree ≢ tree → new lines.tree ≡ old lines.tree
-  pub messages : messages.tree ≢ tree → new messages.tree ≡ old messages.tree
-  pub transfers : transfers.tree ≢ tree → new transfers.tree ≡ old transfers.tree
-  pub days : days.tree ≢ tree → new days.tree ≡ old days.tree
-
-untouched_of : (tree : ℕ) (old new : Trees) → AllByRecursion (λ t. t.tree ≢ tree → new t.tree ≡ old t.tree) registry.tables → Untouched tree old new
-untouched_of tree old new all = record {
-  metas = all.0;
-  accounts = all.1.0;
-  contacts = all.1.1.0;
-  domains = all.1.1.1.0;
-  hosts = all.1.1.1.1.0;
-  addresses = all.1.1.1.1.1.0;
-  links = all.1.1.1.1.1.1.0;
-  lines = all.1.1.1.1.1.1.1.0;
-  messages = all.1.1.1.1.1.1.1.1.0;
-  transfers = all.1.1.1.1.1.1.1.1.1.0;
-  days = all.1.1.1.1.1.1.1.1.1.1.0;
-}
-
 -- the table in a tree is as it was, of several of which each is whose tree isn't the one that is written
 others_same : (written : ℕ) (old new : Trees) (tables : List Table) → AllByRecursion (λ t. t.tree ≢ written → new t.tree ≡ old t.tree) tables
     → (tree : ℕ) → list_any (λ t. t.tree == tree) tables ≡ true → tree ≢ written → new tree ≡ old tree
@@ -78,6 +53,133 @@ others_same written old new (t ∷ ts) kept tree h apart = go (t.tree == tree) r
     go true e _ later = let same = eqb-true t.tree tree e in subst (λ n. new n ≡ old n) same (kept.0 (λ is. apart (sym same ∙ is)))
     go false e more later = later more
 
+-- what a table holds after a write: these rows if it is the one that is written, and else what it held
+abbrev Turns : {X : Type 0} → Bool → Layout X → Trees → List X → List X → Type 0
+Turns true L new was xs = Holds L new xs
+Turns false L new was xs = was ≡ xs
+
+turns : {X : Type 0} (L : Layout X) (written : ℕ) (old new : Trees) (was xs : List X) → AreOthersSame written old new → is_table L.tree ≡ true
+    → Holds L old was → Turns (L.tree == written) L new was xs → Holds L new xs
+turns {X} L written old new was xs others is h it = go (L.tree == written) refl it
+  where
+    go : (here : Bool) → (L.tree == written) ≡ here → Turns here L new was xs → Holds L new xs
+    go true e these = these
+    go false e same = subst (Holds L new) same (kept L old new was (others L.tree is (λ one. true≢false (sym (eq-eqb L.tree written one) ∙ e))) h)
+
+-- the same of all tables
+abbrev Turned : ℕ → Trees → Content → Content → Type 0
+Turned written new was xs =
+    Turns (metas.tree == written) metas new was.metas xs.metas
+    × Turns (accounts.tree == written) accounts new was.accounts xs.accounts
+    × Turns (contacts.tree == written) contacts new was.contacts xs.contacts
+    × Turns (domains.tree == written) domains new was.domains xs.domains
+    × Turns (hosts.tree == written) hosts new was.hosts xs.hosts
+    × Turns (addresses.tree == written) addresses new was.addresses xs.addresses
+    × Turns (links.tree == written) links new was.links xs.links
+    × Turns (lines.tree == written) lines new was.lines xs.lines
+    × Turns (messages.tree == written) messages new was.messages xs.messages
+    × Turns (transfers.tree == written) transfers new was.transfers xs.transfers
+    × Turns (days.tree == written) days new was.days xs.days
+
+turned : (written : ℕ) (old : Trees) (after : Database) (was xs : Content) → after.schema ≡ registry → AreOthersSame written old after.trees
+    → IsContent was (given old) → Turned written after.trees was xs → IsContent xs after
+turned written old after was xs same others h it = record {
+  schema = same;
+  metas = turns metas written old after.trees was.metas xs.metas others refl h.metas it.0;
+  accounts = turns accounts written old after.trees was.accounts xs.accounts others refl h.accounts it.1;
+  contacts = turns contacts written old after.trees was.contacts xs.contacts others refl h.contacts it.2;
+  domains = turns domains written old after.trees was.domains xs.domains others refl h.domains it.3;
+  hosts = turns hosts written old after.trees was.hosts xs.hosts others refl h.hosts it.4;
+  addresses = turns addresses written old after.trees was.addresses xs.addresses others refl h.addresses it.5;
+  links = turns links written old after.trees was.links xs.links others refl h.links it.6;
+  lines = turns lines written old after.trees was.lines xs.lines others refl h.lines it.7;
+  messages = turns messages written old after.trees was.messages xs.messages others refl h.messages it.8;
+  transfers = turns transfers written old after.trees was.transfers xs.transfers others refl h.transfers it.9;
+  days = turns days written old after.trees was.days xs.days others refl h.days it.10;
+}
+
+-- one of the tables: how its rows lie and where, which they are of all that is held, and a change of them alone
+pub record Part (X : Type 0) : Type 0 where
+  pub layout : Layout X
+  pub at : ℕ
+  pub table : Table
+  pub listed : Listed layout registry at table
+  pub rows : Content → List X
+  pub to : (List X → List X) → Content → Content
+  pub is : is_table layout.tree ≡ true
+  pub holds : (xs : Content) (db : Database) → IsContent xs db → Holds layout db.trees (rows xs)
+  pub turned : (change : List X → List X) (new : Trees) (xs : Content) → Holds layout new (change (rows xs)) → Turned layout.tree new xs (to change xs)
+
+listed : {X : Type 0} (L : Layout X) (at : ℕ) (table : Table) → slice_get registry.tables at ≡ Some table → table.tree ≡ L.tree → table.is_counted ≡ false
+    → table.stamps ≡ record { places = []; terms = []; formats = [] } → ((x : X) → cast_row table (L.to_row x) ≡ L.to_row x) → Listed L registry at table
+listed L at table is tree uncounted unstamped casts = record { is = is; tree = tree; quiet = quiet_if_idle registry refl; uncounted = uncounted; unstamped = unstamped; casts = casts }
+
+pub meta_listed : Listed metas registry 0 (record schema.meta { tree = 0 })
+meta_listed = listed metas 0 (record schema.meta { tree = 0 }) refl refl refl refl (λ x. simp (cast_int, cast_null, cast_text, cast_maybe_int, cast_maybe_text))
+
+abbrev pub meta_part : Part Meta
+meta_part = record { layout = metas; at = 0; table = record schema.meta { tree = 0 }; listed = meta_listed; rows = λ c. c.metas; to = metas_to; is = refl; holds = λ xs db h. h.metas; turned = λ f new xs h. (h, refl, refl, refl, refl, refl, refl, refl, refl, refl, refl) }
+
+pub account_listed : Listed accounts registry 1 (record schema.account { tree = 1 })
+account_listed = listed accounts 1 (record schema.account { tree = 1 }) refl refl refl refl (λ x. simp (cast_int, cast_null, cast_text, cast_maybe_int, cast_maybe_text))
+
+abbrev pub account_part : Part Account
+account_part = record { layout = accounts; at = 1; table = record schema.account { tree = 1 }; listed = account_listed; rows = λ c. c.accounts; to = accounts_to; is = refl; holds = λ xs db h. h.accounts; turned = λ f new xs h. (refl, h, refl, refl, refl, refl, refl, refl, refl, refl, refl) }
+
+pub contact_listed : Listed contacts registry 2 (record schema.contact { tree = 3 })
+contact_listed = listed contacts 2 (record schema.contact { tree = 3 }) refl refl refl refl (λ x. simp (cast_int, cast_null, cast_text, cast_maybe_int, cast_maybe_text))
+
+abbrev pub contact_part : Part Contact
+contact_part = record { layout = contacts; at = 2; table = record schema.contact { tree = 3 }; listed = contact_listed; rows = λ c. c.contacts; to = contacts_to; is = refl; holds = λ xs db h. h.contacts; turned = λ f new xs h. (refl, refl, h, refl, refl, refl, refl, refl, refl, refl, refl) }
+
+pub domain_listed : Listed domains registry 3 (record schema.domain { tree = 5 })
+domain_listed = listed domains 3 (record schema.domain { tree = 5 }) refl refl refl refl (λ x. simp (cast_int, cast_null, cast_text, cast_maybe_int, cast_maybe_text))
+
+abbrev pub domain_part : Part Domain
+domain_part = record { layout = domains; at = 3; table = record schema.domain { tree = 5 }; listed = domain_listed; rows = λ c. c.domains; to = domains_to; is = refl; holds = λ xs db h. h.domains; turned = λ f new xs h. (refl, refl, refl, h, refl, refl, refl, refl, refl, refl, refl) }
+
+pub host_listed : Listed hosts registry 4 (record schema.host { tree = 7 })
+host_listed = listed hosts 4 (record schema.host { tree = 7 }) refl refl refl refl (λ x. simp (cast_int, cast_null, cast_text, cast_maybe_int, cast_maybe_text))
+
+abbrev pub host_part : Part Host
+host_part = record { layout = hosts; at = 4; table = record schema.host { tree = 7 }; listed = host_listed; rows = λ c. c.hosts; to = hosts_to; is = refl; holds = λ xs db h. h.hosts; turned = λ f new xs h. (refl, refl, refl, refl, h, refl, refl, refl, refl, refl, refl) }
+
+pub address_listed : Listed addresses registry 5 (record schema.address { tree = 9 })
+address_listed = listed addresses 5 (record schema.address { tree = 9 }) refl refl refl refl (λ x. simp (cast_int, cast_null, cast_text, cast_maybe_int, cast_maybe_text))
+
+abbrev pub address_part : Part Address
+address_part = record { layout = addresses; at = 5; table = record schema.address { tree = 9 }; listed = address_listed; rows = λ c. c.addresses; to = addresses_to; is = refl; holds = λ xs db h. h.addresses; turned = λ f new xs h. (refl, refl, refl, refl, refl, h, refl, refl, refl, refl, refl) }
+
+pub link_listed : Listed links registry 6 (record schema.link { tree = 10 })
+link_listed = listed links 6 (record schema.link { tree = 10 }) refl refl refl refl (λ x. simp (cast_int, cast_null, cast_text, cast_maybe_int, cast_maybe_text))
+
+abbrev pub link_part : Part Link
+link_part = record { layout = links; at = 6; table = record schema.link { tree = 10 }; listed = link_listed; rows = λ c. c.links; to = links_to; is = refl; holds = λ xs db h. h.links; turned = λ f new xs h. (refl, refl, refl, refl, refl, refl, h, refl, refl, refl, refl) }
+
+pub line_listed : Listed lines registry 7 (record schema.line { tree = 11 })
+line_listed = listed lines 7 (record schema.line { tree = 11 }) refl refl refl refl (λ x. simp (cast_int, cast_null, cast_text, cast_maybe_int, cast_maybe_text))
+
+abbrev pub line_part : Part Line
+line_part = record { layout = lines; at = 7; table = record schema.line { tree = 11 }; listed = line_listed; rows = λ c. c.lines; to = lines_to; is = refl; holds = λ xs db h. h.lines; turned = λ f new xs h. (refl, refl, refl, refl, refl, refl, refl, h, refl, refl, refl) }
+
+pub message_listed : Listed messages registry 8 (record schema.message { tree = 12 })
+message_listed = listed messages 8 (record schema.message { tree = 12 }) refl refl refl refl (λ x. simp (cast_int, cast_null, cast_text, cast_maybe_int, cast_maybe_text))
+
+abbrev pub message_part : Part Message
+message_part = record { layout = messages; at = 8; table = record schema.message { tree = 12 }; listed = message_listed; rows = λ c. c.messages; to = messages_to; is = refl; holds = λ xs db h. h.messages; turned = λ f new xs h. (refl, refl, refl, refl, refl, refl, refl, refl, h, refl, refl) }
+
+pub transfer_listed : Listed transfers registry 9 (record schema.transfer { tree = 13 })
+transfer_listed = listed transfers 9 (record schema.transfer { tree = 13 }) refl refl refl refl (λ x. simp (cast_int, cast_null, cast_text, cast_maybe_int, cast_maybe_text))
+
+abbrev pub transfer_part : Part Transfer
+transfer_part = record { layout = transfers; at = 9; table = record schema.transfer { tree = 13 }; listed = transfer_listed; rows = λ c. c.transfers; to = transfers_to; is = refl; holds = λ xs db h. h.transfers; turned = λ f new xs h. (refl, refl, refl, refl, refl, refl, refl, refl, refl, h, refl) }
+
+pub day_listed : Listed days registry 10 (record schema.days { tree = 34 })
+day_listed = listed days 10 (record schema.days { tree = 34 }) refl refl refl refl (λ x. simp (cast_int, cast_null, cast_text, cast_maybe_int, cast_maybe_text))
+
+abbrev pub day_part : Part Day
+day_part = record { layout = days; at = 10; table = record schema.days { tree = 34 }; listed = day_listed; rows = λ c. c.days; to = days_to; is = refl; holds = λ xs db h. h.days; turned = λ f new xs h. (refl, refl, refl, refl, refl, refl, refl, refl, refl, refl, h) }
+
 -- a query of one table
 abbrev Answers : {X : Type 0} → Layout X → (X → Row) → Query → Row → (List X → List X) → Type 0
 Answers {X} L shown q params f = (db : Trees) (xs : List X) (rows : List Row) → Holds L db xs → IsAnswer q (overlay db []) params rows → rows ≡ map shown (f xs)
@@ -86,302 +188,22 @@ Answers {X} L shown q params f = (db : Trees) (xs : List X) (rows : List Row) �
 abbrev Changes : {X : Type 0} → Layout X → List ℕ → Row → (List X → List X) → Type 0
 Changes {X} L sql params f = (limit : Option ℕ) (text : List ℕ) (db : Trees) (tally : Tally) (after : Database) (xs : List X) → Holds L db xs → Leads registry sql params limit text db tally after → Sets L registry (given db) after (f xs)
 
-pub asks_metas : (shown : Meta → Row) (sql : List ℕ) (params : Row) (q : Query) (f : List Meta → List Meta) → IsSelect registry sql q → q.from ≡ inner metas.tree end → Answers metas shown q params f → Asks metas.tree shown sql params (λ c. f c.metas)
-asks_metas shown sql params q f is from answers = record { query = q; is = is; of = record { from = from; table = refl }; means = λ db xs rows h answer. answers db xs.metas rows h.metas answer }
+module _ {X : Type 0} (T : Part X) where
+  pub asks : (shown : X → Row) (sql : List ℕ) (params : Row) (q : Query) (f : List X → List X) → IsSelect registry sql q → q.from ≡ inner T.layout.tree end → Answers T.layout shown q params f
+      → Asks T.layout.tree shown sql params (λ c. f (T.rows c))
+  asks shown sql params q f is from answers =
+      record { query = q; is = is; of = record { from = from; table = T.is }; means = λ db xs rows h answer. answers db (T.rows xs) rows (T.holds xs (given db) h) answer }
 
-pub alters_metas : (sql : List ℕ) (params : Row) (f : List Meta → List Meta) → IsPlain (understood registry sql) → writes_tables (command_of (understood registry sql)) ≡ true → Changes metas sql params f → Alters metas.tree sql params (metas_to f)
-alters_metas sql params f plain writes changes = record {
-  plain = plain;
-  writes = writes;
-  means = λ limit text db tally after xs h ran.
-      let it = changes limit text db tally after xs.metas h.metas ran in
-      let untouched = untouched_of metas.tree db after.trees it.others in
-      record {
-        schema = it.same;
-        metas = it.holds;
-        accounts = kept accounts db after.trees xs.accounts (untouched.accounts (λ same. cc)) h.accounts;
-        contacts = kept contacts db after.trees xs.contacts (untouched.contacts (λ same. cc)) h.contacts;
-        domains = kept domains db after.trees xs.domains (untouched.domains (λ same. cc)) h.domains;
-        hosts = kept hosts db after.trees xs.hosts (untouched.hosts (λ same. cc)) h.hosts;
-        addresses = kept addresses db after.trees xs.addresses (untouched.addresses (λ same. cc)) h.addresses;
-        links = kept links db after.trees xs.links (untouched.links (λ same. cc)) h.links;
-        lines = kept lines db after.trees xs.lines (untouched.lines (λ same. cc)) h.lines;
-        messages = kept messages db after.trees xs.messages (untouched.messages (λ same. cc)) h.messages;
-        transfers = kept transfers db after.trees xs.transfers (untouched.transfers (λ same. cc)) h.transfers;
-        days = kept days db after.trees xs.days (untouched.days (λ same. cc)) h.days;
-      };
-  others = λ limit text db tally after xs h ran. others_same metas.tree db after.trees registry.tables (changes limit text db tally after xs.metas h.metas ran).others;
-}
-
-pub asks_accounts : (shown : Account → Row) (sql : List ℕ) (params : Row) (q : Query) (f : List Account → List Account) → IsSelect registry sql q → q.from ≡ inner accounts.tree end → Answers accounts shown q params f → Asks accounts.tree shown sql params (λ c. f c.accounts)
-asks_accounts shown sql params q f is from answers = record { query = q; is = is; of = record { from = from; table = refl }; means = λ db xs rows h answer. answers db xs.accounts rows h.accounts answer }
-
-pub alters_accounts : (sql : List ℕ) (params : Row) (f : List Account → List Account) → IsPlain (understood registry sql) → writes_tables (command_of (understood registry sql)) ≡ true → Changes accounts sql params f → Alters accounts.tree sql params (accounts_to f)
-alters_accounts sql params f plain writes changes = record {
-  plain = plain;
-  writes = writes;
-  means = λ limit text db tally after xs h ran.
-      let it = changes limit text db tally after xs.accounts h.accounts ran in
-      let untouched = untouched_of accounts.tree db after.trees it.others in
-      record {
-        schema = it.same;
-        metas = kept metas db after.trees xs.metas (untouched.metas (λ same. cc)) h.metas;
-        accounts = it.holds;
-        contacts = kept contacts db after.trees xs.contacts (untouched.contacts (λ same. cc)) h.contacts;
-        domains = kept domains db after.trees xs.domains (untouched.domains (λ same. cc)) h.domains;
-        hosts = kept hosts db after.trees xs.hosts (untouched.hosts (λ same. cc)) h.hosts;
-        addresses = kept addresses db after.trees xs.addresses (untouched.addresses (λ same. cc)) h.addresses;
-        links = kept links db after.trees xs.links (untouched.links (λ same. cc)) h.links;
-        lines = kept lines db after.trees xs.lines (untouched.lines (λ same. cc)) h.lines;
-        messages = kept messages db after.trees xs.messages (untouched.messages (λ same. cc)) h.messages;
-        transfers = kept transfers db after.trees xs.transfers (untouched.transfers (λ same. cc)) h.transfers;
-        days = kept days db after.trees xs.days (untouched.days (λ same. cc)) h.days;
-      };
-  others = λ limit text db tally after xs h ran. others_same accounts.tree db after.trees registry.tables (changes limit text db tally after xs.accounts h.accounts ran).others;
-}
-
-pub asks_contacts : (shown : Contact → Row) (sql : List ℕ) (params : Row) (q : Query) (f : List Contact → List Contact) → IsSelect registry sql q → q.from ≡ inner contacts.tree end → Answers contacts shown q params f → Asks contacts.tree shown sql params (λ c. f c.contacts)
-asks_contacts shown sql params q f is from answers = record { query = q; is = is; of = record { from = from; table = refl }; means = λ db xs rows h answer. answers db xs.contacts rows h.contacts answer }
-
-pub alters_contacts : (sql : List ℕ) (params : Row) (f : List Contact → List Contact) → IsPlain (understood registry sql) → writes_tables (command_of (understood registry sql)) ≡ true → Changes contacts sql params f → Alters contacts.tree sql params (contacts_to f)
-alters_contacts sql params f plain writes changes = record {
-  plain = plain;
-  writes = writes;
-  means = λ limit text db tally after xs h ran.
-      let it = changes limit text db tally after xs.contacts h.contacts ran in
-      let untouched = untouched_of contacts.tree db after.trees it.others in
-      record {
-        schema = it.same;
-        metas = kept metas db after.trees xs.metas (untouched.metas (λ same. cc)) h.metas;
-        accounts = kept accounts db after.trees xs.accounts (untouched.accounts (λ same. cc)) h.accounts;
-        contacts = it.holds;
-        domains = kept domains db after.trees xs.domains (untouched.domains (λ same. cc)) h.domains;
-        hosts = kept hosts db after.trees xs.hosts (untouched.hosts (λ same. cc)) h.hosts;
-        addresses = kept addresses db after.trees xs.addresses (untouched.addresses (λ same. cc)) h.addresses;
-        links = kept links db after.trees xs.links (untouched.links (λ same. cc)) h.links;
-        lines = kept lines db after.trees xs.lines (untouched.lines (λ same. cc)) h.lines;
-        messages = kept messages db after.trees xs.messages (untouched.messages (λ same. cc)) h.messages;
-        transfers = kept transfers db after.trees xs.transfers (untouched.transfers (λ same. cc)) h.transfers;
-        days = kept days db after.trees xs.days (untouched.days (λ same. cc)) h.days;
-      };
-  others = λ limit text db tally after xs h ran. others_same contacts.tree db after.trees registry.tables (changes limit text db tally after xs.contacts h.contacts ran).others;
-}
-
-pub asks_domains : (shown : Domain → Row) (sql : List ℕ) (params : Row) (q : Query) (f : List Domain → List Domain) → IsSelect registry sql q → q.from ≡ inner domains.tree end → Answers domains shown q params f → Asks domains.tree shown sql params (λ c. f c.domains)
-asks_domains shown sql params q f is from answers = record { query = q; is = is; of = record { from = from; table = refl }; means = λ db xs rows h answer. answers db xs.domains rows h.domains answer }
-
-pub alters_domains : (sql : List ℕ) (params : Row) (f : List Domain → List Domain) → IsPlain (understood registry sql) → writes_tables (command_of (understood registry sql)) ≡ true → Changes domains sql params f → Alters domains.tree sql params (domains_to f)
-alters_domains sql params f plain writes changes = record {
-  plain = plain;
-  writes = writes;
-  means = λ limit text db tally after xs h ran.
-      let it = changes limit text db tally after xs.domains h.domains ran in
-      let untouched = untouched_of domains.tree db after.trees it.others in
-      record {
-        schema = it.same;
-        metas = kept metas db after.trees xs.metas (untouched.metas (λ same. cc)) h.metas;
-        accounts = kept accounts db after.trees xs.accounts (untouched.accounts (λ same. cc)) h.accounts;
-        contacts = kept contacts db after.trees xs.contacts (untouched.contacts (λ same. cc)) h.contacts;
-        domains = it.holds;
-        hosts = kept hosts db after.trees xs.hosts (untouched.hosts (λ same. cc)) h.hosts;
-        addresses = kept addresses db after.trees xs.addresses (untouched.addresses (λ same. cc)) h.addresses;
-        links = kept links db after.trees xs.links (untouched.links (λ same. cc)) h.links;
-        lines = kept lines db after.trees xs.lines (untouched.lines (λ same. cc)) h.lines;
-        messages = kept messages db after.trees xs.messages (untouched.messages (λ same. cc)) h.messages;
-        transfers = kept transfers db after.trees xs.transfers (untouched.transfers (λ same. cc)) h.transfers;
-        days = kept days db after.trees xs.days (untouched.days (λ same. cc)) h.days;
-      };
-  others = λ limit text db tally after xs h ran. others_same domains.tree db after.trees registry.tables (changes limit text db tally after xs.domains h.domains ran).others;
-}
-
-pub asks_hosts : (shown : Host → Row) (sql : List ℕ) (params : Row) (q : Query) (f : List Host → List Host) → IsSelect registry sql q → q.from ≡ inner hosts.tree end → Answers hosts shown q params f → Asks hosts.tree shown sql params (λ c. f c.hosts)
-asks_hosts shown sql params q f is from answers = record { query = q; is = is; of = record { from = from; table = refl }; means = λ db xs rows h answer. answers db xs.hosts rows h.hosts answer }
-
-pub alters_hosts : (sql : List ℕ) (params : Row) (f : List Host → List Host) → IsPlain (understood registry sql) → writes_tables (command_of (understood registry sql)) ≡ true → Changes hosts sql params f → Alters hosts.tree sql params (hosts_to f)
-alters_hosts sql params f plain writes changes = record {
-  plain = plain;
-  writes = writes;
-  means = λ limit text db tally after xs h ran.
-      let it = changes limit text db tally after xs.hosts h.hosts ran in
-      let untouched = untouched_of hosts.tree db after.trees it.others in
-      record {
-        schema = it.same;
-        metas = kept metas db after.trees xs.metas (untouched.metas (λ same. cc)) h.metas;
-        accounts = kept accounts db after.trees xs.accounts (untouched.accounts (λ same. cc)) h.accounts;
-        contacts = kept contacts db after.trees xs.contacts (untouched.contacts (λ same. cc)) h.contacts;
-        domains = kept domains db after.trees xs.domains (untouched.domains (λ same. cc)) h.domains;
-        hosts = it.holds;
-        addresses = kept addresses db after.trees xs.addresses (untouched.addresses (λ same. cc)) h.addresses;
-        links = kept links db after.trees xs.links (untouched.links (λ same. cc)) h.links;
-        lines = kept lines db after.trees xs.lines (untouched.lines (λ same. cc)) h.lines;
-        messages = kept messages db after.trees xs.messages (untouched.messages (λ same. cc)) h.messages;
-        transfers = kept transfers db after.trees xs.transfers (untouched.transfers (λ same. cc)) h.transfers;
-        days = kept days db after.trees xs.days (untouched.days (λ same. cc)) h.days;
-      };
-  others = λ limit text db tally after xs h ran. others_same hosts.tree db after.trees registry.tables (changes limit text db tally after xs.hosts h.hosts ran).others;
-}
-
-pub asks_addresses : (shown : Address → Row) (sql : List ℕ) (params : Row) (q : Query) (f : List Address → List Address) → IsSelect registry sql q → q.from ≡ inner addresses.tree end → Answers addresses shown q params f → Asks addresses.tree shown sql params (λ c. f c.addresses)
-asks_addresses shown sql params q f is from answers = record { query = q; is = is; of = record { from = from; table = refl }; means = λ db xs rows h answer. answers db xs.addresses rows h.addresses answer }
-
-pub alters_addresses : (sql : List ℕ) (params : Row) (f : List Address → List Address) → IsPlain (understood registry sql) → writes_tables (command_of (understood registry sql)) ≡ true → Changes addresses sql params f → Alters addresses.tree sql params (addresses_to f)
-alters_addresses sql params f plain writes changes = record {
-  plain = plain;
-  writes = writes;
-  means = λ limit text db tally after xs h ran.
-      let it = changes limit text db tally after xs.addresses h.addresses ran in
-      let untouched = untouched_of addresses.tree db after.trees it.others in
-      record {
-        schema = it.same;
-        metas = kept metas db after.trees xs.metas (untouched.metas (λ same. cc)) h.metas;
-        accounts = kept accounts db after.trees xs.accounts (untouched.accounts (λ same. cc)) h.accounts;
-        contacts = kept contacts db after.trees xs.contacts (untouched.contacts (λ same. cc)) h.contacts;
-        domains = kept domains db after.trees xs.domains (untouched.domains (λ same. cc)) h.domains;
-        hosts = kept hosts db after.trees xs.hosts (untouched.hosts (λ same. cc)) h.hosts;
-        addresses = it.holds;
-        links = kept links db after.trees xs.links (untouched.links (λ same. cc)) h.links;
-        lines = kept lines db after.trees xs.lines (untouched.lines (λ same. cc)) h.lines;
-        messages = kept messages db after.trees xs.messages (untouched.messages (λ same. cc)) h.messages;
-        transfers = kept transfers db after.trees xs.transfers (untouched.transfers (λ same. cc)) h.transfers;
-        days = kept days db after.trees xs.days (untouched.days (λ same. cc)) h.days;
-      };
-  others = λ limit text db tally after xs h ran. others_same addresses.tree db after.trees registry.tables (changes limit text db tally after xs.addresses h.addresses ran).others;
-}
-
-pub asks_links : (shown : Link → Row) (sql : List ℕ) (params : Row) (q : Query) (f : List Link → List Link) → IsSelect registry sql q → q.from ≡ inner links.tree end → Answers links shown q params f → Asks links.tree shown sql params (λ c. f c.links)
-asks_links shown sql params q f is from answers = record { query = q; is = is; of = record { from = from; table = refl }; means = λ db xs rows h answer. answers db xs.links rows h.links answer }
-
-pub alters_links : (sql : List ℕ) (params : Row) (f : List Link → List Link) → IsPlain (understood registry sql) → writes_tables (command_of (understood registry sql)) ≡ true → Changes links sql params f → Alters links.tree sql params (links_to f)
-alters_links sql params f plain writes changes = record {
-  plain = plain;
-  writes = writes;
-  means = λ limit text db tally after xs h ran.
-      let it = changes limit text db tally after xs.links h.links ran in
-      let untouched = untouched_of links.tree db after.trees it.others in
-      record {
-        schema = it.same;
-        metas = kept metas db after.trees xs.metas (untouched.metas (λ same. cc)) h.metas;
-        accounts = kept accounts db after.trees xs.accounts (untouched.accounts (λ same. cc)) h.accounts;
-        contacts = kept contacts db after.trees xs.contacts (untouched.contacts (λ same. cc)) h.contacts;
-        domains = kept domains db after.trees xs.domains (untouched.domains (λ same. cc)) h.domains;
-        hosts = kept hosts db after.trees xs.hosts (untouched.hosts (λ same. cc)) h.hosts;
-        addresses = kept addresses db after.trees xs.addresses (untouched.addresses (λ same. cc)) h.addresses;
-        links = it.holds;
-        lines = kept lines db after.trees xs.lines (untouched.lines (λ same. cc)) h.lines;
-        messages = kept messages db after.trees xs.messages (untouched.messages (λ same. cc)) h.messages;
-        transfers = kept transfers db after.trees xs.transfers (untouched.transfers (λ same. cc)) h.transfers;
-        days = kept days db after.trees xs.days (untouched.days (λ same. cc)) h.days;
-      };
-  others = λ limit text db tally after xs h ran. others_same links.tree db after.trees registry.tables (changes limit text db tally after xs.links h.links ran).others;
-}
-
-pub asks_lines : (shown : Line → Row) (sql : List ℕ) (params : Row) (q : Query) (f : List Line → List Line) → IsSelect registry sql q → q.from ≡ inner lines.tree end → Answers lines shown q params f → Asks lines.tree shown sql params (λ c. f c.lines)
-asks_lines shown sql params q f is from answers = record { query = q; is = is; of = record { from = from; table = refl }; means = λ db xs rows h answer. answers db xs.lines rows h.lines answer }
-
-pub alters_lines : (sql : List ℕ) (params : Row) (f : List Line → List Line) → IsPlain (understood registry sql) → writes_tables (command_of (understood registry sql)) ≡ true → Changes lines sql params f → Alters lines.tree sql params (lines_to f)
-alters_lines sql params f plain writes changes = record {
-  plain = plain;
-  writes = writes;
-  means = λ limit text db tally after xs h ran.
-      let it = changes limit text db tally after xs.lines h.lines ran in
-      let untouched = untouched_of lines.tree db after.trees it.others in
-      record {
-        schema = it.same;
-        metas = kept metas db after.trees xs.metas (untouched.metas (λ same. cc)) h.metas;
-        accounts = kept accounts db after.trees xs.accounts (untouched.accounts (λ same. cc)) h.accounts;
-        contacts = kept contacts db after.trees xs.contacts (untouched.contacts (λ same. cc)) h.contacts;
-        domains = kept domains db after.trees xs.domains (untouched.domains (λ same. cc)) h.domains;
-        hosts = kept hosts db after.trees xs.hosts (untouched.hosts (λ same. cc)) h.hosts;
-        addresses = kept addresses db after.trees xs.addresses (untouched.addresses (λ same. cc)) h.addresses;
-        links = kept links db after.trees xs.links (untouched.links (λ same. cc)) h.links;
-        lines = it.holds;
-        messages = kept messages db after.trees xs.messages (untouched.messages (λ same. cc)) h.messages;
-        transfers = kept transfers db after.trees xs.transfers (untouched.transfers (λ same. cc)) h.transfers;
-        days = kept days db after.trees xs.days (untouched.days (λ same. cc)) h.days;
-      };
-  others = λ limit text db tally after xs h ran. others_same lines.tree db after.trees registry.tables (changes limit text db tally after xs.lines h.lines ran).others;
-}
-
-pub asks_messages : (shown : Message → Row) (sql : List ℕ) (params : Row) (q : Query) (f : List Message → List Message) → IsSelect registry sql q → q.from ≡ inner messages.tree end → Answers messages shown q params f → Asks messages.tree shown sql params (λ c. f c.messages)
-asks_messages shown sql params q f is from answers = record { query = q; is = is; of = record { from = from; table = refl }; means = λ db xs rows h answer. answers db xs.messages rows h.messages answer }
-
-pub alters_messages : (sql : List ℕ) (params : Row) (f : List Message → List Message) → IsPlain (understood registry sql) → writes_tables (command_of (understood registry sql)) ≡ true → Changes messages sql params f → Alters messages.tree sql params (messages_to f)
-alters_messages sql params f plain writes changes = record {
-  plain = plain;
-  writes = writes;
-  means = λ limit text db tally after xs h ran.
-      let it = changes limit text db tally after xs.messages h.messages ran in
-      let untouched = untouched_of messages.tree db after.trees it.others in
-      record {
-        schema = it.same;
-        metas = kept metas db after.trees xs.metas (untouched.metas (λ same. cc)) h.metas;
-        accounts = kept accounts db after.trees xs.accounts (untouched.accounts (λ same. cc)) h.accounts;
-        contacts = kept contacts db after.trees xs.contacts (untouched.contacts (λ same. cc)) h.contacts;
-        domains = kept domains db after.trees xs.domains (untouched.domains (λ same. cc)) h.domains;
-        hosts = kept hosts db after.trees xs.hosts (untouched.hosts (λ same. cc)) h.hosts;
-        addresses = kept addresses db after.trees xs.addresses (untouched.addresses (λ same. cc)) h.addresses;
-        links = kept links db after.trees xs.links (untouched.links (λ same. cc)) h.links;
-        lines = kept lines db after.trees xs.lines (untouched.lines (λ same. cc)) h.lines;
-        messages = it.holds;
-        transfers = kept transfers db after.trees xs.transfers (untouched.transfers (λ same. cc)) h.transfers;
-        days = kept days db after.trees xs.days (untouched.days (λ same. cc)) h.days;
-      };
-  others = λ limit text db tally after xs h ran. others_same messages.tree db after.trees registry.tables (changes limit text db tally after xs.messages h.messages ran).others;
-}
-
-pub asks_transfers : (shown : Transfer → Row) (sql : List ℕ) (params : Row) (q : Query) (f : List Transfer → List Transfer) → IsSelect registry sql q → q.from ≡ inner transfers.tree end → Answers transfers shown q params f → Asks transfers.tree shown sql params (λ c. f c.transfers)
-asks_transfers shown sql params q f is from answers = record { query = q; is = is; of = record { from = from; table = refl }; means = λ db xs rows h answer. answers db xs.transfers rows h.transfers answer }
-
-pub alters_transfers : (sql : List ℕ) (params : Row) (f : List Transfer → List Transfer) → IsPlain (understood registry sql) → writes_tables (command_of (understood registry sql)) ≡ true → Changes transfers sql params f → Alters transfers.tree sql params (transfers_to f)
-alters_transfers sql params f plain writes changes = record {
-  plain = plain;
-  writes = writes;
-  means = λ limit text db tally after xs h ran.
-      let it = changes limit text db tally after xs.transfers h.transfers ran in
-      let untouched = untouched_of transfers.tree db after.trees it.others in
-      record {
-        schema = it.same;
-        metas = kept metas db after.trees xs.metas (untouched.metas (λ same. cc)) h.metas;
-        accounts = kept accounts db after.trees xs.accounts (untouched.accounts (λ same. cc)) h.accounts;
-        contacts = kept contacts db after.trees xs.contacts (untouched.contacts (λ same. cc)) h.contacts;
-        domains = kept domains db after.trees xs.domains (untouched.domains (λ same. cc)) h.domains;
-        hosts = kept hosts db after.trees xs.hosts (untouched.hosts (λ same. cc)) h.hosts;
-        addresses = kept addresses db after.trees xs.addresses (untouched.addresses (λ same. cc)) h.addresses;
-        links = kept links db after.trees xs.links (untouched.links (λ same. cc)) h.links;
-        lines = kept lines db after.trees xs.lines (untouched.lines (λ same. cc)) h.lines;
-        messages = kept messages db after.trees xs.messages (untouched.messages (λ same. cc)) h.messages;
-        transfers = it.holds;
-        days = kept days db after.trees xs.days (untouched.days (λ same. cc)) h.days;
-      };
-  others = λ limit text db tally after xs h ran. others_same transfers.tree db after.trees registry.tables (changes limit text db tally after xs.transfers h.transfers ran).others;
-}
-
-pub asks_days : (shown : Day → Row) (sql : List ℕ) (params : Row) (q : Query) (f : List Day → List Day) → IsSelect registry sql q → q.from ≡ inner days.tree end → Answers days shown q params f → Asks days.tree shown sql params (λ c. f c.days)
-asks_days shown sql params q f is from answers = record { query = q; is = is; of = record { from = from; table = refl }; means = λ db xs rows h answer. answers db xs.days rows h.days answer }
-
-pub alters_days : (sql : List ℕ) (params : Row) (f : List Day → List Day) → IsPlain (understood registry sql) → writes_tables (command_of (understood registry sql)) ≡ true → Changes days sql params f → Alters days.tree sql params (days_to f)
-alters_days sql params f plain writes changes = record {
-  plain = plain;
-  writes = writes;
-  means = λ limit text db tally after xs h ran.
-      let it = changes limit text db tally after xs.days h.days ran in
-      let untouched = untouched_of days.tree db after.trees it.others in
-      record {
-        schema = it.same;
-        metas = kept metas db after.trees xs.metas (untouched.metas (λ same. cc)) h.metas;
-        accounts = kept accounts db after.trees xs.accounts (untouched.accounts (λ same. cc)) h.accounts;
-        contacts = kept contacts db after.trees xs.contacts (untouched.contacts (λ same. cc)) h.contacts;
-        domains = kept domains db after.trees xs.domains (untouched.domains (λ same. cc)) h.domains;
-        hosts = kept hosts db after.trees xs.hosts (untouched.hosts (λ same. cc)) h.hosts;
-        addresses = kept addresses db after.trees xs.addresses (untouched.addresses (λ same. cc)) h.addresses;
-        links = kept links db after.trees xs.links (untouched.links (λ same. cc)) h.links;
-        lines = kept lines db after.trees xs.lines (untouched.lines (λ same. cc)) h.lines;
-        messages = kept messages db after.trees xs.messages (untouched.messages (λ same. cc)) h.messages;
-        transfers = kept transfers db after.trees xs.transfers (untouched.transfers (λ same. cc)) h.transfers;
-        days = it.holds;
-      };
-  others = λ limit text db tally after xs h ran. others_same days.tree db after.trees registry.tables (changes limit text db tally after xs.days h.days ran).others;
-}
+  pub alters : (sql : List ℕ) (params : Row) (f : List X → List X) → IsPlain (understood registry sql) → writes_tables (command_of (understood registry sql)) ≡ true → Changes T.layout sql params f
+      → Alters T.layout.tree sql params (T.to f)
+  alters sql params f plain writes changes = record {
+    plain = plain;
+    writes = writes;
+    means = λ limit text db tally after xs h ran.
+        let it = changes limit text db tally after (T.rows xs) (T.holds xs (given db) h) ran in
+        turned T.layout.tree db after xs (T.to f xs) it.same (others_same T.layout.tree db after.trees registry.tables it.others) h (T.turned f after.trees xs it.holds);
+    others = λ limit text db tally after xs h ran. others_same T.layout.tree db after.trees registry.tables (changes limit text db tally after (T.rows xs) (T.holds xs (given db) h) ran).others;
+  }
 
 -- the same for parameters that are equal
 pub asks-by : {R : Type 0} {tree : ℕ} {shown : R → Row} {sql : List ℕ} {row given : Row} {f : Content → List R} → given ≡ row → Asks tree shown sql row f → Asks tree shown sql given f

@@ -56,11 +56,7 @@ impl AddressRow {
     fn params(&self) -> [ValueRef<'_>; 3]
         ensures { bound result ≡ address_shown self.now }
     {
-        [
-            self.id.to_sql(),
-            self.host.to_sql(),
-            (&self.address).to_sql(),
-        ]
+        parameters!(self: number id, number host, text address)
     }
 }
 
@@ -70,11 +66,7 @@ impl Record for AddressRow {
     ghost shown = { address_shown };
 
     fn from_row(row: &Row) -> Result<AddressRow, Error> {
-        Ok(AddressRow {
-            id: row.get(0)?,
-            host: row.get(1)?,
-            address: row.get(2)?,
-        })
+        by_columns!(AddressRow of row: id 0, host 1, address 2)
     }
 }
 

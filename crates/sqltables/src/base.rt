@@ -93,8 +93,7 @@ impl<S: Alter> Base<S> {
         sql: &str,
         params: &[ValueRef<'_>],
     ) -> Result<Seq<R>, BookFault>
-        requires plain { IsPlain (understood registry sql.now) }
-        requires reads { IsQueryOf tree sql.now }
+        requires { (f : Content → List R) × Asks tree R.shown sql.now (bound params.now) f }
         ensures { (f : Content → List R) → Asks tree R.shown sql.now (bound params.now) f
             → Finds result (f self.old.content) self.old self.new }
     {

@@ -74,15 +74,9 @@ impl Model for PostalRow {
 fn postal_of(row: &Row) -> Result<PostalRow, Error>
     ensures { (x : Contact) → row.now ≡ contact_shown x → IfOk result (λ r. r ≡ x.postal) }
 {
-    Ok(PostalRow {
-        name: row.get(10)?,
-        org: row.get(11)?,
-        street: row.get(12)?,
-        city: row.get(13)?,
-        state: row.get(14)?,
-        postal_code: row.get(15)?,
-        country: row.get(16)?,
-    })
+    by_columns!(
+        PostalRow of row: name 10, org 11, street 12, city 13, state 14, postal_code 15, country 16
+    )
 }
 
 /// A row of the table `contact`.
@@ -136,28 +130,13 @@ impl ContactRow {
     fn params(&self) -> [ValueRef<'_>; 20]
         ensures { bound result ≡ contact_shown self.now }
     {
-        [
-            self.id.to_sql(),
-            (&self.name).to_sql(),
-            self.creator.to_sql(),
-            self.serial.to_sql(),
-            self.sponsor.to_sql(),
-            self.created.to_sql(),
-            maybe_number(self.transferred),
-            maybe_number(self.updated),
-            (&self.statuses).to_sql(),
-            (&self.secret).to_sql(),
-            (&self.postal.name).to_sql(),
-            maybe_text(&self.postal.org),
-            (&self.postal.street).to_sql(),
-            (&self.postal.city).to_sql(),
-            maybe_text(&self.postal.state),
-            maybe_text(&self.postal.postal_code),
-            (&self.postal.country).to_sql(),
-            maybe_text(&self.voice),
-            maybe_number(self.due),
-            (&self.mail).to_sql(),
-        ]
+        parameters!(
+            self: number id, text name, number creator, number serial, number sponsor,
+            number created, maybe_number transferred, maybe_number updated, text statuses,
+            text secret, text postal.name, maybe_text postal.org, text postal.street,
+            text postal.city, maybe_text postal.state, maybe_text postal.postal_code,
+            text postal.country, maybe_text voice, maybe_number due, text mail
+        )
     }
 }
 
@@ -175,12 +154,7 @@ fn dates_of(row: &Row) -> Result<ContactDates, Error>
         → IfOk result (λ dates. (dates.created ≡ x.created) × (dates.transferred ≡ x.transferred)
         × (dates.updated ≡ x.updated) × (dates.due ≡ x.due)) }
 {
-    Ok(ContactDates {
-        created: row.get(5)?,
-        transferred: row.get(6)?,
-        updated: row.get(7)?,
-        due: row.get(18)?,
-    })
+    by_columns!(ContactDates of row: created 5, transferred 6, updated 7, due 18)
 }
 
 impl Record for ContactRow {

@@ -89,19 +89,11 @@ impl DayRow {
     fn params(&self) -> [ValueRef<'_>; 11]
         ensures { bound result ≡ day_shown self.now }
     {
-        [
-            self.id.to_sql(),
-            self.starts.to_sql(),
-            self.days_add.to_sql(),
-            self.days_auto_renew.to_sql(),
-            self.days_renew.to_sql(),
-            self.days_transfer.to_sql(),
-            self.days_redemption.to_sql(),
-            self.days_restore.to_sql(),
-            self.days_pending_delete.to_sql(),
-            self.days_answer.to_sql(),
-            self.days_lock.to_sql(),
-        ]
+        parameters!(
+            self: number id, number starts, number days_add, number days_auto_renew,
+            number days_renew, number days_transfer, number days_redemption, number days_restore,
+            number days_pending_delete, number days_answer, number days_lock
+        )
     }
 }
 
@@ -111,19 +103,11 @@ impl Record for DayRow {
     ghost shown = { day_shown };
 
     fn from_row(row: &Row) -> Result<DayRow, Error> {
-        Ok(DayRow {
-            id: row.get(0)?,
-            starts: row.get(1)?,
-            days_add: row.get(2)?,
-            days_auto_renew: row.get(3)?,
-            days_renew: row.get(4)?,
-            days_transfer: row.get(5)?,
-            days_redemption: row.get(6)?,
-            days_restore: row.get(7)?,
-            days_pending_delete: row.get(8)?,
-            days_answer: row.get(9)?,
-            days_lock: row.get(10)?,
-        })
+        by_columns!(
+            DayRow of row: id 0, starts 1, days_add 2, days_auto_renew 3, days_renew 4,
+            days_transfer 5, days_redemption 6, days_restore 7, days_pending_delete 8,
+            days_answer 9, days_lock 10
+        )
     }
 }
 

@@ -107,23 +107,12 @@ impl DomainRow {
     fn params(&self) -> [ValueRef<'_>; 15]
         ensures { bound result ≡ domain_shown self.now }
     {
-        [
-            self.id.to_sql(),
-            (&self.name).to_sql(),
-            self.creator.to_sql(),
-            self.serial.to_sql(),
-            self.sponsor.to_sql(),
-            self.created.to_sql(),
-            self.years.to_sql(),
-            maybe_number(self.transferred),
-            maybe_number(self.updated),
-            (&self.statuses).to_sql(),
-            (&self.secret).to_sql(),
-            self.registrant.to_sql(),
-            maybe_number(self.deleted),
-            maybe_number(self.restore_requested),
-            self.due.to_sql(),
-        ]
+        parameters!(
+            self: number id, text name, number creator, number serial, number sponsor,
+            number created, number years, maybe_number transferred, maybe_number updated,
+            text statuses, text secret, number registrant, maybe_number deleted,
+            maybe_number restore_requested, number due
+        )
     }
 }
 
@@ -133,23 +122,11 @@ impl Record for DomainRow {
     ghost shown = { domain_shown };
 
     fn from_row(row: &Row) -> Result<DomainRow, Error> {
-        Ok(DomainRow {
-            id: row.get(0)?,
-            name: row.get(1)?,
-            creator: row.get(2)?,
-            serial: row.get(3)?,
-            sponsor: row.get(4)?,
-            created: row.get(5)?,
-            years: row.get(6)?,
-            transferred: row.get(7)?,
-            updated: row.get(8)?,
-            statuses: row.get(9)?,
-            secret: row.get(10)?,
-            registrant: row.get(11)?,
-            deleted: row.get(12)?,
-            restore_requested: row.get(13)?,
-            due: row.get(14)?,
-        })
+        by_columns!(
+            DomainRow of row: id 0, name 1, creator 2, serial 3, sponsor 4, created 5, years 6,
+            transferred 7, updated 8, statuses 9, secret 10, registrant 11, deleted 12,
+            restore_requested 13, due 14
+        )
     }
 }
 

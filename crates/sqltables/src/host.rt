@@ -82,18 +82,11 @@ impl HostRow {
     fn params(&self) -> [ValueRef<'_>; 10]
         ensures { bound result ≡ host_shown self.now }
     {
-        [
-            self.id.to_sql(),
-            (&self.name).to_sql(),
-            self.creator.to_sql(),
-            self.serial.to_sql(),
-            (&self.above).to_sql(),
-            maybe_number(self.external_sponsor),
-            maybe_number(self.sponsor),
-            self.created.to_sql(),
-            maybe_number(self.updated),
-            (&self.statuses).to_sql(),
-        ]
+        parameters!(
+            self: number id, text name, number creator, number serial, text above,
+            maybe_number external_sponsor, maybe_number sponsor, number created,
+            maybe_number updated, text statuses
+        )
     }
 }
 
@@ -103,18 +96,10 @@ impl Record for HostRow {
     ghost shown = { host_shown };
 
     fn from_row(row: &Row) -> Result<HostRow, Error> {
-        Ok(HostRow {
-            id: row.get(0)?,
-            name: row.get(1)?,
-            creator: row.get(2)?,
-            serial: row.get(3)?,
-            above: row.get(4)?,
-            external_sponsor: row.get(5)?,
-            sponsor: row.get(6)?,
-            created: row.get(7)?,
-            updated: row.get(8)?,
-            statuses: row.get(9)?,
-        })
+        by_columns!(
+            HostRow of row: id 0, name 1, creator 2, serial 3, above 4, external_sponsor 5,
+            sponsor 6, created 7, updated 8, statuses 9
+        )
     }
 }
 

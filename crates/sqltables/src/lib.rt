@@ -2,6 +2,27 @@
 //! put and remove them.
 #![tactic(auto)]
 
+/// A record of a row's values, each by the place of its column.
+macro_rules! by_columns {
+    ($record:ident of $row:ident: $($field:ident $at:literal),*) => {
+        Ok($record { $($field: $row.get($at)?),* })
+    };
+}
+
+/// A record's columns as parameters, in their order, each a number or a text or one that may be absent.
+macro_rules! parameters {
+    ($record:ident: $($kind:ident $($field:ident).+),*) => {
+        [$(parameter!($record, $kind $($field).+)),*]
+    };
+}
+
+macro_rules! parameter {
+    ($record:ident, number $($field:ident).+) => { $record.$($field).+.to_sql() };
+    ($record:ident, text $($field:ident).+) => { (&$record.$($field).+).to_sql() };
+    ($record:ident, maybe_number $($field:ident).+) => { maybe_number($record.$($field).+) };
+    ($record:ident, maybe_text $($field:ident).+) => { maybe_text(&$record.$($field).+) };
+}
+
 mod account;
 mod address;
 mod adoption;

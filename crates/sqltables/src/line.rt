@@ -51,10 +51,7 @@ impl Model for GraceRow {
 fn grace_of(row: &Row) -> Result<GraceRow, Error>
     ensures { (x : Line) → row.now ≡ line_shown x → IfOk result (λ r. r ≡ x.grace) }
 {
-    Ok(GraceRow {
-        started: row.get(7)?,
-        ends: row.get(8)?,
-    })
+    by_columns!(GraceRow of row: started 7, ends 8)
 }
 
 /// A row of the table `line`.
@@ -99,19 +96,11 @@ impl LineRow {
     fn params(&self) -> [ValueRef<'_>; 11]
         ensures { bound result ≡ line_shown self.now }
     {
-        [
-            self.id.to_sql(),
-            self.account.to_sql(),
-            self.kind.to_sql(),
-            maybe_number(self.creator),
-            maybe_number(self.serial),
-            self.years.to_sql(),
-            self.cents.to_sql(),
-            maybe_number(self.grace.started),
-            maybe_number(self.grace.ends),
-            maybe_number(self.refunded),
-            self.recorded.to_sql(),
-        ]
+        parameters!(
+            self: number id, number account, number kind, maybe_number creator, maybe_number serial,
+            number years, number cents, maybe_number grace.started, maybe_number grace.ends,
+            maybe_number refunded, number recorded
+        )
     }
 }
 

@@ -81,14 +81,10 @@ impl LinkRow {
     fn params(&self) -> [ValueRef<'_>; 6]
         ensures { bound result ≡ link_shown self.now }
     {
-        [
-            self.id.to_sql(),
-            self.domain.to_sql(),
-            maybe_number(self.contact),
-            maybe_number(self.host),
-            self.role.to_sql(),
-            self.due.to_sql(),
-        ]
+        parameters!(
+            self: number id, number domain, maybe_number contact, maybe_number host, number role,
+            number due
+        )
     }
 }
 
@@ -98,14 +94,7 @@ impl Record for LinkRow {
     ghost shown = { link_shown };
 
     fn from_row(row: &Row) -> Result<LinkRow, Error> {
-        Ok(LinkRow {
-            id: row.get(0)?,
-            domain: row.get(1)?,
-            contact: row.get(2)?,
-            host: row.get(3)?,
-            role: row.get(4)?,
-            due: row.get(5)?,
-        })
+        by_columns!(LinkRow of row: id 0, domain 1, contact 2, host 3, role 4, due 5)
     }
 }
 

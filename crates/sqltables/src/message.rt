@@ -75,16 +75,10 @@ impl MessageRow {
     fn params(&self) -> [ValueRef<'_>; 8]
         ensures { bound result ≡ message_shown self.now }
     {
-        [
-            self.id.to_sql(),
-            self.account.to_sql(),
-            self.moment.to_sql(),
-            self.class.to_sql(),
-            self.number.to_sql(),
-            (&self.name).to_sql(),
-            self.subject.to_sql(),
-            self.notice.to_sql(),
-        ]
+        parameters!(
+            self: number id, number account, number moment, number class, number number, text name,
+            number subject, number notice
+        )
     }
 }
 
@@ -94,16 +88,10 @@ impl Record for MessageRow {
     ghost shown = { message_shown };
 
     fn from_row(row: &Row) -> Result<MessageRow, Error> {
-        Ok(MessageRow {
-            id: row.get(0)?,
-            account: row.get(1)?,
-            moment: row.get(2)?,
-            class: row.get(3)?,
-            number: row.get(4)?,
-            name: row.get(5)?,
-            subject: row.get(6)?,
-            notice: row.get(7)?,
-        })
+        by_columns!(
+            MessageRow of row: id 0, account 1, moment 2, class 3, number 4, name 5, subject 6,
+            notice 7
+        )
     }
 }
 

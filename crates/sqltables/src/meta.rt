@@ -108,25 +108,13 @@ impl MetaRow {
     fn params(&self) -> [ValueRef<'_>; 17]
         ensures { bound result ≡ meta_shown self.now }
     {
-        [
-            self.id.to_sql(),
-            self.version.to_sql(),
-            self.clock.to_sql(),
-            (&self.zone).to_sql(),
-            (&self.reserved).to_sql(),
-            self.days_add.to_sql(),
-            self.days_auto_renew.to_sql(),
-            self.days_renew.to_sql(),
-            self.days_transfer.to_sql(),
-            self.days_redemption.to_sql(),
-            self.days_restore.to_sql(),
-            self.days_pending_delete.to_sql(),
-            self.days_answer.to_sql(),
-            self.days_lock.to_sql(),
-            self.price_create.to_sql(),
-            self.price_renew.to_sql(),
-            self.price_transfer.to_sql(),
-        ]
+        parameters!(
+            self: number id, number version, number clock, text zone, text reserved,
+            number days_add, number days_auto_renew, number days_renew, number days_transfer,
+            number days_redemption, number days_restore, number days_pending_delete,
+            number days_answer, number days_lock, number price_create, number price_renew,
+            number price_transfer
+        )
     }
 }
 
@@ -136,25 +124,12 @@ impl Record for MetaRow {
     ghost shown = { meta_shown };
 
     fn from_row(row: &Row) -> Result<MetaRow, Error> {
-        Ok(MetaRow {
-            id: row.get(0)?,
-            version: row.get(1)?,
-            clock: row.get(2)?,
-            zone: row.get(3)?,
-            reserved: row.get(4)?,
-            days_add: row.get(5)?,
-            days_auto_renew: row.get(6)?,
-            days_renew: row.get(7)?,
-            days_transfer: row.get(8)?,
-            days_redemption: row.get(9)?,
-            days_restore: row.get(10)?,
-            days_pending_delete: row.get(11)?,
-            days_answer: row.get(12)?,
-            days_lock: row.get(13)?,
-            price_create: row.get(14)?,
-            price_renew: row.get(15)?,
-            price_transfer: row.get(16)?,
-        })
+        by_columns!(
+            MetaRow of row: id 0, version 1, clock 2, zone 3, reserved 4, days_add 5,
+            days_auto_renew 6, days_renew 7, days_transfer 8, days_redemption 9, days_restore 10,
+            days_pending_delete 11, days_answer 12, days_lock 13, price_create 14, price_renew 15,
+            price_transfer 16
+        )
     }
 }
 

@@ -91,6 +91,45 @@ const LINK_HOST_DUE: &str = "CREATE INDEX link_host_due ON link (host, due)";
 
 const TRANSFER_LOSING: &str = "CREATE INDEX transfer_losing ON transfer (losing, due)";
 
+/// The texts that make a schema: those of both, round the one of its lines, and its own behind them.
+macro_rules! texts {
+    ($line:ident $(, $more:ident)*) => {
+        &[
+            META,
+            ACCOUNT,
+            CONTACT,
+            DOMAIN,
+            HOST,
+            ADDRESS,
+            LINK,
+            $line,
+            MESSAGE,
+            TRANSFER,
+            CONTACT_DUE,
+            DOMAIN_REGISTRANT,
+            DOMAIN_DUE,
+            DOMAIN_SPONSOR,
+            HOST_ABOVE,
+            ADDRESS_HOST,
+            LINK_DOMAIN,
+            LINK_CONTACT,
+            LINK_HOST,
+            LINE_OBJECT,
+            MESSAGE_QUEUE,
+            TRANSFER_CONTACT,
+            TRANSFER_DOMAIN,
+            TRANSFER_REQUESTER,
+            CONTACT_SPONSOR,
+            DOMAIN_ROID,
+            DOMAIN_REGISTRANT_DUE,
+            LINK_CONTACT_DUE,
+            LINK_HOST_DUE,
+            TRANSFER_LOSING,
+            $($more,)*
+        ]
+    };
+}
+
 /// Makes the tables and their indexes, in a transaction on a database that was never used.
 pub fn create<S: Alter>(conn: &mut Connection<S>) -> Result<(), Error>
     ensures makes { conn.old.schema ≡ no_schema → IsTrue (state S.Store conn.old).is_open
@@ -103,42 +142,7 @@ pub fn create<S: Alter>(conn: &mut Connection<S>) -> Result<(), Error>
     ensures opened { HasCleanDisk (state S.Store conn.new) → IsTrue (state S.Store conn.new).is_open
         → IsTrue (state S.Store conn.old).is_open }
 {
-    define(
-        conn,
-        &[
-            META,
-            ACCOUNT,
-            CONTACT,
-            DOMAIN,
-            HOST,
-            ADDRESS,
-            LINK,
-            LINE,
-            MESSAGE,
-            TRANSFER,
-            CONTACT_DUE,
-            DOMAIN_REGISTRANT,
-            DOMAIN_DUE,
-            DOMAIN_SPONSOR,
-            HOST_ABOVE,
-            ADDRESS_HOST,
-            LINK_DOMAIN,
-            LINK_CONTACT,
-            LINK_HOST,
-            LINE_OBJECT,
-            MESSAGE_QUEUE,
-            TRANSFER_CONTACT,
-            TRANSFER_DOMAIN,
-            TRANSFER_REQUESTER,
-            CONTACT_SPONSOR,
-            DOMAIN_ROID,
-            DOMAIN_REGISTRANT_DUE,
-            LINK_CONTACT_DUE,
-            LINK_HOST_DUE,
-            TRANSFER_LOSING,
-            DAYS,
-        ],
-    )
+    define(conn, texts!(LINE, DAYS))
 }
 
 /// Makes the tables of the schema before this one, in a transaction on a database that was never used.
@@ -147,39 +151,5 @@ pub fn create_first<S: Alter>(conn: &mut Connection<S>) -> Result<(), Error>
         → conn.old.in_transaction ≡ true → HasCleanDisk (state S.Store conn.new)
         → Makes first_registry (state S.Store conn.old) (state S.Store conn.new) result }
 {
-    define(
-        conn,
-        &[
-            META,
-            ACCOUNT,
-            CONTACT,
-            DOMAIN,
-            HOST,
-            ADDRESS,
-            LINK,
-            FIRST_LINE,
-            MESSAGE,
-            TRANSFER,
-            CONTACT_DUE,
-            DOMAIN_REGISTRANT,
-            DOMAIN_DUE,
-            DOMAIN_SPONSOR,
-            HOST_ABOVE,
-            ADDRESS_HOST,
-            LINK_DOMAIN,
-            LINK_CONTACT,
-            LINK_HOST,
-            LINE_OBJECT,
-            MESSAGE_QUEUE,
-            TRANSFER_CONTACT,
-            TRANSFER_DOMAIN,
-            TRANSFER_REQUESTER,
-            CONTACT_SPONSOR,
-            DOMAIN_ROID,
-            DOMAIN_REGISTRANT_DUE,
-            LINK_CONTACT_DUE,
-            LINK_HOST_DUE,
-            TRANSFER_LOSING,
-        ],
-    )
+    define(conn, texts!(FIRST_LINE))
 }

@@ -80,17 +80,10 @@ impl TransferRow {
     fn params(&self) -> [ValueRef<'_>; 9]
         ensures { bound result ≡ transfer_shown self.now }
     {
-        [
-            self.id.to_sql(),
-            maybe_number(self.contact),
-            maybe_number(self.domain),
-            self.requester.to_sql(),
-            self.losing.to_sql(),
-            self.requested.to_sql(),
-            self.ac_date.to_sql(),
-            maybe_number(self.due),
-            self.state.to_sql(),
-        ]
+        parameters!(
+            self: number id, maybe_number contact, maybe_number domain, number requester,
+            number losing, number requested, number ac_date, maybe_number due, number state
+        )
     }
 }
 
@@ -100,17 +93,10 @@ impl Record for TransferRow {
     ghost shown = { transfer_shown };
 
     fn from_row(row: &Row) -> Result<TransferRow, Error> {
-        Ok(TransferRow {
-            id: row.get(0)?,
-            contact: row.get(1)?,
-            domain: row.get(2)?,
-            requester: row.get(3)?,
-            losing: row.get(4)?,
-            requested: row.get(5)?,
-            ac_date: row.get(6)?,
-            due: row.get(7)?,
-            state: row.get(8)?,
-        })
+        by_columns!(
+            TransferRow of row: id 0, contact 1, domain 2, requester 3, losing 4, requested 5,
+            ac_date 6, due 7, state 8
+        )
     }
 }
 

@@ -1,12 +1,8 @@
-use Rattle.sqltables.proofs.AccountLemmas.{all_asks, all_is}
-use Rattle.sqltables.proofs.AnswerLemmas.{reads-by}
+use Rattle.sqltables.proofs.QueryLemmas.{all_accounts}
 use Rattle.sqltables.proofs.base.Base.all_accounts.Goals as goal
 
-pub select-requires-clause-plain : goal.select-requires-clause-plain
-select-requires-clause-plain g c = all_is.plain
-
-pub select-requires-clause-reads : goal.select-requires-clause-reads
-select-requires-clause-reads g c = reads-by _ _ _ _ _ all_asks
+pub select-requires : goal.select-requires
+select-requires g c = (_, all_accounts)
 
 pub returns : goal.returns
-returns g c = c.select.ensures _ all_asks
+returns g c = c.select.ensures _ all_accounts

@@ -1,9 +1,8 @@
-use Rattle.sqltables.proofs.AccountLemmas.{put_alters}
-use Rattle.sqltables.proofs.TableLemmas.{alters-by}
+use Rattle.sqltables.proofs.WritingLemmas.{alters-by, put_account}
 use Rattle.sqltables.proofs.base.Base.put_account.Goals as goal
 
 pub write-requires-clause-means : goal.write-requires-clause-means
-write-requires-clause-means g c = (_, alters-by c.params.ensures (put_alters c.args.account.now))
+write-requires-clause-means g c = (_, alters-by c.params.ensures (put_account c.args.account.now))
 
 pub returns : goal.returns
-returns g c = c.write.ensures _ (alters-by c.params.ensures (put_alters c.args.account.now))
+returns g c = c.write.ensures _ (alters-by c.params.ensures (put_account c.args.account.now))

@@ -1,10 +1,9 @@
 use Rattle.std.proofs.Common.{refl}
-use Rattle.sqltables.proofs.ContactLemmas.{first_until_due_asks}
-use Rattle.sqltables.proofs.TableLemmas.{asks-by, bound-last}
+use Rattle.sqltables.proofs.QueryLemmas.{asks-by, bound-last, first_contacts_until_due}
 use Rattle.sqltables.proofs.store.RowStore.first_contacts_until_due.Goals as goal
 
 pub select-requires : goal.select-requires
-select-requires g c = (_, asks-by (bound-last c.params-to_sql.ensures) (first_until_due_asks c.args.due))
+select-requires g c = (_, asks-by (bound-last c.params-to_sql.ensures) (first_contacts_until_due c.args.due))
 
 pub returns : goal.returns
-returns g c = c.select.ensures _ (asks-by (bound-last c.params-to_sql.ensures) (first_until_due_asks c.args.due)) (λ change xs. refl)
+returns g c = c.select.ensures _ (asks-by (bound-last c.params-to_sql.ensures) (first_contacts_until_due c.args.due)) (λ change xs. refl)

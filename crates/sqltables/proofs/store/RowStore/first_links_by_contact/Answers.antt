@@ -1,10 +1,9 @@
 use Rattle.std.proofs.Common.{refl}
-use Rattle.sqltables.proofs.LinkLemmas.{first_by_contact_asks}
-use Rattle.sqltables.proofs.TableLemmas.{asks-by, bound-last}
+use Rattle.sqltables.proofs.QueryLemmas.{asks-by, bound-last, first_links_by_contact}
 use Rattle.sqltables.proofs.store.RowStore.first_links_by_contact.Goals as goal
 
 pub select-requires : goal.select-requires
-select-requires g c = (_, asks-by (bound-last c.params-to_sql.ensures) (first_by_contact_asks c.args.contact))
+select-requires g c = (_, asks-by (bound-last c.params-to_sql.ensures) (first_links_by_contact c.args.contact))
 
 pub returns : goal.returns
-returns g c = c.select.ensures _ (asks-by (bound-last c.params-to_sql.ensures) (first_by_contact_asks c.args.contact)) (λ change xs. refl)
+returns g c = c.select.ensures _ (asks-by (bound-last c.params-to_sql.ensures) (first_links_by_contact c.args.contact)) (λ change xs. refl)

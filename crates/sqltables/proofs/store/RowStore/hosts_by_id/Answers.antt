@@ -1,10 +1,9 @@
 use Rattle.std.proofs.Common.{refl}
-use Rattle.sqltables.proofs.HostLemmas.{by_id_asks}
-use Rattle.sqltables.proofs.TableLemmas.{asks-by, bound-last}
+use Rattle.sqltables.proofs.QueryLemmas.{asks-by, bound-last, hosts_by_id}
 use Rattle.sqltables.proofs.store.RowStore.hosts_by_id.Goals as goal
 
 pub select-requires : goal.select-requires
-select-requires g c = (_, asks-by (bound-last c.params-to_sql.ensures) (by_id_asks c.args.id))
+select-requires g c = (_, asks-by (bound-last c.params-to_sql.ensures) (hosts_by_id c.args.id))
 
 pub returns : goal.returns
-returns g c = c.select.ensures _ (asks-by (bound-last c.params-to_sql.ensures) (by_id_asks c.args.id)) (λ change xs. refl)
+returns g c = c.select.ensures _ (asks-by (bound-last c.params-to_sql.ensures) (hosts_by_id c.args.id)) (λ change xs. refl)

@@ -1,10 +1,9 @@
 use Rattle.std.proofs.Common.{refl}
-use Rattle.sqltables.proofs.LinkLemmas.{by_contact_until_due_asks}
-use Rattle.sqltables.proofs.TableLemmas.{asks-by, bound-last, bound-then}
+use Rattle.sqltables.proofs.QueryLemmas.{asks-by, bound-last, bound-then, links_by_contact_until_due}
 use Rattle.sqltables.proofs.store.RowStore.links_by_contact_until_due.Goals as goal
 
 pub select-requires : goal.select-requires
-select-requires g c = (_, asks-by (bound-then c.params-to_sql.ensures (bound-last c.params-to_sql-2.ensures)) (by_contact_until_due_asks c.args.contact c.args.due))
+select-requires g c = (_, asks-by (bound-then c.params-to_sql.ensures (bound-last c.params-to_sql-2.ensures)) (links_by_contact_until_due c.args.contact c.args.due))
 
 pub returns : goal.returns
-returns g c = c.select.ensures _ (asks-by (bound-then c.params-to_sql.ensures (bound-last c.params-to_sql-2.ensures)) (by_contact_until_due_asks c.args.contact c.args.due)) (λ change xs. refl)
+returns g c = c.select.ensures _ (asks-by (bound-then c.params-to_sql.ensures (bound-last c.params-to_sql-2.ensures)) (links_by_contact_until_due c.args.contact c.args.due)) (λ change xs. refl)

@@ -1,10 +1,9 @@
 use Rattle.std.proofs.Common.{refl}
-use Rattle.sqltables.proofs.LinkLemmas.{by_domain_asks}
-use Rattle.sqltables.proofs.TableLemmas.{asks-by, bound-last}
+use Rattle.sqltables.proofs.QueryLemmas.{asks-by, bound-last, links_by_domain}
 use Rattle.sqltables.proofs.store.RowStore.links_by_domain.Goals as goal
 
 pub select-requires : goal.select-requires
-select-requires g c = (_, asks-by (bound-last c.params-to_sql.ensures) (by_domain_asks c.args.domain))
+select-requires g c = (_, asks-by (bound-last c.params-to_sql.ensures) (links_by_domain c.args.domain))
 
 pub returns : goal.returns
-returns g c = c.select.ensures _ (asks-by (bound-last c.params-to_sql.ensures) (by_domain_asks c.args.domain)) (λ change xs. refl)
+returns g c = c.select.ensures _ (asks-by (bound-last c.params-to_sql.ensures) (links_by_domain c.args.domain)) (λ change xs. refl)

@@ -1,10 +1,9 @@
 use Rattle.std.proofs.Common.{refl}
-use Rattle.sqltables.proofs.TransferLemmas.{pending_by_losing_asks}
-use Rattle.sqltables.proofs.TableLemmas.{asks-by, bound-last}
+use Rattle.sqltables.proofs.QueryLemmas.{asks-by, bound-last, pending_transfers_by_losing}
 use Rattle.sqltables.proofs.store.RowStore.pending_transfers_by_losing.Goals as goal
 
 pub select-requires : goal.select-requires
-select-requires g c = (_, asks-by (bound-last c.params-to_sql.ensures) (pending_by_losing_asks c.args.losing))
+select-requires g c = (_, asks-by (bound-last c.params-to_sql.ensures) (pending_transfers_by_losing c.args.losing))
 
 pub returns : goal.returns
-returns g c = c.select.ensures _ (asks-by (bound-last c.params-to_sql.ensures) (pending_by_losing_asks c.args.losing)) (λ change xs. refl)
+returns g c = c.select.ensures _ (asks-by (bound-last c.params-to_sql.ensures) (pending_transfers_by_losing c.args.losing)) (λ change xs. refl)

@@ -1,10 +1,8 @@
-use Rattle.sqltables.proofs.ContactLemmas.{put_alters}
-use Rattle.sqltables.proofs.TableLemmas.{alters-by}
-use Rattle.sqltables.proofs.HandLemmas.{apart-contacts}
+use Rattle.sqltables.proofs.WritingLemmas.{alters-by, apart-contacts, put_contact}
 use Rattle.sqltables.proofs.store.RowStore.put_contact.Goals as goal
 
 pub write-requires-clause-means : goal.write-requires-clause-means
-write-requires-clause-means g c = (_, alters-by c.params.ensures (put_alters c.args.contact.now), apart-contacts _)
+write-requires-clause-means g c = (_, alters-by c.params.ensures (put_contact c.args.contact.now), apart-contacts _)
 
 pub returns : goal.returns
-returns g c = c.write.ensures _ (alters-by c.params.ensures (put_alters c.args.contact.now)) (apart-contacts _)
+returns g c = c.write.ensures _ (alters-by c.params.ensures (put_contact c.args.contact.now)) (apart-contacts _)

@@ -1,10 +1,8 @@
-use Rattle.sqltables.proofs.DomainLemmas.{put_alters}
-use Rattle.sqltables.proofs.TableLemmas.{alters-by}
-use Rattle.sqltables.proofs.HandLemmas.{apart-domains}
+use Rattle.sqltables.proofs.WritingLemmas.{alters-by, apart-domains, put_domain}
 use Rattle.sqltables.proofs.store.RowStore.put_domain.Goals as goal
 
 pub write-requires-clause-means : goal.write-requires-clause-means
-write-requires-clause-means g c = (_, alters-by c.params.ensures (put_alters c.args.domain.now), apart-domains _)
+write-requires-clause-means g c = (_, alters-by c.params.ensures (put_domain c.args.domain.now), apart-domains _)
 
 pub returns : goal.returns
-returns g c = c.write.ensures _ (alters-by c.params.ensures (put_alters c.args.domain.now)) (apart-domains _)
+returns g c = c.write.ensures _ (alters-by c.params.ensures (put_domain c.args.domain.now)) (apart-domains _)

@@ -1,10 +1,8 @@
-use Rattle.sqltables.proofs.HostLemmas.{put_alters}
-use Rattle.sqltables.proofs.TableLemmas.{alters-by}
-use Rattle.sqltables.proofs.HandLemmas.{apart-hosts}
+use Rattle.sqltables.proofs.WritingLemmas.{alters-by, apart-hosts, put_host}
 use Rattle.sqltables.proofs.store.RowStore.put_host.Goals as goal
 
 pub write-requires-clause-means : goal.write-requires-clause-means
-write-requires-clause-means g c = (_, alters-by c.params.ensures (put_alters c.args.host.now), apart-hosts _)
+write-requires-clause-means g c = (_, alters-by c.params.ensures (put_host c.args.host.now), apart-hosts _)
 
 pub returns : goal.returns
-returns g c = c.write.ensures _ (alters-by c.params.ensures (put_alters c.args.host.now)) (apart-hosts _)
+returns g c = c.write.ensures _ (alters-by c.params.ensures (put_host c.args.host.now)) (apart-hosts _)

@@ -1,10 +1,8 @@
-use Rattle.sqltables.proofs.LineLemmas.{put_alters}
-use Rattle.sqltables.proofs.TableLemmas.{alters-by}
-use Rattle.sqltables.proofs.HandLemmas.{apart-lines}
+use Rattle.sqltables.proofs.WritingLemmas.{alters-by, apart-lines, put_line}
 use Rattle.sqltables.proofs.store.RowStore.put_line.Goals as goal
 
 pub write-requires-clause-means : goal.write-requires-clause-means
-write-requires-clause-means g c = (_, alters-by c.params.ensures (put_alters c.args.line.now), apart-lines _)
+write-requires-clause-means g c = (_, alters-by c.params.ensures (put_line c.args.line.now), apart-lines _)
 
 pub returns : goal.returns
-returns g c = c.write.ensures _ (alters-by c.params.ensures (put_alters c.args.line.now)) (apart-lines _)
+returns g c = c.write.ensures _ (alters-by c.params.ensures (put_line c.args.line.now)) (apart-lines _)

@@ -1,10 +1,8 @@
-use Rattle.sqltables.proofs.LinkLemmas.{remove_domain_alters}
-use Rattle.sqltables.proofs.TableLemmas.{alters-by, bound-last}
-use Rattle.sqltables.proofs.HandLemmas.{apart-links}
+use Rattle.sqltables.proofs.WritingLemmas.{alters-by, bound-last, apart-links, remove_links_by_domain}
 use Rattle.sqltables.proofs.store.RowStore.remove_links_by_domain.Goals as goal
 
 pub write-requires-clause-means : goal.write-requires-clause-means
-write-requires-clause-means g c = (_, alters-by (bound-last c.params-to_sql.ensures) (remove_domain_alters c.args.domain), apart-links _)
+write-requires-clause-means g c = (_, alters-by (bound-last c.params-to_sql.ensures) (remove_links_by_domain c.args.domain), apart-links _)
 
 pub returns : goal.returns
-returns g c = c.write.ensures _ (alters-by (bound-last c.params-to_sql.ensures) (remove_domain_alters c.args.domain)) (apart-links _)
+returns g c = c.write.ensures _ (alters-by (bound-last c.params-to_sql.ensures) (remove_links_by_domain c.args.domain)) (apart-links _)

@@ -2,16 +2,12 @@ use Rattle.std.proofs.Common.{sym, subst, subst₂}
 use Rattle.sqltables.specs.Content.{Content}
 use Rattle.sqltables.specs.inner.Hand.{after, noted_of, noting, seen_with}
 use Rattle.states.specs.States.{Finds, StateOf}
-use Rattle.sqltables.proofs.AnswerLemmas.{reads-by}
 use Rattle.sqltables.proofs.NotedLemmas.{noted-found, noting-found}
 use Rattle.sqltables.proofs.SeenLemmas.{blind-seen, found-kept, found-seen}
 use Rattle.sqltables.proofs.store.RowStore.select.Goals as goal
 
-pub select-found-requires-clause-plain : goal.select-found-requires-clause-plain
-select-found-requires-clause-plain g c = c.requires.1.is.plain
-
-pub select-found-requires-clause-reads : goal.select-found-requires-clause-reads
-select-found-requires-clause-reads g c = reads-by c.args.tree g.R.Record.shown _ _ c.requires.0 c.requires.1
+pub select-found-requires : goal.select-found-requires
+select-found-requires g c = c.requires
 
 pub invariant_of-self : goal.invariant_of-self
 invariant_of-self g c =

@@ -1,0 +1,107 @@
+-- The statements that there are on several tables, on one of them.
+use Rattle.std.proofs.Common.{◌≡◌, ◌+◌, ℕ, ℤ, pos, negsuc, zero, suc, Bool, true, List, [], ◌∷◌, map, filter, take, drop, ◌∙◌, refl, ap, Ordering}
+use Rattle.std.specs.List.{list_all, take-map}
+use Rattle.sqlite_value.specs.declared.value.Value.TheVariants.{Null, Int}
+use Rattle.sqlite_value.specs.declared.keys.Collation.TheVariants.{Binary}
+use Rattle.sqlite_value.specs.Order.{Row}
+use Rattle.sqlite_sql.specs.declared.ops.CompareOp.TheVariants.{Eq, Ge, Le}
+use Rattle.sqlite_sql.specs.declared.ops.BinaryOp.TheVariants.{Compare}
+use Rattle.sqlite_sql.specs.Query.{Query, output, output_cmp}
+use Rattle.sqlite_sql.specs.Term.{Term, lit, col, op2, eval_all, holds}
+use Rattle.sqlite_keyed.specs.Keyed.{insert_by}
+use Rattle.sqlite_keyed.specs.Lists.{delete_where, sort_by}
+use Rattle.sqlite_keyed.proofs.ListLemmas.{filter_all, all_of}
+use Rattle.sqlrows.specs.inner.Layouts.{writes_tables, Gives, Numbers, IsSelect, IsPut, IsAppend, IsDelete, select_query, limited_query, sorted_query, by_then_key, appended}
+use Rattle.sqlrows.proofs.SelectLemmas.{selects, limits, sorts}
+use Rattle.sqlrows.proofs.PutLemmas.{puts}
+use Rattle.sqlrows.proofs.AppendLemmas.{appends}
+use Rattle.sqlrows.proofs.WriteLemmas.{deletes}
+use Rattle.sqltables.specs.Tables.{registry}
+use Rattle.sqltables.specs.inner.Statements.{Alters, Asks}
+use Rattle.sqltables.proofs.TableLemmas.{Part, alters, asks}
+
+-- ---- terms
+
+-- so many columns of a row of the statement, from this one on
+abbrev pub columns : ℕ → ℕ → ℕ → List Term
+columns row at zero = []
+columns row at (suc n) = col row at ∷ columns row (suc at) n
+
+-- of a table with `n` columns beside its key: what a query shows of a row
+abbrev pub all_columns : ℕ → List Term
+all_columns n = col 1 0 ∷ columns 1 2 n
+
+-- what VALUES makes of the parameters, and what the update then makes of a row with the same key
+abbrev pub put_terms : ℕ → List Term
+put_terms n = col 0 0 ∷ lit Null ∷ columns 0 1 n
+
+abbrev pub set_terms : ℕ → List Term
+set_terms n = col 1 0 ∷ lit Null ∷ columns 0 (n + 4) n
+
+-- what VALUES makes of the parameters without the key
+abbrev pub append_terms : ℕ → List Term
+append_terms n = lit Null ∷ lit Null ∷ columns 0 0 n
+
+-- a column beside a parameter, and one that isn't below 0
+abbrev pub equals : ℕ → ℕ → Term
+equals column param = op2 (Compare Eq Binary) (col 1 column) (col 0 param)
+
+abbrev pub at_most : ℕ → ℕ → Term
+at_most column param = op2 (Compare Le Binary) (col 1 column) (col 0 param)
+
+abbrev pub from_zero : ℕ → Term
+from_zero column = op2 (Compare Ge Binary) (col 1 column) (lit (Int (pos 0)))
+
+-- ---- statements
+
+module _ {X : Type 0} (T : Part X) where
+  abbrev Tests : Row → List Term → (X → Bool) → Type 0
+  Tests params filters p = (x : X) → list_all (holds (params ∷ T.layout.to_row x ∷ [])) filters ≡ p x
+
+  abbrev Shows : Row → List Term → (X → Row) → Type 0
+  Shows params project shown = (x : X) → eval_all project (params ∷ T.layout.to_row x ∷ []) ≡ shown x
+
+  abbrev Orders : Row → Query → List (X → X → Ordering) → Type 0
+  Orders params q by = (x y : X) → output_cmp q (output q (params ∷ T.layout.to_row x ∷ [])) (output q (params ∷ T.layout.to_row y ∷ [])) ≡ by_then_key T.layout by x y
+
+  pub asks_all : {sql : List ℕ} {shown : X → Row} (n : ℕ) → IsSelect registry sql (select_query T.layout.tree [] (all_columns n)) → Shows [] (all_columns n) shown → Asks T.layout.tree shown sql [] T.rows
+  asks_all {sql} {shown} n is shows = asks T shown sql [] _ (λ xs. xs) is refl (λ db xs rows h answer.
+      selects T.layout [] (all_columns n) [] (λ _. true) shown (λ x. refl) shows db xs rows h answer ∙ ap (map shown) (filter_all (λ _. true) xs (all_of _ (λ x. refl) xs)))
+
+  module _ {sql : List ℕ} {params : Row} {shown : X → Row} {p : X → Bool} (n : ℕ) (filters : List Term) where
+    pub asks_where : IsSelect registry sql (select_query T.layout.tree filters (all_columns n)) → Tests params filters p → Shows params (all_columns n) shown
+        → Asks T.layout.tree shown sql params (λ c. filter p (T.rows c))
+    asks_where is tests shows = asks T shown sql params _ (filter p) is refl (selects T.layout filters (all_columns n) params p shown tests shows)
+
+    -- the first alone
+    pub asks_first : IsSelect registry sql (limited_query T.layout.tree filters (all_columns n) (pos 1)) → Tests params filters p → Shows params (all_columns n) shown
+        → Asks T.layout.tree shown sql params (λ c. take 1 (filter p (T.rows c)))
+    asks_first is tests shows = asks T shown sql params _ (λ xs. take 1 (filter p xs)) is refl (λ db xs rows h answer.
+        limits T.layout filters (all_columns n) (pos 1) params p shown tests shows db xs rows h answer ∙ take-map shown 1 (filter p xs))
+
+    -- in the order of some columns
+    module _ (order : List Term) (by : List (X → X → Ordering)) where
+      pub asks_sorted : IsSelect registry sql (sorted_query T.layout.tree filters (all_columns n) order (negsuc 0)) → Tests params filters p → Shows params (all_columns n) shown
+          → Orders params (sorted_query T.layout.tree filters (all_columns n) order (negsuc 0)) by → Asks T.layout.tree shown sql params (λ c. sort_by (by_then_key T.layout by) (filter p (T.rows c)))
+      asks_sorted is tests shows orders = asks T shown sql params _ (λ xs. sort_by (by_then_key T.layout by) (filter p xs)) is refl
+          (sorts T.layout filters (all_columns n) order (negsuc 0) params p shown by tests shows orders)
+
+      pub asks_first_sorted : IsSelect registry sql (sorted_query T.layout.tree filters (all_columns n) order (pos 1)) → Tests params filters p → Shows params (all_columns n) shown
+          → Orders params (sorted_query T.layout.tree filters (all_columns n) order (pos 1)) by → Asks T.layout.tree shown sql params (λ c. take 1 (sort_by (by_then_key T.layout by) (filter p (T.rows c))))
+      asks_first_sorted is tests shows orders = asks T shown sql params _ (λ xs. take 1 (sort_by (by_then_key T.layout by) (filter p xs))) is refl (λ db xs rows h answer.
+          sorts T.layout filters (all_columns n) order (pos 1) params p shown by tests shows orders db xs rows h answer ∙ take-map shown 1 (sort_by (by_then_key T.layout by) (filter p xs)))
+
+  pub put_by : {sql : List ℕ} (shown : X → Row) (n : ℕ) → IsPut registry sql T.at T.layout.tree (suc n) (put_terms n) (set_terms n) → Gives T.layout registry T.table (suc n) (put_terms n) (set_terms n) shown
+      → (x : X) → Alters T.layout.tree sql (shown x) (T.to (λ xs. insert_by T.layout.key xs x))
+  put_by {sql} shown n is gives x = alters T sql (shown x) (λ xs. insert_by T.layout.key xs x) is.plain (ap writes_tables is.command)
+      (puts T.layout registry T.at T.table T.listed (suc n) (put_terms n) (set_terms n) shown gives sql x is)
+
+  pub append_by : {sql : List ℕ} (shown : X → Row) (numbered : X → ℤ → X) (n : ℕ) → IsAppend registry sql T.at (append_terms n) → Numbers T.layout T.table (append_terms n) (λ x. drop 1 (shown x)) numbered
+      → (x : X) → Alters T.layout.tree sql (drop 1 (shown x)) (T.to (λ xs. appended T.layout (numbered x) xs))
+  append_by {sql} shown numbered n is numbers x = alters T sql (drop 1 (shown x)) (λ xs. appended T.layout (numbered x) xs) is.plain (ap writes_tables is.command)
+      (appends T.layout registry T.at T.table T.listed (append_terms n) (λ x. drop 1 (shown x)) numbered numbers sql x is)
+
+  pub remove_by : {sql : List ℕ} {params : Row} (p : X → Bool) (filters : List Term) → IsDelete registry sql T.at T.layout.tree filters → Tests params filters p
+      → Alters T.layout.tree sql params (T.to (λ xs. delete_where p xs))
+  remove_by {sql} {params} p filters is tests = alters T sql params (λ xs. delete_where p xs) is.plain (ap writes_tables is.command)
+      (deletes T.layout registry T.at T.table T.listed sql params filters p tests is)

@@ -1,0 +1,206 @@
+-- What the statements that write rows of a table mean.
+use Rattle.std.proofs.Common.{ap, drop, refl, List, [], ◌∷◌, ℤ, false}
+use Rattle.sqlite_value.specs.declared.value.Value.TheVariants.{Null, Int}
+use Rattle.sqlite_sql.specs.declared.ops.CompareOp.TheVariants.{Eq}
+use Rattle.sqlite_sql.specs.Term.{Term, lit, col}
+use Rattle.sqlite_typed.proofs.TestLemmas.{at_ints, at_points_to, last_term}
+use Rattle.sqlite_keyed.specs.Keyed.{insert_by}
+use Rattle.sqlite_keyed.specs.Lists.{delete_where, update_where}
+use Rattle.sqlite.specs.Listing.{understood}
+use Rattle.sqlite_tied.specs.Compute.{everything}
+use Rattle.sqlrows.specs.inner.Layouts.{appended, writes_tables, IsUpdate}
+use Rattle.sqlrows.proofs.CastLemmas.{cast_int, cast_null, cast_text, cast_maybe_int, cast_maybe_text}
+use Rattle.sqlrows.proofs.UpdateLemmas.{updates}
+use Rattle.sqltables.specs.Tables.{registry}
+use Rattle.sqltables.specs.inner.Tables.{meta_put, account_put, contact_put, contact_append, contact_remove_id, domain_put, domain_append, domain_remove_id, host_put, host_append, host_remove_id, address_put, address_append, address_remove_host, link_put, link_append, link_remove_domain, link_update_due, line_put, line_append, line_remove_id, message_put, message_append, message_remove_id, transfer_put, transfer_append, transfer_remove_contact, transfer_remove_domain, days_append}
+use Rattle.sqltables.specs.Meta.{Meta, meta_shown, metas}
+use Rattle.sqltables.specs.Account.{Account, account_shown, accounts}
+use Rattle.sqltables.specs.Contact.{Contact, contact_shown, contacts, contact_with_id}
+use Rattle.sqltables.specs.Domain.{Domain}
+use Rattle.sqltables.specs.inner.Domain.{domain_shown, domains, domain_with_id}
+use Rattle.sqltables.specs.Host.{Host, host_shown, hosts, host_with_id}
+use Rattle.sqltables.specs.Address.{Address, address_shown, addresses, address_with_host}
+use Rattle.sqltables.specs.Link.{Link, link_shown, links, link_with_domain}
+use Rattle.sqltables.specs.Line.{Line, line_shown, lines, line_with_id}
+use Rattle.sqltables.specs.Message.{Message}
+use Rattle.sqltables.specs.inner.Message.{message_shown, messages, message_with_id}
+use Rattle.sqltables.specs.Transfer.{Transfer, transfer_shown, transfers, transfer_with_contact, transfer_with_domain}
+use Rattle.sqltables.specs.Day.{Day, day_shown, days}
+use Rattle.sqltables.specs.inner.Content.{metas_to, accounts_to, contacts_to, domains_to, hosts_to, addresses_to, links_to, lines_to, messages_to, transfers_to, days_to}
+use Rattle.sqltables.specs.inner.Hand.{IsApart}
+use Rattle.sqltables.specs.inner.Statements.{Alters}
+use Rattle.sqltables.proofs.StatementLemmas.{append_by, equals, put_by, remove_by}
+use Rattle.sqltables.proofs.TableLemmas.{alters, meta_part, account_part, contact_part, domain_part, host_part, address_part, link_part, line_part, message_part, transfer_part, day_part}
+pub use Rattle.sqltables.proofs.TableLemmas.{alters-by, bound-last, bound-then}
+
+-- ---- meta
+
+pub put_meta : (x : Meta) → Alters metas.tree meta_put (meta_shown x) (metas_to (λ xs. insert_by metas.key xs x))
+unfolding understood everything
+put_meta = put_by meta_part meta_shown 16 (record { command = refl; plain = (refl, refl) }) (record { values = λ x. refl; place = λ x v. refl; updates = λ x v r. refl; unshared = λ new r. refl; headed = λ x. refl })
+
+-- ---- account
+
+pub put_account : (x : Account) → Alters accounts.tree account_put (account_shown x) (accounts_to (λ xs. insert_by accounts.key xs x))
+unfolding understood everything
+put_account = put_by account_part account_shown 7 (record { command = refl; plain = (refl, refl) }) (record { values = λ x. refl; place = λ x v. refl; updates = λ x v r. refl; unshared = λ new r. refl; headed = λ x. refl })
+
+-- ---- contact
+
+pub put_contact : (x : Contact) → Alters contacts.tree contact_put (contact_shown x) (contacts_to (λ xs. insert_by contacts.key xs x))
+unfolding understood everything
+put_contact = put_by contact_part contact_shown 19 (record { command = refl; plain = (refl, refl) }) (record { values = λ x. refl; place = λ x v. refl; updates = λ x v r. refl; unshared = λ new r. refl; headed = λ x. refl })
+
+pub append_contact : (x : Contact) → Alters contacts.tree contact_append (drop 1 (contact_shown x)) (contacts_to (λ xs. appended contacts (λ id. record x { id = id }) xs))
+unfolding understood everything
+append_contact = append_by contact_part contact_shown (λ x id. record x { id = id }) 19 (record { command = refl; plain = (refl, refl) }) (record { values = λ x. refl; casts = λ x. simp (cast_int, cast_null, cast_text, cast_maybe_int, cast_maybe_text); row = λ x id. refl })
+
+pub remove_contacts_by_id : (v : ℤ) → Alters contacts.tree contact_remove_id (Int v ∷ []) (contacts_to (λ xs. delete_where (contact_with_id v) xs))
+unfolding understood everything
+remove_contacts_by_id v = remove_by contact_part (contact_with_id v) (equals 0 0 ∷ []) (record { command = refl; plain = (refl, refl) }) (λ x. last_term (at_ints false Eq x.id v))
+
+-- ---- domain
+
+pub put_domain : (x : Domain) → Alters domains.tree domain_put (domain_shown x) (domains_to (λ xs. insert_by domains.key xs x))
+unfolding understood everything
+put_domain = put_by domain_part domain_shown 14 (record { command = refl; plain = (refl, refl) }) (record { values = λ x. refl; place = λ x v. refl; updates = λ x v r. refl; unshared = λ new r. refl; headed = λ x. refl })
+
+pub append_domain : (x : Domain) → Alters domains.tree domain_append (drop 1 (domain_shown x)) (domains_to (λ xs. appended domains (λ id. record x { id = id }) xs))
+unfolding understood everything
+append_domain = append_by domain_part domain_shown (λ x id. record x { id = id }) 14 (record { command = refl; plain = (refl, refl) }) (record { values = λ x. refl; casts = λ x. simp (cast_int, cast_null, cast_text, cast_maybe_int, cast_maybe_text); row = λ x id. refl })
+
+pub remove_domains_by_id : (v : ℤ) → Alters domains.tree domain_remove_id (Int v ∷ []) (domains_to (λ xs. delete_where (domain_with_id v) xs))
+unfolding understood everything
+remove_domains_by_id v = remove_by domain_part (domain_with_id v) (equals 0 0 ∷ []) (record { command = refl; plain = (refl, refl) }) (λ x. last_term (at_ints false Eq x.id v))
+
+-- ---- host
+
+pub put_host : (x : Host) → Alters hosts.tree host_put (host_shown x) (hosts_to (λ xs. insert_by hosts.key xs x))
+unfolding understood everything
+put_host = put_by host_part host_shown 9 (record { command = refl; plain = (refl, refl) }) (record { values = λ x. refl; place = λ x v. refl; updates = λ x v r. refl; unshared = λ new r. refl; headed = λ x. refl })
+
+pub append_host : (x : Host) → Alters hosts.tree host_append (drop 1 (host_shown x)) (hosts_to (λ xs. appended hosts (λ id. record x { id = id }) xs))
+unfolding understood everything
+append_host = append_by host_part host_shown (λ x id. record x { id = id }) 9 (record { command = refl; plain = (refl, refl) }) (record { values = λ x. refl; casts = λ x. simp (cast_int, cast_null, cast_text, cast_maybe_int, cast_maybe_text); row = λ x id. refl })
+
+pub remove_hosts_by_id : (v : ℤ) → Alters hosts.tree host_remove_id (Int v ∷ []) (hosts_to (λ xs. delete_where (host_with_id v) xs))
+unfolding understood everything
+remove_hosts_by_id v = remove_by host_part (host_with_id v) (equals 0 0 ∷ []) (record { command = refl; plain = (refl, refl) }) (λ x. last_term (at_ints false Eq x.id v))
+
+-- ---- address
+
+pub put_address : (x : Address) → Alters addresses.tree address_put (address_shown x) (addresses_to (λ xs. insert_by addresses.key xs x))
+unfolding understood everything
+put_address = put_by address_part address_shown 2 (record { command = refl; plain = (refl, refl) }) (record { values = λ x. refl; place = λ x v. refl; updates = λ x v r. refl; unshared = λ new r. refl; headed = λ x. refl })
+
+pub append_address : (x : Address) → Alters addresses.tree address_append (drop 1 (address_shown x)) (addresses_to (λ xs. appended addresses (λ id. record x { id = id }) xs))
+unfolding understood everything
+append_address = append_by address_part address_shown (λ x id. record x { id = id }) 2 (record { command = refl; plain = (refl, refl) }) (record { values = λ x. refl; casts = λ x. simp (cast_int, cast_null, cast_text, cast_maybe_int, cast_maybe_text); row = λ x id. refl })
+
+pub remove_addresses_by_host : (v : ℤ) → Alters addresses.tree address_remove_host (Int v ∷ []) (addresses_to (λ xs. delete_where (address_with_host v) xs))
+unfolding understood everything
+remove_addresses_by_host v = remove_by address_part (address_with_host v) (equals 2 0 ∷ []) (record { command = refl; plain = (refl, refl) }) (λ x. last_term (at_ints false Eq x.host v))
+
+-- ---- link
+
+pub put_link : (x : Link) → Alters links.tree link_put (link_shown x) (links_to (λ xs. insert_by links.key xs x))
+unfolding understood everything
+put_link = put_by link_part link_shown 5 (record { command = refl; plain = (refl, refl) }) (record { values = λ x. refl; place = λ x v. refl; updates = λ x v r. refl; unshared = λ new r. refl; headed = λ x. refl })
+
+pub append_link : (x : Link) → Alters links.tree link_append (drop 1 (link_shown x)) (links_to (λ xs. appended links (λ id. record x { id = id }) xs))
+unfolding understood everything
+append_link = append_by link_part link_shown (λ x id. record x { id = id }) 5 (record { command = refl; plain = (refl, refl) }) (record { values = λ x. refl; casts = λ x. simp (cast_int, cast_null, cast_text, cast_maybe_int, cast_maybe_text); row = λ x id. refl })
+
+pub remove_links_by_domain : (v : ℤ) → Alters links.tree link_remove_domain (Int v ∷ []) (links_to (λ xs. delete_where (link_with_domain v) xs))
+unfolding understood everything
+remove_links_by_domain v = remove_by link_part (link_with_domain v) (equals 2 0 ∷ []) (record { command = refl; plain = (refl, refl) }) (λ x. last_term (at_ints false Eq x.domain v))
+
+abbrev updated_due : List Term
+updated_due = col 1 0 ∷ lit Null ∷ col 1 2 ∷ col 1 3 ∷ col 1 4 ∷ col 1 5 ∷ col 0 1 ∷ []
+
+update_due_is : IsUpdate registry link_update_due 6 10 (equals 2 0 ∷ []) updated_due
+unfolding understood everything
+update_due_is = record { command = refl; plain = (refl, refl) }
+
+pub update_links_due : (v due : ℤ) → Alters links.tree link_update_due (Int v ∷ Int due ∷ []) (links_to (λ xs. update_where (link_with_domain v) (λ x. record x { due = due }) xs))
+update_links_due v due = alters link_part link_update_due (Int v ∷ Int due ∷ []) (λ xs. update_where (link_with_domain v) (λ x. record x { due = due }) xs) update_due_is.plain (ap writes_tables update_due_is.command)
+    (updates links registry 6 link_part.table link_part.listed link_update_due (Int v ∷ Int due ∷ []) _ updated_due (link_with_domain v) (λ x. record x { due = due }) (λ x. last_term (at_ints false Eq x.domain v))
+    (record { row = λ x. refl; key = λ x. refl }) update_due_is)
+
+-- ---- line
+
+pub put_line : (x : Line) → Alters lines.tree line_put (line_shown x) (lines_to (λ xs. insert_by lines.key xs x))
+unfolding understood everything
+put_line = put_by line_part line_shown 10 (record { command = refl; plain = (refl, refl) }) (record { values = λ x. refl; place = λ x v. refl; updates = λ x v r. refl; unshared = λ new r. refl; headed = λ x. refl })
+
+pub append_line : (x : Line) → Alters lines.tree line_append (drop 1 (line_shown x)) (lines_to (λ xs. appended lines (λ id. record x { id = id }) xs))
+unfolding understood everything
+append_line = append_by line_part line_shown (λ x id. record x { id = id }) 10 (record { command = refl; plain = (refl, refl) }) (record { values = λ x. refl; casts = λ x. simp (cast_int, cast_null, cast_text, cast_maybe_int, cast_maybe_text); row = λ x id. refl })
+
+pub remove_lines_by_id : (v : ℤ) → Alters lines.tree line_remove_id (Int v ∷ []) (lines_to (λ xs. delete_where (line_with_id v) xs))
+unfolding understood everything
+remove_lines_by_id v = remove_by line_part (line_with_id v) (equals 0 0 ∷ []) (record { command = refl; plain = (refl, refl) }) (λ x. last_term (at_ints false Eq x.id v))
+
+-- ---- message
+
+pub put_message : (x : Message) → Alters messages.tree message_put (message_shown x) (messages_to (λ xs. insert_by messages.key xs x))
+unfolding understood everything
+put_message = put_by message_part message_shown 7 (record { command = refl; plain = (refl, refl) }) (record { values = λ x. refl; place = λ x v. refl; updates = λ x v r. refl; unshared = λ new r. refl; headed = λ x. refl })
+
+pub append_message : (x : Message) → Alters messages.tree message_append (drop 1 (message_shown x)) (messages_to (λ xs. appended messages (λ id. record x { id = id }) xs))
+unfolding understood everything
+append_message = append_by message_part message_shown (λ x id. record x { id = id }) 7 (record { command = refl; plain = (refl, refl) }) (record { values = λ x. refl; casts = λ x. simp (cast_int, cast_null, cast_text, cast_maybe_int, cast_maybe_text); row = λ x id. refl })
+
+pub remove_messages_by_id : (v : ℤ) → Alters messages.tree message_remove_id (Int v ∷ []) (messages_to (λ xs. delete_where (message_with_id v) xs))
+unfolding understood everything
+remove_messages_by_id v = remove_by message_part (message_with_id v) (equals 0 0 ∷ []) (record { command = refl; plain = (refl, refl) }) (λ x. last_term (at_ints false Eq x.id v))
+
+-- ---- transfer
+
+pub put_transfer : (x : Transfer) → Alters transfers.tree transfer_put (transfer_shown x) (transfers_to (λ xs. insert_by transfers.key xs x))
+unfolding understood everything
+put_transfer = put_by transfer_part transfer_shown 8 (record { command = refl; plain = (refl, refl) }) (record { values = λ x. refl; place = λ x v. refl; updates = λ x v r. refl; unshared = λ new r. refl; headed = λ x. refl })
+
+pub append_transfer : (x : Transfer) → Alters transfers.tree transfer_append (drop 1 (transfer_shown x)) (transfers_to (λ xs. appended transfers (λ id. record x { id = id }) xs))
+unfolding understood everything
+append_transfer = append_by transfer_part transfer_shown (λ x id. record x { id = id }) 8 (record { command = refl; plain = (refl, refl) }) (record { values = λ x. refl; casts = λ x. simp (cast_int, cast_null, cast_text, cast_maybe_int, cast_maybe_text); row = λ x id. refl })
+
+pub remove_transfers_by_contact : (v : ℤ) → Alters transfers.tree transfer_remove_contact (Int v ∷ []) (transfers_to (λ xs. delete_where (transfer_with_contact v) xs))
+unfolding understood everything
+remove_transfers_by_contact v = remove_by transfer_part (transfer_with_contact v) (equals 2 0 ∷ []) (record { command = refl; plain = (refl, refl) }) (λ x. last_term (at_points_to x.contact v))
+
+pub remove_transfers_by_domain : (v : ℤ) → Alters transfers.tree transfer_remove_domain (Int v ∷ []) (transfers_to (λ xs. delete_where (transfer_with_domain v) xs))
+unfolding understood everything
+remove_transfers_by_domain v = remove_by transfer_part (transfer_with_domain v) (equals 3 0 ∷ []) (record { command = refl; plain = (refl, refl) }) (λ x. last_term (at_points_to x.domain v))
+
+-- ---- days
+
+pub append_day : (x : Day) → Alters days.tree days_append (drop 1 (day_shown x)) (days_to (λ xs. appended days (λ id. record x { id = id }) xs))
+unfolding understood everything
+append_day = append_by day_part day_shown (λ x id. record x { id = id }) 10 (record { command = refl; plain = (refl, refl) }) (record { values = λ x. refl; casts = λ x. simp (cast_int, cast_null, cast_text, cast_maybe_int, cast_maybe_text); row = λ x id. refl })
+
+-- ---- what hangs on no account
+
+pub apart-contacts : (change : List Contact → List Contact) → IsApart (contacts_to change)
+apart-contacts change = record { accounts = λ f xs. refl; metas = λ xs. refl; days = λ xs. refl }
+
+pub apart-domains : (change : List Domain → List Domain) → IsApart (domains_to change)
+apart-domains change = record { accounts = λ f xs. refl; metas = λ xs. refl; days = λ xs. refl }
+
+pub apart-hosts : (change : List Host → List Host) → IsApart (hosts_to change)
+apart-hosts change = record { accounts = λ f xs. refl; metas = λ xs. refl; days = λ xs. refl }
+
+pub apart-addresses : (change : List Address → List Address) → IsApart (addresses_to change)
+apart-addresses change = record { accounts = λ f xs. refl; metas = λ xs. refl; days = λ xs. refl }
+
+pub apart-links : (change : List Link → List Link) → IsApart (links_to change)
+apart-links change = record { accounts = λ f xs. refl; metas = λ xs. refl; days = λ xs. refl }
+
+pub apart-lines : (change : List Line → List Line) → IsApart (lines_to change)
+apart-lines change = record { accounts = λ f xs. refl; metas = λ xs. refl; days = λ xs. refl }
+
+pub apart-messages : (change : List Message → List Message) → IsApart (messages_to change)
+apart-messages change = record { accounts = λ f xs. refl; metas = λ xs. refl; days = λ xs. refl }
+
+pub apart-transfers : (change : List Transfer → List Transfer) → IsApart (transfers_to change)
+apart-transfers change = record { accounts = λ f xs. refl; metas = λ xs. refl; days = λ xs. refl }
