@@ -1,4 +1,4 @@
--- How a store of rows stands, by its database.
+-- The state of a store of rows, by its database.
 use Rattle.std.specs.Prelude.{◌≡◌, List}
 use Rattle.sqlite_catalog.specs.Listing.{IsSound}
 use Rattle.sqlite_trees.specs.Tree.{Trees}

@@ -159,7 +159,7 @@ impl<S: Alter> Base<S> {
         self.select(TREE, BY_ID, params![id])
     }
 
-    /// Puts a row in the place of the one with its number, or beside all others.
+    /// Puts a row in the place of the one with its number, or after all others.
     pub(crate) fn put_account(&mut self, account: &AccountRow) -> Result<(), BookFault>
         requires { self.old.is_open ≡ true }
         ensures { Makes result (accounts_to (λ xs. insert_by accounts.key xs account.now)
@@ -185,7 +185,7 @@ impl<S: Alter> RowStore<S> {
         look_up(&mut self.base, &mut self.hand, id)
     }
 
-    /// Puts a row in the place of the one with its number, or beside all others.
+    /// Puts a row in the place of the one with its number, or after all others.
     pub fn put_account(&mut self, account: &AccountRow) -> Result<(), BookFault>
         requires { self.old.is_open ≡ true }
         ensures { Makes result (accounts_to (λ xs. insert_by accounts.key xs account.now)

@@ -79,7 +79,7 @@ impl<S: Alter> RowStore<S> {
         self.select(TREE, BY_HOST, params![host])
     }
 
-    /// Puts a row in the place of the one with its number, or beside all others.
+    /// Puts a row in the place of the one with its number, or after all others.
     pub fn put_address(&mut self, address: &AddressRow) -> Result<(), BookFault>
         requires { self.old.is_open ≡ true }
         ensures { Makes result (addresses_to (λ xs. insert_by addresses.key xs address.now)

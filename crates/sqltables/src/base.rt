@@ -101,7 +101,7 @@ impl<S: Alter> Base<S> {
         self.ask(tree, sql, params)
     }
 
-    /// Does nothing but learn whether the database still answers, where no transaction tells it. There nothing
+    /// Does nothing but learn whether the database still answers, where no transaction shows it. There nothing
     /// is kept of what it answered before.
     fn look(&mut self, sql: &str) -> Result<(), BookFault>
         ensures same { FindsSome result (λ done. ⊤) self.old self.new }

@@ -232,7 +232,7 @@ impl<S: Alter> RowStore<S> {
         self.select(TREE, BY_SPONSOR_UNTIL_DUE, params![sponsor, due])
     }
 
-    /// Puts a row in the place of the one with its number, or beside all others.
+    /// Puts a row in the place of the one with its number, or after all others.
     pub fn put_contact(&mut self, contact: &ContactRow) -> Result<(), BookFault>
         requires { self.old.is_open ≡ true }
         ensures { Makes result (contacts_to (λ xs. insert_by contacts.key xs contact.now)

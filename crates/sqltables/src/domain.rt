@@ -221,7 +221,7 @@ impl<S: Alter> RowStore<S> {
         self.select(TREE, BY_ROID, params![creator, serial])
     }
 
-    /// Puts a row in the place of the one with its number, or beside all others.
+    /// Puts a row in the place of the one with its number, or after all others.
     pub fn put_domain(&mut self, domain: &DomainRow) -> Result<(), BookFault>
         requires { self.old.is_open ≡ true }
         ensures { Makes result (domains_to (λ xs. insert_by domains.key xs domain.now)

@@ -134,7 +134,7 @@ impl<S: Alter> RowStore<S> {
         self.select(TREE, BY_ABOVE, params![above])
     }
 
-    /// Puts a row in the place of the one with its number, or beside all others.
+    /// Puts a row in the place of the one with its number, or after all others.
     pub fn put_host(&mut self, host: &HostRow) -> Result<(), BookFault>
         requires { self.old.is_open ≡ true }
         ensures { Makes result (hosts_to (λ xs. insert_by hosts.key xs host.now) self.old.content)

@@ -147,7 +147,7 @@ impl<S: Alter> RowStore<S> {
         self.select(TREE, BY_OBJECT, params![account, creator, serial])
     }
 
-    /// Puts a row in the place of the one with its number, or beside all others.
+    /// Puts a row in the place of the one with its number, or after all others.
     pub fn put_line(&mut self, line: &LineRow) -> Result<(), BookFault>
         requires { self.old.is_open ≡ true }
         ensures { Makes result (lines_to (λ xs. insert_by lines.key xs line.now) self.old.content)

@@ -155,7 +155,7 @@ impl<S: Alter> RowStore<S> {
         self.select(TREE, BY_HOST_UNTIL_DUE, params![host, due])
     }
 
-    /// Puts a row in the place of the one with its number, or beside all others.
+    /// Puts a row in the place of the one with its number, or after all others.
     pub fn put_link(&mut self, link: &LinkRow) -> Result<(), BookFault>
         requires { self.old.is_open ≡ true }
         ensures { Makes result (links_to (λ xs. insert_by links.key xs link.now) self.old.content)

@@ -115,7 +115,7 @@ impl<S: Alter> RowStore<S> {
         self.select(TREE, SAME, &message.params()[1..])
     }
 
-    /// Puts a row in the place of the one with its number, or beside all others.
+    /// Puts a row in the place of the one with its number, or after all others.
     pub fn put_message(&mut self, message: &MessageRow) -> Result<(), BookFault>
         requires { self.old.is_open ≡ true }
         ensures { Makes result (messages_to (λ xs. insert_by messages.key xs message.now)

@@ -141,7 +141,7 @@ impl<S: Alter> Base<S> {
         self.select(TREE, ALL, &[])
     }
 
-    /// Puts a row in the place of the one with its number, or beside all others.
+    /// Puts a row in the place of the one with its number, or after all others.
     pub(crate) fn put_meta(&mut self, meta: &MetaRow) -> Result<(), BookFault>
         requires { self.old.is_open ≡ true }
         ensures { Makes result (metas_to (λ xs. insert_by metas.key xs meta.now) self.old.content)
@@ -159,7 +159,7 @@ impl<S: Alter> RowStore<S> {
         look_up(&mut self.base, &mut self.hand)
     }
 
-    /// Puts a row in the place of the one with its number, or beside all others.
+    /// Puts a row in the place of the one with its number, or after all others.
     pub fn put_meta(&mut self, meta: &MetaRow) -> Result<(), BookFault>
         requires { self.old.is_open ≡ true }
         ensures { Makes result (metas_to (λ xs. insert_by metas.key xs meta.now) self.old.content)

@@ -91,7 +91,7 @@ const LINK_HOST_DUE: &str = "CREATE INDEX link_host_due ON link (host, due)";
 
 const TRANSFER_LOSING: &str = "CREATE INDEX transfer_losing ON transfer (losing, due)";
 
-/// The texts that make a schema: those of both, round the one of its lines, and its own behind them.
+/// The texts that make a schema: those of both, round the one of its lines, and its own after them.
 macro_rules! texts {
     ($line:ident $(, $more:ident)*) => {
         &[

@@ -70,7 +70,7 @@ impl<S: Alter> RowStore<S> {
     ghost use Rattle.sqltables.specs.Stored.{Covers, fresh};
     ghost use Rattle.sqltables.specs.inner.Whole.{IsWhole};
 
-    /// A store over what stands where no transaction is open, with no row at hand.
+    /// A store over what is there where no transaction is open, with no row at hand.
     fn over(base: Base<S>) -> RowStore<S>
         requires idle { base.is_open ≡ false }
         requires leaves { base.is_honest ≡ true → LeavesIt base }

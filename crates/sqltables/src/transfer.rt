@@ -139,7 +139,7 @@ impl<S: Alter> RowStore<S> {
         self.select(TREE, PENDING_BY_LOSING, params![losing])
     }
 
-    /// Puts a row in the place of the one with its number, or beside all others.
+    /// Puts a row in the place of the one with its number, or after all others.
     pub fn put_transfer(&mut self, transfer: &TransferRow) -> Result<(), BookFault>
         requires { self.old.is_open ≡ true }
         ensures { Makes result (transfers_to (λ xs. insert_by transfers.key xs transfer.now)

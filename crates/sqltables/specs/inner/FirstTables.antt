@@ -10,7 +10,7 @@ use Rattle.sqlrows.specs.Columns.{filled, nullable, keyed_table, reference_to}
 use Rattle.sqltables.specs.Tables.{contact, domain, host, address, link, message, transfer, contact_due, domain_registrant, domain_due, domain_sponsor, host_above, address_host, link_domain, link_contact, link_host, line_object, message_queue, transfer_contact, transfer_domain, transfer_requester, contact_sponsor, domain_roid, domain_registrant_due, link_contact_due, link_host_due, transfer_losing, with_link}
 use Rattle.sqltables.specs.inner.Tables.{meta_create, account_create, contact_create, domain_create, host_create, address_create, link_create, message_create, transfer_create, contact_due_create, domain_registrant_create, domain_due_create, domain_sponsor_create, host_above_create, address_host_create, link_domain_create, link_contact_create, link_host_create, line_object_create, message_queue_create, transfer_contact_create, transfer_domain_create, transfer_requester_create, contact_sponsor_create, domain_roid_create, domain_registrant_due_create, link_contact_due_create, link_host_due_create, transfer_losing_create}
 
--- the table of the lines, with these columns behind the first seven
+-- the table of the lines, with these columns after the first seven
 abbrev pub line_with : List Column → Table
 line_with more = keyed_table (codes "line") (filled (codes "account") Integer ∷ filled (codes "kind") Integer ∷ nullable (codes "creator") Integer ∷ nullable (codes "serial") Integer ∷ filled (codes "years") Integer ∷ filled (codes "cents") Integer ∷ nullable (codes "started") Integer ∷ more) ([]) (reference_to (codes "account") 2 ∷ [])
 
@@ -20,7 +20,7 @@ first_line = line_with (nullable (codes "refunded") Integer ∷ filled (codes "r
 abbrev pub first_line_create : List ℕ
 first_line_create = codes "CREATE TABLE line (id INTEGER PRIMARY KEY, account INTEGER NOT NULL REFERENCES account (id), kind INTEGER NOT NULL, creator INTEGER, serial INTEGER, years INTEGER NOT NULL, cents INTEGER NOT NULL, started INTEGER, refunded INTEGER, recorded INTEGER NOT NULL) STRICT"
 
--- ---- what is made behind the lines, in this schema and in that one
+-- ---- what is made after the lines, in this schema and in that one
 
 abbrev pub with_transfer_behind : Table → Schema
 with_transfer_behind line = created (created (created with_link line) message) transfer

@@ -25,7 +25,7 @@ with_owed false account xs = xs
 with_owed true None xs = xs
 with_owed true (Some row) xs = accounts_to (λ rows. insert_by accounts.key rows row) xs
 
--- how a store stands, by its database and by what is at hand
+-- the state of a store, by its database and by what is at hand
 abbrev pub seen_with : Hand → StateOf Content → StateOf Content
 seen_with hand s = record s { content = with_owed hand.owed hand.account s.content }
 
@@ -39,7 +39,7 @@ left_by hand s = record { readiness = if s.is_open then Used else s.readiness; c
 abbrev pub noted_of : List (StateOf Content × Hand) → List (Remains Content)
 noted_of items = map (λ (it : StateOf Content × Hand). left_by it.1 it.0) items
 
--- as it stands, with what was noted
+-- as it is, with what was noted
 abbrev pub noting : List (Remains Content) → StateOf Content → StateOf Content
 noting noted s = record s { crash_leaves = noted }
 
@@ -69,11 +69,11 @@ pub record IsAtHand (hand : Hand) (s : StateOf Content) : Type 0 where
 
 -- ---- statements on other tables
 
--- a question that hangs on no account
+-- a question that depends on no account
 abbrev pub IsBlind : {R : Type 0} → (Content → List R) → Type 0
 IsBlind f = (change : List Account → List Account) (xs : Content) → f (accounts_to change xs) ≡ f xs
 
--- a change that hangs on no account and changes none, nor what holds of the whole registry, nor its days
+-- a change that depends on no account and changes none, nor what holds of the whole registry, nor its days
 pub record IsApart (f : Content → Content) : Type 0 where
   pub accounts : (change : List Account → List Account) (xs : Content)
       → f (accounts_to change xs) ≡ accounts_to change (f xs)

@@ -1,4 +1,4 @@
--- How a store of rows stands, by its database.
+-- The state of a store of rows, by its database.
 use Rattle.std.specs.Prelude.{◌≡◌, ◌&&◌, Bool, true, false, if◌then◌else◌, List, [], ◌∷◌, map, IsTrue, ⊤}
 use Rattle.sqlite.specs.Effect.{Database}
 use Rattle.sqlite.specs.State.{State, HasCleanDisk}
