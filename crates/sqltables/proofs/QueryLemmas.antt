@@ -1,5 +1,5 @@
 -- What the queries of each table mean.
-use Rattle.std.proofs.Common.{◌≡◌, pos, take, drop, Equal, refl, List, [], ◌∷◌, ℕ, ℤ, filter, codes, false}
+use Rattle.std.proofs.Common.{◌≡◌, take, drop, Equal, refl, List, [], ◌∷◌, ℕ, ℤ, filter, codes, false}
 use Rattle.std.specs.Ordering.{ordering_then}
 use Rattle.sqlite_value.specs.declared.value.Value.TheVariants.{Int, Text}
 use Rattle.sqlite_value.specs.Order.{value_cmp}
@@ -13,22 +13,22 @@ use Rattle.sqlite_tied.specs.Compute.{everything}
 use Rattle.sqlrows.specs.inner.Layouts.{by_then_key}
 use Rattle.sqlrows.proofs.SelectLemmas.{value_cmp-maybe_int}
 use Rattle.sqltables.specs.inner.Tables.{meta_all, account_all, account_by_id, contact_by_id, contact_by_name, contact_until_due, contact_first_until_due, contact_by_sponsor_until_due, domain_all, domain_by_id, domain_by_name, domain_first_by_registrant, domain_until_due, domain_first_until_due, domain_by_sponsor_until_due, domain_by_registrant_until_due, domain_by_roid, host_all, host_by_id, host_by_name, host_by_above, address_by_host, link_by_domain, link_by_host, link_first_by_contact, link_first_by_host, link_by_contact_until_due, link_by_host_until_due, line_by_account, line_by_object, message_first_by_account, message_same, transfer_by_contact, transfer_by_domain, transfer_pending_by_requester, transfer_pending_by_losing, days_all}
-use Rattle.sqltables.specs.Meta.{Meta, meta_shown, metas}
-use Rattle.sqltables.specs.Account.{Account, account_shown, accounts, account_with_id}
+use Rattle.sqltables.specs.Meta.{meta_shown, metas}
+use Rattle.sqltables.specs.Account.{account_shown, accounts, account_with_id}
 use Rattle.sqltables.specs.Contact.{Contact, contact_shown, contacts, contact_with_id, contact_with_name, contact_within_due, contact_of_sponsor_within, by_due as contact_by_due, contacts_by_due}
 use Rattle.sqltables.specs.Domain.{Domain, domain_with_name}
 use Rattle.sqltables.specs.inner.Domain.{domain_shown, domains, domain_with_id, domain_with_registrant, domain_within_due, by_due as domain_by_due, domains_by_due, domain_of_sponsor_within, domain_of_registrant_within, domain_with_roid}
-use Rattle.sqltables.specs.Host.{Host, host_shown, hosts, host_with_id, host_with_name, host_with_above}
-use Rattle.sqltables.specs.Address.{Address, address_shown, addresses, address_with_host}
-use Rattle.sqltables.specs.Link.{Link, link_shown, links, link_with_domain, link_with_contact, link_with_host, link_of_contact_within, link_of_host_within}
-use Rattle.sqltables.specs.Line.{Line, line_shown, lines, line_with_account, line_with_id, line_of_object}
-use Rattle.sqltables.specs.Message.{Message, message_with_account}
-use Rattle.sqltables.specs.inner.Message.{message_shown, messages, message_with_id, is_same_message, message_order, queue_of}
-use Rattle.sqltables.specs.Transfer.{Transfer, transfer_shown, transfers, transfer_with_contact, transfer_with_domain, transfer_pending_by, transfer_pending_from}
-use Rattle.sqltables.specs.Day.{Day, day_shown, days}
+use Rattle.sqltables.specs.Host.{host_shown, hosts, host_with_id, host_with_name, host_with_above}
+use Rattle.sqltables.specs.Address.{address_shown, addresses, address_with_host}
+use Rattle.sqltables.specs.Link.{link_shown, links, link_with_domain, link_with_contact, link_with_host, link_of_contact_within, link_of_host_within}
+use Rattle.sqltables.specs.Line.{line_shown, lines, line_with_account, line_of_object}
+use Rattle.sqltables.specs.Message.{Message}
+use Rattle.sqltables.specs.inner.Message.{message_shown, messages, is_same_message, message_order, queue_of}
+use Rattle.sqltables.specs.Transfer.{transfer_shown, transfers, transfer_with_contact, transfer_with_domain, transfer_pending_by, transfer_pending_from}
+use Rattle.sqltables.specs.Day.{day_shown, days}
 use Rattle.sqltables.specs.inner.Statements.{Asks}
 use Rattle.sqltables.proofs.DueLemmas.{at_due, at_ever}
-use Rattle.sqltables.proofs.StatementLemmas.{all_columns, asks_all, asks_where, asks_first, asks_sorted, asks_first_sorted, equals, at_most, from_zero}
+use Rattle.sqltables.proofs.StatementLemmas.{asks_all, asks_where, asks_first, asks_sorted, asks_first_sorted, equals, at_most, from_zero}
 use Rattle.sqltables.proofs.TableLemmas.{meta_part, account_part, contact_part, domain_part, host_part, address_part, link_part, line_part, message_part, transfer_part, day_part}
 pub use Rattle.sqltables.proofs.TableLemmas.{asks-by, bound-last, bound-then}
 

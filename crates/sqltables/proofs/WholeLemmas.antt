@@ -29,16 +29,16 @@ use Rattle.sqltables.specs.Tables.{registry, contact, domain, host, address, lin
 use Rattle.sqltables.specs.Content.{Content, no_content}
 use Rattle.sqltables.specs.inner.Content.{IsContent}
 use Rattle.sqltables.specs.Account.{accounts}
-use Rattle.sqltables.specs.Contact.{Contact, contact_row, contacts}
+use Rattle.sqltables.specs.Contact.{Contact, contacts}
 use Rattle.sqltables.specs.Domain.{Domain}
-use Rattle.sqltables.specs.inner.Domain.{domain_row, domains}
-use Rattle.sqltables.specs.Host.{Host, host_row, hosts}
-use Rattle.sqltables.specs.Address.{Address, address_row, addresses}
-use Rattle.sqltables.specs.Link.{Link, link_row, links}
-use Rattle.sqltables.specs.Line.{Line, line_row, lines}
+use Rattle.sqltables.specs.inner.Domain.{domains}
+use Rattle.sqltables.specs.Host.{Host, hosts}
+use Rattle.sqltables.specs.Address.{Address, addresses}
+use Rattle.sqltables.specs.Link.{Link, links}
+use Rattle.sqltables.specs.Line.{Line, lines}
 use Rattle.sqltables.specs.Message.{Message}
-use Rattle.sqltables.specs.inner.Message.{message_row, messages}
-use Rattle.sqltables.specs.Transfer.{Transfer, transfer_row, transfers}
+use Rattle.sqltables.specs.inner.Message.{messages}
+use Rattle.sqltables.specs.Transfer.{Transfer, transfers}
 use Rattle.sqltables.specs.inner.Stored.{Bears, rows_in}
 use Rattle.sqltables.specs.declared.form.Form.{Form}
 use Rattle.sqltables.specs.declared.form.Form.TheVariants.{Unused, Making, Made, Other}
@@ -104,67 +104,8 @@ each_refers L db xs h references each =
     all_weaker _ (λ x. Refers db references (L.to_row x)) (λ x t. all_from_test (refers registry.tables db (L.to_row x)) references t) xs
     (typed L db xs h (λ row. list_all (refers registry.tables db row) references ≡ true) each)
 
-contact-sponsor : (db : Trees) (xs : List Contact) → AllByRecursion (λ x. Refers db contact.references (contact_row x)) xs → AllByRecursion (λ (x : Contact). IsHeld db 1 (Some x.sponsor)) xs
-unfolding same_name first_key joined
-contact-sponsor db xs each = all_weaker _ (λ (x : Contact). IsHeld db 1 (Some x.sponsor)) (λ x r. r.0) xs each
-
-domain-sponsor : (db : Trees) (xs : List Domain) → AllByRecursion (λ x. Refers db domain.references (domain_row x)) xs → AllByRecursion (λ (x : Domain). IsHeld db 1 (Some x.sponsor)) xs
-unfolding same_name first_key joined
-domain-sponsor db xs each = all_weaker _ (λ (x : Domain). IsHeld db 1 (Some x.sponsor)) (λ x r. r.0) xs each
-
-domain-registrant : (db : Trees) (xs : List Domain) → AllByRecursion (λ x. Refers db domain.references (domain_row x)) xs → AllByRecursion (λ (x : Domain). IsHeld db 3 (Some x.registrant)) xs
-unfolding same_name first_key joined
-domain-registrant db xs each = all_weaker _ (λ (x : Domain). IsHeld db 3 (Some x.registrant)) (λ x r. r.1.0) xs each
-
-host-external_sponsor : (db : Trees) (xs : List Host) → AllByRecursion (λ x. Refers db host.references (host_row x)) xs → AllByRecursion (λ (x : Host). IsHeld db 1 x.external_sponsor) xs
-unfolding same_name first_key joined
-host-external_sponsor db xs each = all_weaker _ (λ (x : Host). IsHeld db 1 x.external_sponsor) (λ x r. r.0) xs each
-
-host-sponsor : (db : Trees) (xs : List Host) → AllByRecursion (λ x. Refers db host.references (host_row x)) xs → AllByRecursion (λ (x : Host). IsHeld db 1 x.sponsor) xs
-unfolding same_name first_key joined
-host-sponsor db xs each = all_weaker _ (λ (x : Host). IsHeld db 1 x.sponsor) (λ x r. r.1.0) xs each
-
-address-host : (db : Trees) (xs : List Address) → AllByRecursion (λ x. Refers db address.references (address_row x)) xs → AllByRecursion (λ (x : Address). IsHeld db 7 (Some x.host)) xs
-unfolding same_name first_key joined
-address-host db xs each = all_weaker _ (λ (x : Address). IsHeld db 7 (Some x.host)) (λ x r. r.0) xs each
-
-link-domain : (db : Trees) (xs : List Link) → AllByRecursion (λ x. Refers db link.references (link_row x)) xs → AllByRecursion (λ (x : Link). IsHeld db 5 (Some x.domain)) xs
-unfolding same_name first_key joined
-link-domain db xs each = all_weaker _ (λ (x : Link). IsHeld db 5 (Some x.domain)) (λ x r. r.0) xs each
-
-link-contact : (db : Trees) (xs : List Link) → AllByRecursion (λ x. Refers db link.references (link_row x)) xs → AllByRecursion (λ (x : Link). IsHeld db 3 x.contact) xs
-unfolding same_name first_key joined
-link-contact db xs each = all_weaker _ (λ (x : Link). IsHeld db 3 x.contact) (λ x r. r.1.0) xs each
-
-link-host : (db : Trees) (xs : List Link) → AllByRecursion (λ x. Refers db link.references (link_row x)) xs → AllByRecursion (λ (x : Link). IsHeld db 7 x.host) xs
-unfolding same_name first_key joined
-link-host db xs each = all_weaker _ (λ (x : Link). IsHeld db 7 x.host) (λ x r. r.1.1.0) xs each
-
-line-account : (db : Trees) (xs : List Line) → AllByRecursion (λ x. Refers db line.references (line_row x)) xs → AllByRecursion (λ (x : Line). IsHeld db 1 (Some x.account)) xs
-unfolding same_name first_key joined
-line-account db xs each = all_weaker _ (λ (x : Line). IsHeld db 1 (Some x.account)) (λ x r. r.0) xs each
-
-message-account : (db : Trees) (xs : List Message) → AllByRecursion (λ x. Refers db message.references (message_row x)) xs → AllByRecursion (λ (x : Message). IsHeld db 1 (Some x.account)) xs
-unfolding same_name first_key joined
-message-account db xs each = all_weaker _ (λ (x : Message). IsHeld db 1 (Some x.account)) (λ x r. r.0) xs each
-
-transfer-contact : (db : Trees) (xs : List Transfer) → AllByRecursion (λ x. Refers db transfer.references (transfer_row x)) xs → AllByRecursion (λ (x : Transfer). IsHeld db 3 x.contact) xs
-unfolding same_name first_key joined
-transfer-contact db xs each = all_weaker _ (λ (x : Transfer). IsHeld db 3 x.contact) (λ x r. r.0) xs each
-
-transfer-domain : (db : Trees) (xs : List Transfer) → AllByRecursion (λ x. Refers db transfer.references (transfer_row x)) xs → AllByRecursion (λ (x : Transfer). IsHeld db 5 x.domain) xs
-unfolding same_name first_key joined
-transfer-domain db xs each = all_weaker _ (λ (x : Transfer). IsHeld db 5 x.domain) (λ x r. r.1.0) xs each
-
-transfer-requester : (db : Trees) (xs : List Transfer) → AllByRecursion (λ x. Refers db transfer.references (transfer_row x)) xs → AllByRecursion (λ (x : Transfer). IsHeld db 1 (Some x.requester)) xs
-unfolding same_name first_key joined
-transfer-requester db xs each = all_weaker _ (λ (x : Transfer). IsHeld db 1 (Some x.requester)) (λ x r. r.1.1.0) xs each
-
-transfer-losing : (db : Trees) (xs : List Transfer) → AllByRecursion (λ x. Refers db transfer.references (transfer_row x)) xs → AllByRecursion (λ (x : Transfer). IsHeld db 1 (Some x.losing)) xs
-unfolding same_name first_key joined
-transfer-losing db xs each = all_weaker _ (λ (x : Transfer). IsHeld db 1 (Some x.losing)) (λ x r. r.1.1.1.0) xs each
-
 pub linked : (xs : Content) (db : Database) → IsContent xs db → Keeps ForeignKey registry db.trees → AreLinked xs
+unfolding same_name first_key joined
 linked xs db h keeps =
     let d = db.trees in
     let of_contacts = each_refers contacts d xs.contacts h.contacts contact.references keeps.1.1.0 in
@@ -176,21 +117,21 @@ linked xs db h keeps =
     let of_messages = each_refers messages d xs.messages h.messages message.references keeps.1.1.1.1.1.1.1.1.0 in
     let of_transfers = each_refers transfers d xs.transfers h.transfers transfer.references keeps.1.1.1.1.1.1.1.1.1.0 in
     record {
-      contact_sponsor = led accounts d xs.accounts h.accounts xs.contacts (λ (x : Contact). Some x.sponsor) (contact-sponsor d xs.contacts of_contacts);
-      domain_sponsor = led accounts d xs.accounts h.accounts xs.domains (λ (x : Domain). Some x.sponsor) (domain-sponsor d xs.domains of_domains);
-      domain_registrant = led contacts d xs.contacts h.contacts xs.domains (λ (x : Domain). Some x.registrant) (domain-registrant d xs.domains of_domains);
-      host_external_sponsor = led accounts d xs.accounts h.accounts xs.hosts (λ (x : Host). x.external_sponsor) (host-external_sponsor d xs.hosts of_hosts);
-      host_sponsor = led accounts d xs.accounts h.accounts xs.hosts (λ (x : Host). x.sponsor) (host-sponsor d xs.hosts of_hosts);
-      address_host = led hosts d xs.hosts h.hosts xs.addresses (λ (x : Address). Some x.host) (address-host d xs.addresses of_addresses);
-      link_domain = led domains d xs.domains h.domains xs.links (λ (x : Link). Some x.domain) (link-domain d xs.links of_links);
-      link_contact = led contacts d xs.contacts h.contacts xs.links (λ (x : Link). x.contact) (link-contact d xs.links of_links);
-      link_host = led hosts d xs.hosts h.hosts xs.links (λ (x : Link). x.host) (link-host d xs.links of_links);
-      line_account = led accounts d xs.accounts h.accounts xs.lines (λ (x : Line). Some x.account) (line-account d xs.lines of_lines);
-      message_account = led accounts d xs.accounts h.accounts xs.messages (λ (x : Message). Some x.account) (message-account d xs.messages of_messages);
-      transfer_contact = led contacts d xs.contacts h.contacts xs.transfers (λ (x : Transfer). x.contact) (transfer-contact d xs.transfers of_transfers);
-      transfer_domain = led domains d xs.domains h.domains xs.transfers (λ (x : Transfer). x.domain) (transfer-domain d xs.transfers of_transfers);
-      transfer_requester = led accounts d xs.accounts h.accounts xs.transfers (λ (x : Transfer). Some x.requester) (transfer-requester d xs.transfers of_transfers);
-      transfer_losing = led accounts d xs.accounts h.accounts xs.transfers (λ (x : Transfer). Some x.losing) (transfer-losing d xs.transfers of_transfers);
+      contact_sponsor = led accounts d xs.accounts h.accounts xs.contacts (λ (x : Contact). Some x.sponsor) (all_weaker _ (λ (x : Contact). IsHeld d 1 (Some x.sponsor)) (λ x r. r.0) xs.contacts of_contacts);
+      domain_sponsor = led accounts d xs.accounts h.accounts xs.domains (λ (x : Domain). Some x.sponsor) (all_weaker _ (λ (x : Domain). IsHeld d 1 (Some x.sponsor)) (λ x r. r.0) xs.domains of_domains);
+      domain_registrant = led contacts d xs.contacts h.contacts xs.domains (λ (x : Domain). Some x.registrant) (all_weaker _ (λ (x : Domain). IsHeld d 3 (Some x.registrant)) (λ x r. r.1.0) xs.domains of_domains);
+      host_external_sponsor = led accounts d xs.accounts h.accounts xs.hosts (λ (x : Host). x.external_sponsor) (all_weaker _ (λ (x : Host). IsHeld d 1 x.external_sponsor) (λ x r. r.0) xs.hosts of_hosts);
+      host_sponsor = led accounts d xs.accounts h.accounts xs.hosts (λ (x : Host). x.sponsor) (all_weaker _ (λ (x : Host). IsHeld d 1 x.sponsor) (λ x r. r.1.0) xs.hosts of_hosts);
+      address_host = led hosts d xs.hosts h.hosts xs.addresses (λ (x : Address). Some x.host) (all_weaker _ (λ (x : Address). IsHeld d 7 (Some x.host)) (λ x r. r.0) xs.addresses of_addresses);
+      link_domain = led domains d xs.domains h.domains xs.links (λ (x : Link). Some x.domain) (all_weaker _ (λ (x : Link). IsHeld d 5 (Some x.domain)) (λ x r. r.0) xs.links of_links);
+      link_contact = led contacts d xs.contacts h.contacts xs.links (λ (x : Link). x.contact) (all_weaker _ (λ (x : Link). IsHeld d 3 x.contact) (λ x r. r.1.0) xs.links of_links);
+      link_host = led hosts d xs.hosts h.hosts xs.links (λ (x : Link). x.host) (all_weaker _ (λ (x : Link). IsHeld d 7 x.host) (λ x r. r.1.1.0) xs.links of_links);
+      line_account = led accounts d xs.accounts h.accounts xs.lines (λ (x : Line). Some x.account) (all_weaker _ (λ (x : Line). IsHeld d 1 (Some x.account)) (λ x r. r.0) xs.lines of_lines);
+      message_account = led accounts d xs.accounts h.accounts xs.messages (λ (x : Message). Some x.account) (all_weaker _ (λ (x : Message). IsHeld d 1 (Some x.account)) (λ x r. r.0) xs.messages of_messages);
+      transfer_contact = led contacts d xs.contacts h.contacts xs.transfers (λ (x : Transfer). x.contact) (all_weaker _ (λ (x : Transfer). IsHeld d 3 x.contact) (λ x r. r.0) xs.transfers of_transfers);
+      transfer_domain = led domains d xs.domains h.domains xs.transfers (λ (x : Transfer). x.domain) (all_weaker _ (λ (x : Transfer). IsHeld d 5 x.domain) (λ x r. r.1.0) xs.transfers of_transfers);
+      transfer_requester = led accounts d xs.accounts h.accounts xs.transfers (λ (x : Transfer). Some x.requester) (all_weaker _ (λ (x : Transfer). IsHeld d 1 (Some x.requester)) (λ x r. r.1.1.0) xs.transfers of_transfers);
+      transfer_losing = led accounts d xs.accounts h.accounts xs.transfers (λ (x : Transfer). Some x.losing) (all_weaker _ (λ (x : Transfer). IsHeld d 1 (Some x.losing)) (λ x r. r.1.1.1.0) xs.transfers of_transfers);
     }
 
 -- ---- the whole
