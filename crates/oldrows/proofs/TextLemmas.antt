@@ -36,9 +36,9 @@ key_and others = col 1 0 ∷ columns_from 2 others
 
 -- a text that selects these columns of all rows of a table asks for the records that they show
 of-all : {R : Type 0} (L : Layout R) (columns : List Term) (shown : R → Row) (sql : List ℕ) (f : Content → List R)
-    → IsSelect first_registry sql (select_query L.tree [] columns) → ((x : R) → eval_all columns ([] ∷ L.to_row x ∷ []) ≡ shown x)
-    → ((xs : Content) (db : Database) → IsOld xs db → Holds L db.trees (f xs)) → Asks shown sql f
-of-all L columns shown sql f is shows held = record {
+    → ((x : R) → eval_all columns ([] ∷ L.to_row x ∷ []) ≡ shown x) → ((xs : Content) (db : Database) → IsOld xs db → Holds L db.trees (f xs))
+    → IsSelect first_registry sql (select_query L.tree [] columns) → Asks shown sql f
+of-all L columns shown sql f shows held is = record {
   query = select_query L.tree [] columns;
   is = is;
   means = λ db xs rows h answer.
@@ -46,54 +46,47 @@ of-all L columns shown sql f is shows held = record {
       ∙ ap (map shown) (filter_all (λ _. true) (f xs) (all_of _ (λ x. refl) (f xs)));
 }
 
-pub meta_is : IsSelect first_registry meta_all (select_query 0 [] (key_and 16))
-unfolding understood everything
-meta_is = record { names = codes "id" ∷ codes "version" ∷ codes "clock" ∷ codes "zone" ∷ codes "reserved" ∷ codes "days_add" ∷ codes "days_auto_renew" ∷ codes "days_renew" ∷ codes "days_transfer" ∷ codes "days_redemption" ∷ codes "days_restore" ∷ codes "days_pending_delete" ∷ codes "days_answer" ∷ codes "days_lock" ∷ codes "price_create" ∷ codes "price_renew" ∷ codes "price_transfer" ∷ []; command = refl; plain = (refl, refl); unlisted = refl }
-
 pub meta_asks : Asks meta_shown meta_all (λ c. c.metas)
-meta_asks = of-all metas (key_and 16) meta_shown meta_all (λ c. c.metas) meta_is (λ x. refl) (λ xs db h. h.metas)
-
-pub account_is : IsSelect first_registry account_all (select_query 1 [] (key_and 7))
 unfolding understood everything
-account_is = record { names = codes "id" ∷ codes "ident" ∷ codes "commands" ∷ codes "messages" ∷ codes "serial" ∷ codes "waiting" ∷ codes "balance" ∷ codes "held" ∷ []; command = refl; plain = (refl, refl); unlisted = refl }
+meta_asks =
+    of-all metas (key_and 16) meta_shown meta_all (λ c. c.metas) (λ x. refl) (λ xs db h. h.metas)
+    (record { names = codes "id" ∷ codes "version" ∷ codes "clock" ∷ codes "zone" ∷ codes "reserved" ∷ codes "days_add" ∷ codes "days_auto_renew" ∷ codes "days_renew" ∷ codes "days_transfer" ∷ codes "days_redemption" ∷ codes "days_restore" ∷ codes "days_pending_delete" ∷ codes "days_answer" ∷ codes "days_lock" ∷ codes "price_create" ∷ codes "price_renew" ∷ codes "price_transfer" ∷ []; command = refl; plain = (refl, refl); unlisted = refl })
 
 pub account_asks : Asks account_shown account_all (λ c. c.accounts)
-account_asks = of-all accounts (key_and 7) account_shown account_all (λ c. c.accounts) account_is (λ x. refl) (λ xs db h. h.accounts)
-
-pub contact_is : IsSelect first_registry contact_all (select_query 3 [] (key_and 19))
 unfolding understood everything
-contact_is = record { names = codes "id" ∷ codes "name" ∷ codes "creator" ∷ codes "serial" ∷ codes "sponsor" ∷ codes "created" ∷ codes "transferred" ∷ codes "updated" ∷ codes "statuses" ∷ codes "secret" ∷ codes "postal_name" ∷ codes "org" ∷ codes "street" ∷ codes "city" ∷ codes "state" ∷ codes "postal_code" ∷ codes "country" ∷ codes "voice" ∷ codes "due" ∷ codes "mail" ∷ []; command = refl; plain = (refl, refl); unlisted = refl }
+account_asks =
+    of-all accounts (key_and 7) account_shown account_all (λ c. c.accounts) (λ x. refl) (λ xs db h. h.accounts)
+    (record { names = codes "id" ∷ codes "ident" ∷ codes "commands" ∷ codes "messages" ∷ codes "serial" ∷ codes "waiting" ∷ codes "balance" ∷ codes "held" ∷ []; command = refl; plain = (refl, refl); unlisted = refl })
 
 pub contact_asks : Asks contact_shown contact_all (λ c. c.contacts)
-contact_asks = of-all contacts (key_and 19) contact_shown contact_all (λ c. c.contacts) contact_is (λ x. refl) (λ xs db h. h.contacts)
-
-pub domain_is : IsSelect first_registry domain_all (select_query 5 [] (key_and 14))
 unfolding understood everything
-domain_is = record { names = codes "id" ∷ codes "name" ∷ codes "creator" ∷ codes "serial" ∷ codes "sponsor" ∷ codes "created" ∷ codes "years" ∷ codes "transferred" ∷ codes "updated" ∷ codes "statuses" ∷ codes "secret" ∷ codes "registrant" ∷ codes "deleted" ∷ codes "restore_requested" ∷ codes "due" ∷ []; command = refl; plain = (refl, refl); unlisted = refl }
+contact_asks =
+    of-all contacts (key_and 19) contact_shown contact_all (λ c. c.contacts) (λ x. refl) (λ xs db h. h.contacts)
+    (record { names = codes "id" ∷ codes "name" ∷ codes "creator" ∷ codes "serial" ∷ codes "sponsor" ∷ codes "created" ∷ codes "transferred" ∷ codes "updated" ∷ codes "statuses" ∷ codes "secret" ∷ codes "postal_name" ∷ codes "org" ∷ codes "street" ∷ codes "city" ∷ codes "state" ∷ codes "postal_code" ∷ codes "country" ∷ codes "voice" ∷ codes "due" ∷ codes "mail" ∷ []; command = refl; plain = (refl, refl); unlisted = refl })
 
 pub domain_asks : Asks domain_shown domain_all (λ c. c.domains)
-domain_asks = of-all domains (key_and 14) domain_shown domain_all (λ c. c.domains) domain_is (λ x. refl) (λ xs db h. h.domains)
-
-pub host_is : IsSelect first_registry host_all (select_query 7 [] (key_and 9))
 unfolding understood everything
-host_is = record { names = codes "id" ∷ codes "name" ∷ codes "creator" ∷ codes "serial" ∷ codes "above" ∷ codes "external_sponsor" ∷ codes "sponsor" ∷ codes "created" ∷ codes "updated" ∷ codes "statuses" ∷ []; command = refl; plain = (refl, refl); unlisted = refl }
+domain_asks =
+    of-all domains (key_and 14) domain_shown domain_all (λ c. c.domains) (λ x. refl) (λ xs db h. h.domains)
+    (record { names = codes "id" ∷ codes "name" ∷ codes "creator" ∷ codes "serial" ∷ codes "sponsor" ∷ codes "created" ∷ codes "years" ∷ codes "transferred" ∷ codes "updated" ∷ codes "statuses" ∷ codes "secret" ∷ codes "registrant" ∷ codes "deleted" ∷ codes "restore_requested" ∷ codes "due" ∷ []; command = refl; plain = (refl, refl); unlisted = refl })
 
 pub host_asks : Asks host_shown host_all (λ c. c.hosts)
-host_asks = of-all hosts (key_and 9) host_shown host_all (λ c. c.hosts) host_is (λ x. refl) (λ xs db h. h.hosts)
-
-pub address_is : IsSelect first_registry address_all (select_query 9 [] (key_and 2))
 unfolding understood everything
-address_is = record { names = codes "id" ∷ codes "host" ∷ codes "address" ∷ []; command = refl; plain = (refl, refl); unlisted = refl }
+host_asks =
+    of-all hosts (key_and 9) host_shown host_all (λ c. c.hosts) (λ x. refl) (λ xs db h. h.hosts)
+    (record { names = codes "id" ∷ codes "name" ∷ codes "creator" ∷ codes "serial" ∷ codes "above" ∷ codes "external_sponsor" ∷ codes "sponsor" ∷ codes "created" ∷ codes "updated" ∷ codes "statuses" ∷ []; command = refl; plain = (refl, refl); unlisted = refl })
 
 pub address_asks : Asks address_shown address_all (λ c. c.addresses)
-address_asks = of-all addresses (key_and 2) address_shown address_all (λ c. c.addresses) address_is (λ x. refl) (λ xs db h. h.addresses)
-
-pub link_is : IsSelect first_registry link_all (select_query 10 [] (key_and 5))
 unfolding understood everything
-link_is = record { names = codes "id" ∷ codes "domain" ∷ codes "contact" ∷ codes "host" ∷ codes "role" ∷ codes "due" ∷ []; command = refl; plain = (refl, refl); unlisted = refl }
+address_asks =
+    of-all addresses (key_and 2) address_shown address_all (λ c. c.addresses) (λ x. refl) (λ xs db h. h.addresses)
+    (record { names = codes "id" ∷ codes "host" ∷ codes "address" ∷ []; command = refl; plain = (refl, refl); unlisted = refl })
 
 pub link_asks : Asks link_shown link_all (λ c. c.links)
-link_asks = of-all links (key_and 5) link_shown link_all (λ c. c.links) link_is (λ x. refl) (λ xs db h. h.links)
+unfolding understood everything
+link_asks =
+    of-all links (key_and 5) link_shown link_all (λ c. c.links) (λ x. refl) (λ xs db h. h.links)
+    (record { names = codes "id" ∷ codes "domain" ∷ codes "contact" ∷ codes "host" ∷ codes "role" ∷ codes "due" ∷ []; command = refl; plain = (refl, refl); unlisted = refl })
 
 -- a line that shows no end of its grace
 abbrev endless_shown : Line → Row
@@ -106,28 +99,27 @@ shown-endless (x ∷ xs) = ap (λ rows. endless_shown x ∷ rows) (shown-endless
 abbrev line_columns : List Term
 line_columns = col 1 0 ∷ col 1 2 ∷ col 1 3 ∷ col 1 4 ∷ col 1 5 ∷ col 1 6 ∷ col 1 7 ∷ col 1 8 ∷ lit Null ∷ col 1 9 ∷ col 1 10 ∷ []
 
-pub line_is : IsSelect first_registry line_all (select_query 11 [] line_columns)
+line_asked : Asks endless_shown line_all (λ c. c.lines)
 unfolding understood everything
-line_is = record { names = codes "id" ∷ codes "account" ∷ codes "kind" ∷ codes "creator" ∷ codes "serial" ∷ codes "years" ∷ codes "cents" ∷ codes "started" ∷ codes "NULL" ∷ codes "refunded" ∷ codes "recorded" ∷ []; command = refl; plain = (refl, refl); unlisted = refl }
+line_asked =
+    of-all first_lines line_columns endless_shown line_all (λ c. c.lines) (λ x. refl) (λ xs db h. h.lines)
+    (record { names = codes "id" ∷ codes "account" ∷ codes "kind" ∷ codes "creator" ∷ codes "serial" ∷ codes "years" ∷ codes "cents" ∷ codes "started" ∷ codes "NULL" ∷ codes "refunded" ∷ codes "recorded" ∷ []; command = refl; plain = (refl, refl); unlisted = refl })
 
 pub line_asks : Asks line_shown line_all (λ c. c.lines)
-line_asks =
-    let endless : Asks endless_shown line_all (λ c. c.lines) = of-all first_lines line_columns endless_shown line_all (λ c. c.lines) line_is (λ x. refl) (λ xs db h. h.lines) in record {
-      query = endless.query;
-      is = endless.is;
-      means = λ db xs rows h answer. endless.means db xs rows h answer ∙ shown-endless xs.lines ∙ ap (map line_shown) h.endless;
-    }
-
-pub message_is : IsSelect first_registry message_all (select_query 12 [] (key_and 7))
-unfolding understood everything
-message_is = record { names = codes "id" ∷ codes "account" ∷ codes "moment" ∷ codes "class" ∷ codes "number" ∷ codes "name" ∷ codes "subject" ∷ codes "notice" ∷ []; command = refl; plain = (refl, refl); unlisted = refl }
+line_asks = record {
+  query = line_asked.query;
+  is = line_asked.is;
+  means = λ db xs rows h answer. line_asked.means db xs rows h answer ∙ shown-endless xs.lines ∙ ap (map line_shown) h.endless;
+}
 
 pub message_asks : Asks message_shown message_all (λ c. c.messages)
-message_asks = of-all messages (key_and 7) message_shown message_all (λ c. c.messages) message_is (λ x. refl) (λ xs db h. h.messages)
-
-pub transfer_is : IsSelect first_registry transfer_all (select_query 13 [] (key_and 8))
 unfolding understood everything
-transfer_is = record { names = codes "id" ∷ codes "contact" ∷ codes "domain" ∷ codes "requester" ∷ codes "losing" ∷ codes "requested" ∷ codes "ac_date" ∷ codes "due" ∷ codes "state" ∷ []; command = refl; plain = (refl, refl); unlisted = refl }
+message_asks =
+    of-all messages (key_and 7) message_shown message_all (λ c. c.messages) (λ x. refl) (λ xs db h. h.messages)
+    (record { names = codes "id" ∷ codes "account" ∷ codes "moment" ∷ codes "class" ∷ codes "number" ∷ codes "name" ∷ codes "subject" ∷ codes "notice" ∷ []; command = refl; plain = (refl, refl); unlisted = refl })
 
 pub transfer_asks : Asks transfer_shown transfer_all (λ c. c.transfers)
-transfer_asks = of-all transfers (key_and 8) transfer_shown transfer_all (λ c. c.transfers) transfer_is (λ x. refl) (λ xs db h. h.transfers)
+unfolding understood everything
+transfer_asks =
+    of-all transfers (key_and 8) transfer_shown transfer_all (λ c. c.transfers) (λ x. refl) (λ xs db h. h.transfers)
+    (record { names = codes "id" ∷ codes "contact" ∷ codes "domain" ∷ codes "requester" ∷ codes "losing" ∷ codes "requested" ∷ codes "ac_date" ∷ codes "due" ∷ codes "state" ∷ []; command = refl; plain = (refl, refl); unlisted = refl })

@@ -1,8 +1,8 @@
-use Rattle.oldrows.proofs.TextLemmas.{domain_asks, domain_is}
+use Rattle.oldrows.proofs.TextLemmas.{domain_asks}
 use Rattle.oldrows.proofs.copied.DomainRowCopied.all.Goals as goal
 
 pub select-requires : goal.select-requires
-select-requires g c = domain_is.plain
+select-requires g c = domain_asks.is.plain
 
 pub returns : goal.returns
 returns g c = c.select.ensures _ domain_asks
