@@ -1,5 +1,5 @@
 -- What the texts ask for.
-use Rattle.std.proofs.Common.{◌≡◌, ℕ, zero, suc, ap, map, ◌∙◌, refl, List, [], ◌∷◌, codes, true}
+use Rattle.std.proofs.Common.{◌≡◌, ℕ, zero, suc, ap, map, ◌∙◌, refl, List, [], ◌∷◌, true}
 use Rattle.sqlite_value.specs.declared.value.Value.TheVariants.{Null}
 use Rattle.sqlite_value.specs.Order.{Row}
 use Rattle.sqlite_sql.specs.Term.{Term, col, eval_all, lit}
@@ -50,43 +50,43 @@ pub meta_asks : Asks meta_shown meta_all (λ c. c.metas)
 unfolding understood everything
 meta_asks =
     of-all metas (key_and 16) meta_shown meta_all (λ c. c.metas) (λ x. refl) (λ xs db h. h.metas)
-    (record { names = codes "id" ∷ codes "version" ∷ codes "clock" ∷ codes "zone" ∷ codes "reserved" ∷ codes "days_add" ∷ codes "days_auto_renew" ∷ codes "days_renew" ∷ codes "days_transfer" ∷ codes "days_redemption" ∷ codes "days_restore" ∷ codes "days_pending_delete" ∷ codes "days_answer" ∷ codes "days_lock" ∷ codes "price_create" ∷ codes "price_renew" ∷ codes "price_transfer" ∷ []; command = refl; plain = (refl, refl); unlisted = refl })
+    (record { names = _; command = refl; plain = (refl, refl); unlisted = refl })
 
 pub account_asks : Asks account_shown account_all (λ c. c.accounts)
 unfolding understood everything
 account_asks =
     of-all accounts (key_and 7) account_shown account_all (λ c. c.accounts) (λ x. refl) (λ xs db h. h.accounts)
-    (record { names = codes "id" ∷ codes "ident" ∷ codes "commands" ∷ codes "messages" ∷ codes "serial" ∷ codes "waiting" ∷ codes "balance" ∷ codes "held" ∷ []; command = refl; plain = (refl, refl); unlisted = refl })
+    (record { names = _; command = refl; plain = (refl, refl); unlisted = refl })
 
 pub contact_asks : Asks contact_shown contact_all (λ c. c.contacts)
 unfolding understood everything
 contact_asks =
     of-all contacts (key_and 19) contact_shown contact_all (λ c. c.contacts) (λ x. refl) (λ xs db h. h.contacts)
-    (record { names = codes "id" ∷ codes "name" ∷ codes "creator" ∷ codes "serial" ∷ codes "sponsor" ∷ codes "created" ∷ codes "transferred" ∷ codes "updated" ∷ codes "statuses" ∷ codes "secret" ∷ codes "postal_name" ∷ codes "org" ∷ codes "street" ∷ codes "city" ∷ codes "state" ∷ codes "postal_code" ∷ codes "country" ∷ codes "voice" ∷ codes "due" ∷ codes "mail" ∷ []; command = refl; plain = (refl, refl); unlisted = refl })
+    (record { names = _; command = refl; plain = (refl, refl); unlisted = refl })
 
 pub domain_asks : Asks domain_shown domain_all (λ c. c.domains)
 unfolding understood everything
 domain_asks =
     of-all domains (key_and 14) domain_shown domain_all (λ c. c.domains) (λ x. refl) (λ xs db h. h.domains)
-    (record { names = codes "id" ∷ codes "name" ∷ codes "creator" ∷ codes "serial" ∷ codes "sponsor" ∷ codes "created" ∷ codes "years" ∷ codes "transferred" ∷ codes "updated" ∷ codes "statuses" ∷ codes "secret" ∷ codes "registrant" ∷ codes "deleted" ∷ codes "restore_requested" ∷ codes "due" ∷ []; command = refl; plain = (refl, refl); unlisted = refl })
+    (record { names = _; command = refl; plain = (refl, refl); unlisted = refl })
 
 pub host_asks : Asks host_shown host_all (λ c. c.hosts)
 unfolding understood everything
 host_asks =
     of-all hosts (key_and 9) host_shown host_all (λ c. c.hosts) (λ x. refl) (λ xs db h. h.hosts)
-    (record { names = codes "id" ∷ codes "name" ∷ codes "creator" ∷ codes "serial" ∷ codes "above" ∷ codes "external_sponsor" ∷ codes "sponsor" ∷ codes "created" ∷ codes "updated" ∷ codes "statuses" ∷ []; command = refl; plain = (refl, refl); unlisted = refl })
+    (record { names = _; command = refl; plain = (refl, refl); unlisted = refl })
 
 pub address_asks : Asks address_shown address_all (λ c. c.addresses)
 unfolding understood everything
 address_asks =
     of-all addresses (key_and 2) address_shown address_all (λ c. c.addresses) (λ x. refl) (λ xs db h. h.addresses)
-    (record { names = codes "id" ∷ codes "host" ∷ codes "address" ∷ []; command = refl; plain = (refl, refl); unlisted = refl })
+    (record { names = _; command = refl; plain = (refl, refl); unlisted = refl })
 
 pub link_asks : Asks link_shown link_all (λ c. c.links)
 unfolding understood everything
 link_asks =
     of-all links (key_and 5) link_shown link_all (λ c. c.links) (λ x. refl) (λ xs db h. h.links)
-    (record { names = codes "id" ∷ codes "domain" ∷ codes "contact" ∷ codes "host" ∷ codes "role" ∷ codes "due" ∷ []; command = refl; plain = (refl, refl); unlisted = refl })
+    (record { names = _; command = refl; plain = (refl, refl); unlisted = refl })
 
 -- a line that shows no end of its grace
 abbrev endless_shown : Line → Row
@@ -103,7 +103,7 @@ line_asked : Asks endless_shown line_all (λ c. c.lines)
 unfolding understood everything
 line_asked =
     of-all first_lines line_columns endless_shown line_all (λ c. c.lines) (λ x. refl) (λ xs db h. h.lines)
-    (record { names = codes "id" ∷ codes "account" ∷ codes "kind" ∷ codes "creator" ∷ codes "serial" ∷ codes "years" ∷ codes "cents" ∷ codes "started" ∷ codes "NULL" ∷ codes "refunded" ∷ codes "recorded" ∷ []; command = refl; plain = (refl, refl); unlisted = refl })
+    (record { names = _; command = refl; plain = (refl, refl); unlisted = refl })
 
 pub line_asks : Asks line_shown line_all (λ c. c.lines)
 line_asks = record {
@@ -116,10 +116,10 @@ pub message_asks : Asks message_shown message_all (λ c. c.messages)
 unfolding understood everything
 message_asks =
     of-all messages (key_and 7) message_shown message_all (λ c. c.messages) (λ x. refl) (λ xs db h. h.messages)
-    (record { names = codes "id" ∷ codes "account" ∷ codes "moment" ∷ codes "class" ∷ codes "number" ∷ codes "name" ∷ codes "subject" ∷ codes "notice" ∷ []; command = refl; plain = (refl, refl); unlisted = refl })
+    (record { names = _; command = refl; plain = (refl, refl); unlisted = refl })
 
 pub transfer_asks : Asks transfer_shown transfer_all (λ c. c.transfers)
 unfolding understood everything
 transfer_asks =
     of-all transfers (key_and 8) transfer_shown transfer_all (λ c. c.transfers) (λ x. refl) (λ xs db h. h.transfers)
-    (record { names = codes "id" ∷ codes "contact" ∷ codes "domain" ∷ codes "requester" ∷ codes "losing" ∷ codes "requested" ∷ codes "ac_date" ∷ codes "due" ∷ codes "state" ∷ []; command = refl; plain = (refl, refl); unlisted = refl })
+    (record { names = _; command = refl; plain = (refl, refl); unlisted = refl })
