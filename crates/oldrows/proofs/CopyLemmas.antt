@@ -115,7 +115,7 @@ copy-more put rest one from read more to written wrote on it = record {
 }
 
 pub all-copied : (put : Content → Content → Content) (from read : OldState) (to written : StateOf Content) → IsOnItsWay put (λ c d. d) from read to written → IsCopied put from read to written
-all-copied put from read to written on = record { reads = on.reads; clean = on.clean; before = on.before; opened = on.opened; leaves = on.leaves; content = on.content }
+all-copied put from read to written on = on
 
 -- a table that wasn't copied
 pub left-on : (put rest : Content → Content → Content) (from read more : OldState) (to written wrote : StateOf Content) → IsOnItsWay put rest from read to written → IsLeft read more written wrote → IsLeft from more to wrote

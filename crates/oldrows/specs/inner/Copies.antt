@@ -32,17 +32,7 @@ put_of Transfers = put_from transfer_table
 abbrev pub put_of_all : List TableName → Content → Content → Content
 put_of_all tables from to = fold (λ c table. put_of table from c) to tables
 
--- what is read of one is put into the other in this way
-pub record IsCopied (put : Content → Content → Content) (from read : OldState) (to written : StateOf Content) : Type 0 where
-  pub reads : IsRead from read
-  pub clean : written.is_clean ≡ true → to.is_clean ≡ true
-  pub before : written.is_clean ≡ true → written.before ≡ to.before
-  pub opened : written.is_open ≡ true
-  pub leaves : LeavesSame to written
-  pub content : read.is_clean ≡ true → written.is_clean ≡ true
-      → written.content ≡ put from.content to.content
-
--- the same but for what is still to be put
+-- What is read of one is put into the other in this way, but for what is still to be put.
 pub record IsOnItsWay (put rest : Content → Content → Content) (from read : OldState) (to written : StateOf Content) : Type 0 where
   pub reads : IsRead from read
   pub clean : written.is_clean ≡ true → to.is_clean ≡ true
@@ -51,6 +41,11 @@ pub record IsOnItsWay (put rest : Content → Content → Content) (from read : 
   pub leaves : LeavesSame to written
   pub content : read.is_clean ≡ true → written.is_clean ≡ true
       → rest from.content written.content ≡ put from.content to.content
+
+-- nothing is still to be put
+abbrev pub IsCopied : (Content → Content → Content) → OldState → OldState → StateOf Content
+    → StateOf Content → Type 0
+IsCopied put from read to written = IsOnItsWay put (λ source target. target) from read to written
 
 pub record IsLeft (from read : OldState) (to written : StateOf Content) : Type 0 where
   pub source : IsRead from read
