@@ -4,8 +4,11 @@ use Rattle.std.specs.declared.io.ErrorKind.{ErrorKind}
 use Rattle.std.specs.declared.io.ErrorKind.TheVariants.{OutOfMemory}
 use Rattle.policy.specs.declared.fault.PolicyFault.TheVariants as faults
 use Rattle.policy.specs.Faults.{fault_text}
+use Rattle.registry.specs.declared.fault.OpenFault.TheVariants as opening
 use Rattle.script.specs.declared.exit.Exit.{Exit}
 use Rattle.script.specs.declared.exit.Exit.TheVariants.{Done, Refused, Usage, Policy, Open, Registry, Network, Script, File, Memory}
+use Rattle.states.specs.declared.fault.BookFault.{BookFault}
+use Rattle.states.specs.declared.fault.BookFault.TheVariants as books
 
 abbrev pub status_of : Exit → ℕ
 status_of Done = 0
@@ -39,3 +42,8 @@ text_of Memory = Some (codes "out of memory")
 abbrev pub exit_of : ErrorKind → Exit
 exit_of OutOfMemory = Memory
 exit_of _ = File
+
+-- a fault of a book that couldn't be made, or of what is to keep one
+abbrev pub exit_of_book : BookFault → Exit
+exit_of_book books.Memory = Memory
+exit_of_book books.Store = Open opening.Store

@@ -2,8 +2,9 @@
 ghost use Rattle.std.specs.Prelude.{◌≡◌};
 ghost use Rattle.std.specs.IoError.{error_kind};
 ghost use Rattle.script.specs.declared.exit.Exit.TheVariants as exits;
-ghost use Rattle.script.specs.Exits.{exit_of, has_line, result_of, status_of, text_of};
+ghost use Rattle.script.specs.Exits.{exit_of, exit_of_book, has_line, result_of, status_of, text_of};
 
+use books::BookFault;
 use policy::PolicyFault;
 use registry::{Fault, OpenFault};
 use std::alloc::{AllocError, AllocFailed};
@@ -95,6 +96,17 @@ impl<T: Drop> From<AllocFailed<T>> for Exit {
 
     fn from(_: AllocFailed<T>) -> Exit {
         Exit::Memory
+    }
+}
+
+impl From<BookFault> for Exit {
+    ghost from_gives = { λ fault exit. exit ≡ exit_of_book fault };
+
+    fn from(fault: BookFault) -> Exit {
+        match fault {
+            BookFault::Memory => Exit::Memory,
+            BookFault::Store => Exit::Open(OpenFault::Store),
+        }
     }
 }
 

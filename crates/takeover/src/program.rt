@@ -1,6 +1,8 @@
 //! A registry of the schema before this one, taken over.
+ghost use Rattle.std.specs.Prelude.{◌≡◌};
+ghost use Rattle.takeover.specs.inner.Ends as spec;
+
 use crate::migrating::{MigrateFault, migrate};
-use books::BookFault;
 use oldrows::OldRows;
 use policy::Policy;
 use registry::OpenFault;
@@ -19,7 +21,7 @@ pub fn migrate_on<S: Alter + Drop, T: Alter + Drop>(
 ) -> Exit {
     let mut from = match OldRows::adopt(from, alloc) {
         Ok(from) => from,
-        Err(fault) => return exit_of_book(fault),
+        Err(fault) => return Exit::from(fault),
     };
     let mut to = match RowStore::adopt(to, alloc) {
         Ok(to) => to,
@@ -31,7 +33,9 @@ pub fn migrate_on<S: Alter + Drop, T: Alter + Drop>(
     }
 }
 
-fn exit_of(fault: MigrateFault) -> Exit {
+fn exit_of(fault: MigrateFault) -> Exit
+    ensures { result ≡ spec.exit_of fault }
+{
     match fault {
         MigrateFault::Policy => Exit::Open(OpenFault::Policy),
         MigrateFault::Schema => Exit::Open(OpenFault::Schema),
@@ -40,14 +44,9 @@ fn exit_of(fault: MigrateFault) -> Exit {
     }
 }
 
-fn exit_of_book(fault: BookFault) -> Exit {
-    match fault {
-        BookFault::Memory => Exit::Memory,
-        BookFault::Store => Exit::Open(OpenFault::Store),
-    }
-}
-
-fn exit_of_unadopted(cause: Unadopted) -> Exit {
+fn exit_of_unadopted(cause: Unadopted) -> Exit
+    ensures { result ≡ spec.exit_of_unadopted cause }
+{
     match cause {
         Unadopted::Other => Exit::Open(OpenFault::Schema),
         Unadopted::Memory => Exit::Memory,

@@ -1,10 +1,10 @@
 //! The database of a command line, and the policy that it is opened under.
-ghost use Rattle.std.specs.Prelude.{◌≡◌, false, IfOk, bytes_eq, codes};
-ghost use Rattle.tldreg.specs.inner.Ends as spec;
+ghost use Rattle.std.specs.Prelude.{◌≡◌, false, IfErr, IfOk, bytes_eq, codes};
+ghost use Rattle.script.specs.Exits.{exit_of_book};
 
 use books::{Book, BookFault};
 use policy::Policy;
-use registry::{OpenFault, Registry};
+use registry::Registry;
 use script::Exit;
 use std::alloc::Global;
 use std::fs;
@@ -33,23 +33,14 @@ pub fn open<B: Book + Drop>(
     policy: Policy,
 ) -> Result<Registry<B>, Exit>
     requires { IfOk made (λ book. (B.state book).is_open ≡ false) }
+    ensures { IfErr made (λ fault. result ≡ Err (exit_of_book fault)) }
 {
     let book = match made {
         Ok(book) => book,
-        Err(fault) => return Err(exit_of(fault)),
+        Err(fault) => return Err(Exit::from(fault)),
     };
     match Registry::open(alloc, book, policy) {
         Ok(registry) => Ok(registry),
         Err((fault, _)) => Err(Exit::Open(fault)),
-    }
-}
-
-/// How the program ends where a book couldn't be made.
-fn exit_of(fault: BookFault) -> Exit
-    ensures { result ≡ spec.exit_of fault }
-{
-    match fault {
-        BookFault::Memory => Exit::Memory,
-        BookFault::Store => Exit::Open(OpenFault::Store),
     }
 }

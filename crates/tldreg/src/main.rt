@@ -1,7 +1,7 @@
 //! The program `tldreg`: the registry of a top-level domain.
 #![tactic(auto)]
 
-ghost use Rattle.std.specs.Prelude.{◌≡◌, false, IfOk};
+ghost use Rattle.std.specs.Prelude.{◌≡◌, false, IfErr, IfOk};
 ghost use Rattle.tldreg.specs.inner.Ends as spec;
 
 mod command_line;
@@ -107,7 +107,9 @@ fn work_with<B: Book + Drop>(
     opened: Result<Registry<B>, OpenFault>,
     job: &Job,
     means: &Means<'_>,
-) -> Result<(), Exit> {
+) -> Result<(), Exit>
+    ensures { IfErr opened (λ fault. result ≡ Err (Exit.Open fault)) }
+{
     match opened {
         Ok(registry) => work(rt, registry, job, means),
         Err(fault) => Err(Exit::Open(fault)),
@@ -230,6 +232,13 @@ fn zone<B: Book + Drop>(
     let mut registry = registry;
     let told = zone_on(rt.alloc(), &mut registry, moment, &mut io::writer(rt));
     drop(registry);
+    zone_end(told)
+}
+
+/// How the program ends after a zone.
+fn zone_end(told: Result<(), ZoneExportFault>) -> Result<(), Exit>
+    ensures { result ≡ spec.zone_end told }
+{
     match told {
         Ok(()) => Ok(()),
         Err(ZoneExportFault::Registry(fault)) => Err(Exit::Registry(fault)),
@@ -289,7 +298,9 @@ fn migrate_from<S: Alter + Drop>(
     policy: &Policy,
     from: Result<Connection<S>, OpenFault>,
     to: &str,
-) -> Result<(), Exit> {
+) -> Result<(), Exit>
+    ensures { IfErr from (λ fault. result ≡ Err (Exit.Open fault)) }
+{
     match from {
         Ok(from) => migrate_to(rt, policy, from, bookfiles::connection_in(rt, to, Unknown)),
         Err(fault) => Err(Exit::Open(fault)),
@@ -302,7 +313,9 @@ fn migrate_to<S: Alter + Drop, T: Alter + Drop>(
     policy: &Policy,
     from: Connection<S>,
     to: Result<Connection<T>, OpenFault>,
-) -> Result<(), Exit> {
+) -> Result<(), Exit>
+    ensures { IfErr to (λ fault. result ≡ Err (Exit.Open fault)) }
+{
     match to {
         Ok(to) => migrate_on(rt.alloc(), policy, from, to).result(),
         Err(fault) => Err(Exit::Open(fault)),

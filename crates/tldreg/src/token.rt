@@ -1,4 +1,6 @@
 //! The file of the operator's token.
+ghost use Rattle.std.specs.Prelude.{◌≡◌};
+ghost use Rattle.tldreg.specs.inner.Ends as spec;
 
 use crate::command_line::Job;
 use operator::{TokenFault, credentials_in};
@@ -72,9 +74,18 @@ fn credentials_of_file(rt: &(impl Files + AllocGlobal), path: &str) -> Result<Ve
     };
     match credentials_in(rt.alloc(), &file) {
         Ok(credentials) => Ok(credentials),
-        Err(TokenFault::Short) => Err(End::Token(Unfit::Short)),
-        Err(TokenFault::Byte) => Err(End::Token(Unfit::Form)),
-        Err(TokenFault::Memory) => Err(End::Exit(Exit::Memory)),
+        Err(fault) => Err(token_end(fault)),
+    }
+}
+
+/// How the program ends where a file isn't fit to hold the token.
+fn token_end(fault: TokenFault) -> End
+    ensures { result ≡ spec.token_end fault }
+{
+    match fault {
+        TokenFault::Short => End::Token(Unfit::Short),
+        TokenFault::Byte => End::Token(Unfit::Form),
+        TokenFault::Memory => End::Exit(Exit::Memory),
     }
 }
 
