@@ -10,7 +10,7 @@ use Rattle.decisions.specs.Decisions.{decided}
 use Rattle.decisions.specs.Orders.{order_answer, order_effect}
 use Rattle.decisions.specs.Steps.{answer, effect, reply_of}
 use Rattle.decisions.specs.Isolation.{IsIsolated}
-use Rattle.books.specs.Book.{BookState, Follows, HasRefused, IsBack, NoRefusal, Stored}
+use Rattle.books.specs.Book.{BookState, HasRefused, NoRefusal}
 use Rattle.model.specs.DueBy.{due_by}
 use Rattle.protocol.specs.declared.code.Code.{Code}
 use Rattle.protocol.specs.declared.command.Command.{Command}
@@ -75,12 +75,6 @@ pub record IsPrepared (p : PolicyRules) (r : ℕ) (c : Command) (t : ℕ) (f : F
   pub reply : prepared.reply ≡ reply_of p r c (decided p r t c f).verdict f.account.commands
   pub changes : prepared.changes ≡ (decided p r t c f).changes
 
--- what a call that gave up in a transaction leaves: it went back
-abbrev pub GoesBack : Fault → BookState → BookState → Type 0
-GoesBack faults.Memory old new = IsBack old new × NoRefusal old new
-GoesBack faults.Store old new = IsBack old new × HasRefused old new
-GoesBack faults.Moment old new = ⊥
-
 -- the book holds what it held
 pub record IsUnchanged (old new : BookState) : Type 0 where
   pub content : new.is_clean ≡ true → new.content ≡ old.content
@@ -94,19 +88,3 @@ Fails faults.Moment old new = IsUnchanged old new × NoRefusal old new
 -- the book is kept under the same terms
 abbrev pub SameTerms : BookState → BookState → Type 0
 SameTerms old new = new.is_clean ≡ true → new.content.terms ≡ old.content.terms
-
--- the same terms, with the registry as a call at a moment finds it
-abbrev pub at_moment : PolicyRules → ℕ → Stored → Stored
-at_moment p t s = record s { registry = lapsed p t s.registry }
-
--- the transaction is still open, and can go back as before; the terms are the same
-pub record IsWithin (old new : BookState) : Type 0 where
-  pub counted : NoRefusal old new
-  pub opened : new.is_open ≡ true
-  pub before : new.is_clean ≡ true → new.before ≡ old.before
-  pub terms : SameTerms old new
-
--- the transaction is over, kept or gone back on
-pub record IsOver (old new : BookState) : Type 0 where
-  pub closed : new.is_open ≡ false
-  pub follows : Follows old new

@@ -361,6 +361,9 @@ impl<B: Book + Drop> Registry<B> {
         ensures early { result ≢ Err Fault.Moment }
     {
         self.book.begin()?;
-        keep(&mut self.book, self.alloc, work, &self.policy)
+        match keep(&mut self.book, self.alloc, work, &self.policy) {
+            Ok(answer) => Ok(answer),
+            Err(fault) => Err(Fault::from(fault)),
+        }
     }
 }
