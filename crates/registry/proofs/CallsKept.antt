@@ -1,5 +1,5 @@
 -- What every call keeps follows from the question that it answers.
-use Rattle.std.proofs.Common.{◌≡◌, ℕ, ◌≤◌, max, true, Result, Ok, Err, IfOk, OnOk, Some, inr, refl, sym, ap, subst, ◌∙◌, arith}
+use Rattle.std.proofs.Common.{◌≡◌, ℕ, ◌≤◌, max, true, Result, Ok, Err, IfOk, Some, inr, refl, sym, ap, subst, ◌∙◌, arith}
 use Rattle.model.specs.Lapse.{lapsed, now}
 use Rattle.model.specs.Money.{MoneyFollows}
 use Rattle.model.specs.Registry.{Registry}

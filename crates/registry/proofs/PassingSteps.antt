@@ -7,7 +7,7 @@ use Rattle.concerns.specs.Names.{named_by}
 use Rattle.concerns.proofs.CommandLemmas.{answer-now, effect-now}
 use Rattle.concerns.proofs.ConcernLemmas.{caught-up}
 use Rattle.concerns.proofs.OrderLemmas.{deposit-effect-now, nothing-due, status-answer-now, status-effect-now}
-use Rattle.model.specs.Lapse.{accounts_at, among, at, lapse, lapsed, now}
+use Rattle.model.specs.Lapse.{among, at, lapse, lapsed, now}
 use Rattle.facts.specs.Facts.{facts}
 use Rattle.model.specs.Registry.{Registry, account_of}
 use Rattle.model.proofs.LapseLaws.{lapses-on}
@@ -35,6 +35,7 @@ use Rattle.decisions.specs.Steps.{answer, effect, reply_of}
 use Rattle.lifecycle.specs.declared.due_object.Due.{Due}
 use Rattle.books.specs.Book.{BookState, BookStays, BookWrites, Stored}
 use Rattle.concerns.specs.DueFor.{due_for}
+use Rattle.model.specs.DueBy.{due_by}
 
 -- ---- of a registry
 
@@ -75,7 +76,7 @@ module _ (p : PolicyRules) (moment : ℕ) (before : Registry) where
   passed : (what : Extent) → IsPassed p what moment before (dues_lapsed p u (due_in p what u (at u before)) (at u before)) u
   passed nothing = record { told = refl; clock = refl; settled = nothing-due p (at u before); future = same-lapse p u before }
   passed (concerning r g) = passed-for r g
-  passed everything = passed-all _ (all-lapsed p u (at u before) refl ∙ same-lapse p u before)
+  passed everything = passed-all (dues_lapsed p u (due_by p u (at u before)) (at u before)) (all-lapsed p u (at u before) refl ∙ same-lapse p u before)
 
 -- and where the clock stands there, it has lapsed without its moving
 passed-there : (p : PolicyRules) (what : Extent) (t : ℕ) (s : Registry) → s.clock ≡ t → IsPassed p what t s (dues_lapsed p t (due_in p what t s) s) (max t s.clock)

@@ -2,7 +2,7 @@
 use Rattle.std.proofs.Common.{◌≡◌, ◌<◌, ◌⊎◌, true, cond, Result, Ok, Err, refl, sym, subst, ap, ◌∙◌, arith}
 use Rattle.model.specs.Registry.{Registry}
 use Rattle.registry.specs.inner.Steps.{IsWithin, Works}
-use Rattle.books.specs.Book.{BookFinds, BookReads, BookState, BookStays, BookWrites, Follows, GivesUp, IsBack, LeavesSame, Stored, WentBack}
+use Rattle.books.specs.Book.{BookFinds, BookReads, BookState, BookStays, BookWrites, Follows, GivesUp, IsBack, Stored, WentBack}
 use Rattle.states.specs.declared.fault.BookFault.{BookFault}
 use Rattle.states.specs.declared.fault.BookFault.TheVariants.{Memory, Store}
 
@@ -93,6 +93,6 @@ module _ {A : Type 0} where
   finds-then (Ok it) value whole old mid new was_open within is found = (
     within-on old mid new within (only-read mid new within.opened found.0 found.1.0),
     λ clean. subst (λ (held : Stored). whole old.content.registry held.registry it) (sym (found.0.content clean))
-    (subst (λ (a : A). whole old.content.registry mid.content.registry a) (sym (found.1.1 clean)) (is (found.1.0.clean clean))),
+        (subst (λ (a : A). whole old.content.registry mid.content.registry a) (sym (found.1.1 clean)) (is (found.1.0.clean clean))),
   )
   finds-then (Err fault) value whole old mid new was_open within is found = went-later fault old mid new was_open within found

@@ -1,5 +1,5 @@
 -- What the calls of the registry leave.
-use Rattle.std.specs.Prelude.{◌≡◌, ℕ, max, min, length, take, true, false}
+use Rattle.std.specs.Prelude.{◌≡◌, ℕ, max, min, length, take, true}
 use Rattle.policy.specs.Rules.{PolicyRules}
 use Rattle.registry.specs.Lapsing.{dues_lapsed}
 use Rattle.registry.specs.declared.fault.Fault.{Fault}

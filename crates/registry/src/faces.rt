@@ -273,6 +273,12 @@ fn domain_at<B: Book>(
     ensures { Works result (IsLookUp policy.now (λ s. domain_face_at policy.now s name.now) moment)
         (B.state book.old) (B.state book.new) }
 {
-    catch_up(book, alloc, &Scope::Object(ObjectKind::Domain, name), moment, policy)?;
+    catch_up(
+        book,
+        alloc,
+        &Scope::Object(ObjectKind::Domain, name),
+        moment,
+        policy,
+    )?;
     book.domain_face(name, policy)
 }

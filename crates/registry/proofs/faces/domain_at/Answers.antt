@@ -1,10 +1,11 @@
-use Rattle.std.proofs.Common.{refl}
+use Rattle.std.proofs.Common.{max, refl}
 use Rattle.model.specs.Registry.{Registry}
 use Rattle.objects.specs.declared.roid.ObjectKind.TheVariants as kinds
 use Rattle.books.specs.Faces.{domain_face_at}
 use Rattle.registry.specs.Faces.{IsLookUp}
+use Rattle.registry.specs.Lapsing.{with_dues_lapsed}
 use Rattle.registry.specs.inner.FaceLaws.{domain-face-now}
-use Rattle.registry.specs.inner.Passing.{about}
+use Rattle.registry.specs.inner.Passing.{about, due_in}
 use Rattle.registry.proofs.PassingSteps.{catches-up, looked-up}
 use Rattle.registry.proofs.StepLemmas.{finds-then, written}
 use Rattle.registry.proofs.faces.domain_at.Goals as goal
@@ -19,8 +20,8 @@ returns g c =
     let lapses = c.in_ok-catch_up.ensures in
     let what = about kinds.Domain name in
     let find = λ (s : Registry). domain_face_at p s name in
-    finds-then c.domain_face.result (find mid.content.registry) (IsLookUp p find moment) old mid (g.B.Book.state c.domain_face.new.self) c.requires.opened (written old mid _ refl lapses.0 lapses.1)
+    finds-then c.domain_face.result (find mid.content.registry) (IsLookUp p find moment) old mid (g.B.Book.state c.domain_face.new.self) c.requires.opened (written old mid (with_dues_lapsed p moment (due_in p what moment old.content.registry) old.content) refl lapses.0 lapses.1)
     (λ clean.
     let is = catches-up p what moment old mid c.requires.clock lapses clean in
-    looked-up p find what moment _ old.content.registry mid.content.registry is (domain-face-now p name mid.content.registry is.settled))
+    looked-up p find what moment (max moment old.content.registry.clock) old.content.registry mid.content.registry is (domain-face-now p name mid.content.registry is.settled))
     c.domain_face.ensures

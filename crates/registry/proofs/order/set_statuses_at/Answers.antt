@@ -1,4 +1,4 @@
-use Rattle.std.proofs.Common.{◌≡◌, true, IfOk, List, ℕ, Option, Result, ap, subst}
+use Rattle.std.proofs.Common.{◌≡◌, true, IfOk, ap, subst}
 use Rattle.names.specs.Zone.{ZoneRules}
 use Rattle.protocol.specs.declared.order.Order.TheVariants as orders
 use Rattle.protocol.specs.Orders.{name_ordered}

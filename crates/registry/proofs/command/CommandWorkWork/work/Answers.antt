@@ -1,5 +1,4 @@
 use Rattle.std.proofs.Common.{ap}
-use Rattle.facts.specs.Facts.{facts}
 use Rattle.registry.specs.Execution.{IsStep}
 use Rattle.registry.specs.inner.Steps.{IsMade}
 use Rattle.registry.proofs.PassingSteps.{executed}
