@@ -5,7 +5,7 @@ use Rattle.registry.specs.declared.fault.Fault.{Fault}
 use Rattle.registry.specs.declared.fault.Fault.TheVariants as faults
 use Rattle.registry.specs.declared.fault.OpenFault.{OpenFault}
 use Rattle.registry.specs.declared.fault.OpenFault.TheVariants as refusals
-use Rattle.registry.specs.Crashes.{GivesUpTo, Makes, OpensTo, OutlivesOpening}
+use Rattle.registry.specs.Crashes.{GivesUpTo, Makes, OpensTo, RefusedTo}
 use Rattle.registry.specs.inner.Steps.{IsWithin, Keeps}
 use Rattle.registry.proofs.StepLemmas.{gave-up-later}
 use Rattle.books.specs.Book.{BookState, BookKeeps, Follows, GivesUp, LeavesHeld, LeavesItself, LeavesOld, LeavesOldOrMade, LeavesSame, Stored, may_leave}
@@ -76,10 +76,9 @@ pub later : (makes : Stored → Stored → Type 0) (old mid new : BookState) →
 later makes old mid new follows same content then = λ left may.
     ⊎_elim (λ before. inl (left_alone old mid same left before)) (λ it. inr (record { clean = follows.clean it.clean; held = it.held; is = it.is; made = subst (λ (held : Stored). makes held it.held) (content it.clean) it.made })) (then left may)
 
-pub opening_later : {A : Type 0} (result : Result A OpenFault) (p : PolicyRules) (old mid new : BookState) → Follows old mid → LeavesSame old mid → (mid.is_clean ≡ true → mid.content ≡ old.content)
-    → OutlivesOpening result p mid new → OutlivesOpening result p old new
-opening_later (Ok it) p old mid new follows same content then = then
-opening_later (Err refusals.Policy) p old mid new follows same content then = older old mid new same then
-opening_later (Err refusals.Schema) p old mid new follows same content then = older old mid new same then
-opening_later (Err refusals.Memory) p old mid new follows same content then = later (OpensTo p) old mid new follows same content then
-opening_later (Err refusals.Store) p old mid new follows same content then = later (OpensTo p) old mid new follows same content then
+pub refused_later : (fault : OpenFault) (p : PolicyRules) (old mid new : BookState) → Follows old mid → LeavesSame old mid → (mid.is_clean ≡ true → mid.content ≡ old.content)
+    → RefusedTo fault p mid new → RefusedTo fault p old new
+refused_later refusals.Policy p old mid new follows same content then = older old mid new same then
+refused_later refusals.Schema p old mid new follows same content then = older old mid new same then
+refused_later refusals.Memory p old mid new follows same content then = later (OpensTo p) old mid new follows same content then
+refused_later refusals.Store p old mid new follows same content then = later (OpensTo p) old mid new follows same content then

@@ -1,12 +1,9 @@
 //! How a book is opened under a policy.
-ghost use Rattle.std.specs.Prelude.{◌≡◌, ◌≢◌, true, false, IfOk, IfErr, OnOk};
+ghost use Rattle.std.specs.Prelude.{◌≡◌, true, false, IfOk};
 ghost use Rattle.policy.specs.Terms.{terms_of};
-ghost use Rattle.registry.specs.Crashes.{OpensTo, OutlivesOpening};
 ghost use Rattle.registry.specs.Opening as spec;
-ghost use Rattle.registry.specs.declared.fault.OpenFault.TheVariants as refusals;
-ghost use Rattle.registry.specs.Opening.{IsOurs, Opens, Refuses, RefusesOurs};
-ghost use Rattle.registry.specs.inner.Steps.{TakesUp};
-ghost use Rattle.books.specs.Book.{BookMakes, Follows};
+ghost use Rattle.registry.specs.inner.Steps.{OpensAny, OpensOurs, TakesUp};
+ghost use Rattle.books.specs.Book.{BookMakes};
 
 use crate::fault::OpenFault;
 use crate::transaction::or_rollback;
@@ -19,21 +16,14 @@ use policy::{Policy, Terms};
 use std::alloc::{AllocError, Global};
 
 /// Opens a book, unless what keeps it is another's.
-#[tactic(auto, using(crate::proofs::OpeningLemmas::opens_later, crate::proofs::OpeningLemmas::refuses_later, crate::proofs::OpeningLemmas::is_others, crate::proofs::OpeningLemmas::is_ours, crate::proofs::OpeningLemmas::refuses_ours, crate::proofs::CrashLemmas::gave_up, crate::proofs::CrashLemmas::left_alone, crate::proofs::CrashLemmas::opening_later))]
+#[tactic(auto, using(crate::proofs::OpeningLemmas::is_others, crate::proofs::CrashLemmas::gave_up, crate::proofs::CrashLemmas::left_alone))]
 pub(crate) fn open_in<B: Book>(
     book: &mut B,
     alloc: Global,
     policy: &Policy,
 ) -> Result<(), OpenFault>
     requires { (B.state book.old).is_open ≡ false }
-    ensures opened { OnOk result (Opens policy.now (B.state book.old) (B.state book.new)
-        × IsOurs (B.state book.old) (B.state book.new)) }
-    ensures refused { IfErr result (λ fault. Refuses fault policy.now (B.state book.old)
-        (B.state book.new)) }
-    ensures refused_ours { IfErr result (λ fault. RefusesOurs fault (B.state book.old)
-        (B.state book.new)) }
-    ensures crash { OutlivesOpening result policy.now (B.state book.old) (B.state book.new) }
-    ensures follows { Follows (B.state book.old) (B.state book.new) }
+    ensures { OpensAny result policy.now (B.state book.old) (B.state book.new) }
 {
     match book.ready() {
         Ok(Ready::Other) => Err(OpenFault::Schema),
@@ -46,12 +36,7 @@ pub(crate) fn open_in<B: Book>(
 #[tactic(auto, using(crate::proofs::CrashLemmas::gave_up, crate::proofs::CrashLemmas::left_alone, crate::proofs::CrashLemmas::kept_alone, crate::proofs::CrashLemmas::kept_or_not))]
 fn open_ours<B: Book>(book: &mut B, alloc: Global, policy: &Policy) -> Result<(), OpenFault>
     requires { (B.state book.old).is_open ≡ false }
-    ensures opened { OnOk result (Opens policy.now (B.state book.old) (B.state book.new)) }
-    ensures refused { IfErr result (λ fault. Refuses fault policy.now (B.state book.old)
-        (B.state book.new)) }
-    ensures known { IfErr result (λ fault. fault ≢ refusals.Schema) }
-    ensures crash { OutlivesOpening result policy.now (B.state book.old) (B.state book.new) }
-    ensures follows { Follows (B.state book.old) (B.state book.new) }
+    ensures { OpensOurs result policy.now (B.state book.old) (B.state book.new) }
 {
     book.begin()?;
     if !take_up(book, alloc, policy)? {

@@ -1,5 +1,5 @@
 -- What a step in an open transaction does, where it answers and where it gives up.
-use Rattle.std.specs.Prelude.{◌≡◌, ℕ, max, List, Bool, Result, Ok, Err, true, false}
+use Rattle.std.specs.Prelude.{◌≡◌, ◌≢◌, ℕ, max, List, Bool, Result, Ok, Err, true, false}
 use Rattle.decisions.specs.Changes.{changed_all}
 use Rattle.decisions.specs.declared.change.Change.{Change}
 use Rattle.decisions.specs.declared.order.OrderDecision.{OrderDecision}
@@ -8,9 +8,12 @@ use Rattle.model.specs.Registry.{Registry}
 use Rattle.policy.specs.Rules.{PolicyRules}
 use Rattle.policy.specs.Terms.{terms_of}
 use Rattle.protocol.specs.declared.code.Code.{Code}
-use Rattle.registry.specs.Crashes.{Makes}
+use Rattle.registry.specs.Calls.{IsRefused}
+use Rattle.registry.specs.Crashes.{Makes, RefusedTo}
 use Rattle.registry.specs.Execution.{SameTerms}
-use Rattle.registry.specs.Opening.{DoesNotFit, goes_on, opened}
+use Rattle.registry.specs.Opening.{DoesNotFit, IsOurs, Opens, Refuses, goes_on, opened}
+use Rattle.registry.specs.declared.fault.OpenFault.{OpenFault}
+use Rattle.registry.specs.declared.fault.OpenFault.TheVariants as refusals
 use Rattle.books.specs.Book.{BookReads, BookState, BookStays, BookWrites, Follows, GivesUp, LeavesItself, LeavesOldOrMade, LeavesSame, NoRefusal, WentBack}
 use Rattle.states.specs.declared.fault.BookFault.{BookFault}
 
@@ -85,3 +88,16 @@ abbrev pub TakesUp : Result Bool BookFault → PolicyRules → BookState → Boo
 TakesUp (Ok true) p old new = IsTakenUp p old new
 TakesUp (Ok false) p old new = DoesNotFit p old new × (Follows old new × LeavesSame old new)
 TakesUp (Err fault) p old new = WentBack fault old new
+
+-- A book that is known to be ours is opened, and a crash leaves what is held; or it was refused.
+abbrev pub OpensOurs : {A : Type 0} → Result A OpenFault → PolicyRules → BookState → BookState → Type 0
+OpensOurs (Ok it) p old new = Opens p old new × (LeavesItself new × Follows old new)
+OpensOurs (Err fault) p old new =
+    Refuses fault p old new
+    × ((fault ≢ refusals.Schema) × (RefusedTo fault p old new × Follows old new))
+
+-- the same of any book
+abbrev pub OpensAny : {A : Type 0} → Result A OpenFault → PolicyRules → BookState → BookState → Type 0
+OpensAny (Ok it) p old new =
+    Opens p old new × (IsOurs old new × (LeavesItself new × Follows old new))
+OpensAny (Err fault) p old new = IsRefused fault p old new
