@@ -45,6 +45,8 @@ kept_or_not result makes old mid new follows same made held left may =
     let clean : mid.is_clean ≡ true = held.answered may.0 in
     ⊎_elim (λ before. inl (left_alone old mid same left (held.honest may.0, before))) (λ is. inr (record { clean = follows.clean clean; held = mid.content; is = is; made = made clean })) (held.tried left may.1)
 
+pub ruleset leaving = (left_alone, gave_up, kept_alone, kept_or_not)
+
 -- ---- a step in a transaction, which is kept or not
 
 module _ {A U : Type 0} (step : Registry → Registry → A → Type 0) (it : A) (old mid new : BookState) (within : IsWithin old mid) (stepped : mid.is_clean ≡ true → step old.content.registry mid.content.registry it) where

@@ -34,7 +34,7 @@ pub(crate) struct CommandWork<'c> {
 impl Work for CommandWork<'_> {
     type Answer = Reply;
 
-    ghost step = { λ it p before after reply. IsStep p it.caller it.command.now it.moment before after reply };
+    ghost step = { λ it p. IsStep p it.caller it.command.now it.moment };
 
     fn work<B: Book>(
         &self,

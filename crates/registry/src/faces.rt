@@ -1,4 +1,5 @@
-//! What can be looked up in a registry at a moment: what everyone may know, and a registrar's account.
+//! What can be looked up in a registry at a moment: what everyone may know, and a registrar's
+//! account.
 ghost use Rattle.std.specs.Prelude.{◌≡◌, true, map, Some};
 ghost use Rattle.concerns.specs.Names.{named_by};
 ghost use Rattle.objects.specs.declared.roid.ObjectKind.TheVariants as kinds;
@@ -7,7 +8,8 @@ ghost use Rattle.registry.specs.inner.FaceLaws as laws;
 ghost use Rattle.registry.specs.inner.Passing.{about, balance_command, concerning, everything};
 ghost use Rattle.registry.specs.inner.Steps.{Works};
 ghost use Rattle.model.specs.Registry.{account_of};
-ghost use Rattle.books.specs.Faces.{contact_face_at, domain_face_at, domain_names, host_addresses_at, host_face_at};
+ghost use Rattle.books.specs.Faces.{contact_face_at, domain_face_at, domain_names};
+ghost use Rattle.books.specs.Faces.{host_addresses_at, host_face_at};
 
 use crate::passing::{Scope, catch_up, pass};
 use crate::transaction::or_rollback;
@@ -25,10 +27,9 @@ use std::alloc::Global;
 /// What can be looked up in a book.
 pub(crate) trait LookUp {
     ghost use Rattle.std.specs.Prelude.{◌≡◌};
-    ghost use Rattle.model.specs.Lapse.{now};
     ghost use Rattle.model.specs.Registry.{Registry};
     ghost use Rattle.policy.specs.Rules.{PolicyRules};
-    ghost use Rattle.registry.specs.inner.Passing.{Extent, IsSettledAs, extent_of};
+    ghost use Rattle.registry.specs.inner.Passing.{Extent, IsAsNow, extent_of};
     ghost use Rattle.books.specs.Book.{BookFinds};
 
     /// What is found.
@@ -41,7 +42,7 @@ pub(crate) trait LookUp {
     ghost awaits: { Self → Extent };
 
     /// Once that has lapsed, it is what it is once all has that is due.
-    ghost stands: { (it : Self) (p : PolicyRules) (s : Registry) → IsSettledAs p (awaits it) s → finds it p (now p s) ≡ finds it p s };
+    ghost stands: { (it : Self) → IsAsNow (awaits it) (finds it) };
 
     /// What lapses before.
     fn scope(&self) -> Scope<'_>
@@ -199,7 +200,7 @@ pub(crate) struct LookUpWork<'l, L> {
 impl<L: LookUp> Work for LookUpWork<'_, L> {
     type Answer = L::Found;
 
-    ghost step = { λ it p before after found. IsLookUp p (L.finds it.what.now p) it.moment before after found };
+    ghost step = { λ it p. IsLookUp p (L.finds it.what.now p) it.moment };
 
     fn work<B: Book>(
         &self,
@@ -222,7 +223,7 @@ pub(crate) struct DomainsWork<'n> {
 impl Work for DomainsWork<'_> {
     type Answer = Seq<Option<DomainFace>>;
 
-    ghost step = { λ it p before after found. IsLookUp p (λ s. map (domain_face_at p s) it.names.now) it.moment before after found };
+    ghost step = { λ it p. IsLookUp p (λ s. map (domain_face_at p s) it.names.now) it.moment };
 
     fn work<B: Book>(
         &self,
@@ -235,8 +236,8 @@ impl Work for DomainsWork<'_> {
     }
 }
 
-/// What everyone may know of the domain under each of these names, in an open transaction whose clock
-/// stands at the moment: one after another lapses and is looked up.
+/// What everyone may know of the domain under each of these names, in an open transaction whose
+/// clock stands at the moment: one after another lapses and is looked up.
 fn domains_at<B: Book>(
     book: &mut B,
     alloc: Global,

@@ -17,7 +17,7 @@ pub(crate) struct GreetingWork {
 impl Work for GreetingWork {
     type Answer = Moment;
 
-    ghost step = { λ it p before after date. IsGreetingStep p it.moment before after date };
+    ghost step = { λ it p. IsGreetingStep p it.moment };
 
     fn work<B: Book>(
         &self,

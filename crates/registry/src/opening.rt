@@ -16,7 +16,7 @@ use policy::{Policy, Terms};
 use std::alloc::{AllocError, Global};
 
 /// Opens a book, unless what keeps it is another's.
-#[tactic(auto, using(crate::proofs::OpeningLemmas::is_others, crate::proofs::CrashLemmas::gave_up, crate::proofs::CrashLemmas::left_alone))]
+#[tactic(auto, using(crate::proofs::OpeningLemmas::is_others, crate::proofs::CrashLemmas::leaving))]
 pub(crate) fn open_in<B: Book>(
     book: &mut B,
     alloc: Global,
@@ -33,7 +33,7 @@ pub(crate) fn open_in<B: Book>(
 }
 
 /// Opens a book in one transaction.
-#[tactic(auto, using(crate::proofs::CrashLemmas::gave_up, crate::proofs::CrashLemmas::left_alone, crate::proofs::CrashLemmas::kept_alone, crate::proofs::CrashLemmas::kept_or_not))]
+#[tactic(auto, using(crate::proofs::CrashLemmas::leaving))]
 fn open_ours<B: Book>(book: &mut B, alloc: Global, policy: &Policy) -> Result<(), OpenFault>
     requires { (B.state book.old).is_open ≡ false }
     ensures { OpensOurs result policy.now (B.state book.old) (B.state book.new) }
@@ -49,8 +49,8 @@ fn open_ours<B: Book>(book: &mut B, alloc: Global, policy: &Policy) -> Result<()
     }
 }
 
-/// Takes a book up in an open transaction, or goes back where the policy doesn't continue the terms that it
-/// was used under.
+/// Takes a book up in an open transaction, or goes back where the policy doesn't continue the terms
+/// that it was used under.
 fn take_up<B: Book>(book: &mut B, alloc: Global, policy: &Policy) -> Result<bool, BookFault>
     requires { (B.state book.old).is_open ≡ true }
     ensures { TakesUp result policy.now (B.state book.old) (B.state book.new) }

@@ -31,7 +31,7 @@ pub(crate) struct OrderWork<'o> {
 impl Work for OrderWork<'_> {
     type Answer = Code;
 
-    ghost step = { λ it p before after code. IsOrderStep p it.order.now it.moment before after code };
+    ghost step = { λ it p. IsOrderStep p it.order.now it.moment };
 
     fn work<B: Book>(
         &self,

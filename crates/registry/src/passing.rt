@@ -1,5 +1,5 @@
-//! How time passes in an open transaction: what somebody asks for lapses, and all else that is due stays
-//! behind the clock until it is asked for or settled.
+//! How time passes in an open transaction: what somebody asks for lapses, and all else that is due
+//! stays behind the clock until it is asked for or settled.
 ghost use Rattle.std.specs.Prelude.{◌≡◌, true};
 ghost use Rattle.registry.specs.Lapsing.{with_dues_lapsed};
 ghost use Rattle.registry.specs.inner.Passing as spec;

@@ -22,10 +22,10 @@ pub(crate) struct SettlementWork {
 impl Work for SettlementWork {
     type Answer = u32;
 
-    ghost step = { λ it p before after done. IsSettlement p it.moment it.at_most before after done };
+    ghost step = { λ it p. IsSettlement p it.moment it.at_most };
 
-    /// Moves the clock, lets the first so many objects lapse that are due by then, and gives how many
-    /// they were.
+    /// Moves the clock, lets the first so many objects lapse that are due by then, and gives how
+    /// many they were.
     fn work<B: Book>(
         &self,
         book: &mut B,
