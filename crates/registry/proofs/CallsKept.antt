@@ -111,24 +111,37 @@ pub begun : (old mid : BookState) → NoRefusal old mid → BookStays old mid �
 begun old mid counted stays = record { clean = stays.clean; counted = omega (arith, counted) }
 
 -- a transaction was begun, and a step was taken in it and kept
-pub step_kept : {A : Type 0} (p : PolicyRules) (step : Registry → Registry → A → Type 0) (it : A) (old mid new : BookState)
-    → BookStarts old mid × BookStays old mid → Keeps (Ok it) step mid new → StepKeeps p (Makes step) (Ok it) p old new
+pub step_kept : {A : Type 0} (p : PolicyRules) (step : Registry → Registry → A → Type 0) (it : A)
+    (old mid new : BookState)
+    → BookStarts old mid × BookStays old mid → Keeps (Ok it) step mid new
+    → StepKeeps p (Makes step) (Ok it) p old new
 step_kept p step it old mid new begins keeps = record {
   policy = refl;
   follows = follows-on old mid new (begun old mid begins.0.counted begins.1) keeps.0.follows;
   crash = keeps.0.alone;
-  terms = λ clean. keeps.0.terms clean ∙ ap (λ (held : Stored). held.terms) (begins.0.content (keeps.0.follows.clean clean));
+  terms = λ clean. keeps.0.terms clean
+      ∙ ap (λ (held : Stored). held.terms) (begins.0.content (keeps.0.follows.clean clean));
 }
 
 -- or it went back
-pub step_went_back : {A : Type 0} (p : PolicyRules) (step : Registry → Registry → A → Type 0) (fault : BookFault) (old mid new : BookState)
-    → BookStarts old mid × BookStays old mid → Keeps {A = A} (Err fault) step mid new → StepKeeps {A = A} p (Makes step) (Err (of_book fault)) p old new
+pub step_went_back : {A : Type 0} (p : PolicyRules) (step : Registry → Registry → A → Type 0)
+    (fault : BookFault) (old mid new : BookState)
+    → BookStarts old mid × BookStays old mid → Keeps {A = A} (Err fault) step mid new
+    → StepKeeps {A = A} p (Makes step) (Err (of_book fault)) p old new
 step_went_back p step fault old mid new begins keeps =
     let follows : Follows old mid = begun old mid begins.0.counted begins.1 in
-    let left = later (Makes step) old mid new follows begins.1.leaves begins.0.content keeps.1.1.0 in
-    record { policy = refl; follows = follows-on old mid new follows keeps.1.0; crash = (by fault left, keeps.1.1.1 ∙ begins.1.leaves.ready); terms = tt }
+    let left = later (Makes step) old mid new follows begins.1.leaves begins.0.content keeps.1.1.0
+    in
+    record {
+      policy = refl;
+      follows = follows-on old mid new follows keeps.1.0;
+      crash =
+          (by fault left, keeps.1.1.1 ∙ begins.1.leaves.ready);
+      terms = tt;
+    }
   where
-    by : (fault : BookFault) → LeavesOldOrMade (Makes step) old new → GivesUpTo (of_book fault) (Makes step) old new
+    by : (fault : BookFault) → LeavesOldOrMade (Makes step) old new
+        → GivesUpTo (of_book fault) (Makes step) old new
     by Memory left = left
     by Store left = left
 

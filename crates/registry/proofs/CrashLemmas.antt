@@ -49,38 +49,64 @@ pub ruleset leaving = (left_alone, gave_up, kept_alone, kept_or_not)
 
 -- ---- a step in a transaction, which is kept or not
 
-module _ {A U : Type 0} (step : Registry → Registry → A → Type 0) (it : A) (old mid new : BookState) (within : IsWithin old mid) (stepped : mid.is_clean ≡ true → step old.content.registry mid.content.registry it) where
-  pub kept-step : (u : U) → BookKeeps mid new × Follows mid new → LeavesHeld {E = BookFault} (Ok u) mid new → Keeps (Ok it) step old new
+module _ {A U : Type 0} (step : Registry → Registry → A → Type 0) (it : A) (old mid new : BookState)
+    (within : IsWithin old mid)
+    (stepped : mid.is_clean ≡ true → step old.content.registry mid.content.registry it) where
+  pub kept-step : (u : U) → BookKeeps mid new × Follows mid new
+      → LeavesHeld {E = BookFault} (Ok u) mid new → Keeps (Ok it) step old new
   kept-step u kept held = (
     record {
       closed = kept.0.closed;
-      follows = record { clean = λ clean. within.stays.clean (kept.1.clean clean); counted = omega (arith, within.counted, kept.1.counted) };
-      terms = λ clean. ap (λ (held : Stored). held.terms) (kept.0.content clean) ∙ within.terms (kept.1.clean clean);
+      follows = record {
+        clean = λ clean. within.stays.clean (kept.1.clean clean);
+        counted = omega
+            (arith, within.counted, kept.1.counted);
+      };
+      terms = λ clean. ap (λ (held : Stored). held.terms) (kept.0.content clean)
+          ∙ within.terms (kept.1.clean clean);
       alone = kept_alone {E = BookFault} (Ok u) mid new held kept.0;
     },
-    λ clean. subst (λ (held : Stored). step old.content.registry held.registry it) (sym (kept.0.content clean)) (stepped (kept.1.clean clean)),
+    λ clean. subst (λ (held : Stored). step old.content.registry held.registry it)
+        (sym (kept.0.content clean)) (stepped (kept.1.clean clean)),
   )
 
-  pub not-kept-step : (fault : BookFault) → old.is_open ≡ true → GivesUp fault mid new × Follows mid new → LeavesHeld {A = U} (Err fault) mid new → Keeps {A = A} (Err fault) step old new
+  pub not-kept-step : (fault : BookFault) → old.is_open ≡ true → GivesUp fault mid new
+      × Follows mid new → LeavesHeld {A = U} (Err fault) mid new
+      → Keeps {A = A} (Err fault) step old new
   not-kept-step fault was_open back held =
-      let follows : Follows old mid = record { clean = within.stays.clean; counted = omega (arith, within.counted) } in
-      let made : mid.is_clean ≡ true → Makes step old.content mid.content = λ clean. ((it, stepped clean), within.terms clean) in
-      let gave = gave-up-later fault old mid new was_open within back in
-      (gave.0, (gave.1, (kept_or_not {A = U} (Err fault) (Makes step) old mid new follows within.stays.leaves made held, held.as_before ∙ within.stays.leaves.ready)))
+      let follows : Follows old mid = record
+      { clean = within.stays.clean; counted = omega (arith, within.counted) } in
+      let made : mid.is_clean ≡ true
+      → Makes step old.content mid.content = λ clean. ((it, stepped clean), within.terms clean) in
+      let gave = gave-up-later fault old mid new was_open within back in (
+        gave.0,
+        (
+          gave.1,
+          (
+            kept_or_not {A = U} (Err fault) (Makes step) old mid new follows
+                within.stays.leaves made held,
+            held.as_before ∙ within.stays.leaves.ready,
+          ),
+        ),
+      )
 
 -- ---- a call that nothing but a look came before
 
 older : (old mid new : BookState) → LeavesSame old mid → LeavesOld mid new → LeavesOld old new
 older old mid new same then = λ left may. left_alone old mid same left (then left may)
 
-pub later : (makes : Stored → Stored → Type 0) (old mid new : BookState) → Follows old mid → LeavesSame old mid → (mid.is_clean ≡ true → mid.content ≡ old.content)
+pub later : (makes : Stored → Stored → Type 0) (old mid new : BookState) → Follows old mid
+    → LeavesSame old mid → (mid.is_clean ≡ true → mid.content ≡ old.content)
     → LeavesOldOrMade makes mid new → LeavesOldOrMade makes old new
 later makes old mid new follows same content then = λ left may.
     ⊎_elim (λ before. inl (left_alone old mid same left before)) (λ it. inr (record { clean = follows.clean it.clean; held = it.held; is = it.is; made = subst (λ (held : Stored). makes held it.held) (content it.clean) it.made })) (then left may)
 
-pub refused_later : (fault : OpenFault) (p : PolicyRules) (old mid new : BookState) → Follows old mid → LeavesSame old mid → (mid.is_clean ≡ true → mid.content ≡ old.content)
+pub refused_later : (fault : OpenFault) (p : PolicyRules) (old mid new : BookState)
+    → Follows old mid → LeavesSame old mid → (mid.is_clean ≡ true → mid.content ≡ old.content)
     → RefusedTo fault p mid new → RefusedTo fault p old new
 refused_later refusals.Policy p old mid new follows same content then = older old mid new same then
 refused_later refusals.Schema p old mid new follows same content then = older old mid new same then
-refused_later refusals.Memory p old mid new follows same content then = later (OpensTo p) old mid new follows same content then
-refused_later refusals.Store p old mid new follows same content then = later (OpensTo p) old mid new follows same content then
+refused_later refusals.Memory p old mid new follows same content then = later (OpensTo p) old mid
+    new follows same content then
+refused_later refusals.Store p old mid new follows same content then = later (OpensTo p) old mid new
+    follows same content then

@@ -31,7 +31,8 @@ none-yet p t s is_open stands = record {
 
 -- and one more
 pub one-more : (p : PolicyRules) (t : ℕ) (names : List (List ℕ)) (name : List ℕ) (faces : List (Option DomainFace)) (face : Option DomainFace) (old mid new : BookState)
-    → AreLookedUp p t names faces old mid → IsWithin mid new × LooksUp p (λ s. domain_face_at p s name) t face mid new
+    → AreLookedUp p t names faces old mid → IsWithin mid new
+    × LooksUp p (λ s. domain_face_at p s name) t face mid new
     → AreLookedUp p t (names ++ name ∷ []) (faces ++ face ∷ []) old new
 one-more p t names name faces face old mid new are step = record {
   within = within-on old mid new are.within step.0;

@@ -26,13 +26,19 @@ same-lapse p u s = refl
 
 -- the clock has moved, and the first of what is due have lapsed
 pub settled : (p : PolicyRules) (moment at_most clock count : ℕ) (due part : List Due) (old moved listed new : BookState)
-    → IsWithin old moved × (moved.is_clean ≡ true → HasMoved moment old.content.registry moved.content.registry clock)
-    → BookReads moved listed × (BookStays moved listed × (listed.is_clean ≡ true → due ≡ due_by p clock moved.content.registry))
+    → IsWithin old moved × (moved.is_clean ≡ true
+    → HasMoved moment old.content.registry moved.content.registry clock)
+    → BookReads moved listed
+    × (BookStays moved listed
+    × (listed.is_clean ≡ true → due ≡ due_by p clock moved.content.registry))
     → part ≡ take at_most due → count ≡ min at_most (length due)
     → BookWrites listed new (with_dues_lapsed p clock part listed.content) × BookStays listed new
-    → IsWithin old new × (new.is_clean ≡ true → IsSettlement p moment at_most old.content.registry new.content.registry count)
+    → IsWithin old new × (new.is_clean ≡ true
+    → IsSettlement p moment at_most old.content.registry new.content.registry count)
 settled p moment at_most clock count due part old moved listed new first found cut counted second = (
-  within-on old moved new first.0 (within-on moved listed new (only-read moved listed first.0.opened found.0 found.1.0) (written listed new (with_dues_lapsed p clock part listed.content) refl second.0 second.1)),
+  within-on old moved new first.0
+      (within-on moved listed new (only-read moved listed first.0.opened found.0 found.1.0)
+      (written listed new (with_dues_lapsed p clock part listed.content) refl second.0 second.1)),
   λ clean. by clean (first.1 (found.1.0.clean (second.1.clean clean))),
 )
   where
@@ -42,16 +48,20 @@ settled p moment at_most clock count due part old moved listed new first found c
     u : ℕ
     u = max moment s.clock
 
-    by : new.is_clean ≡ true → HasMoved moment s moved.content.registry clock → IsSettlement p moment at_most s new.content.registry count
+    by : new.is_clean ≡ true → HasMoved moment s moved.content.registry clock
+        → IsSettlement p moment at_most s new.content.registry count
     by clean is =
-        let due-is : due ≡ due_by p u s = found.1.1 (second.1.clean clean) ∙ (λ i. due_by p (is.told i) (is.left i)) in
+        let due-is : due ≡ due_by p u s = found.1.1 (second.1.clean clean)
+        ∙ (λ i. due_by p (is.told i) (is.left i)) in
         let part-is : part ≡ take at_most (due_by p u s) = cut ∙ ap (take at_most) due-is in
         let left : new.content.registry ≡ dues_lapsed p u (take at_most (due_by p u s)) (at u s) =
         ap (λ (held : Stored). held.registry) (second.0.content clean)
-        ∙ (λ i. dues_lapsed p (is.told i) (part-is i) (found.0.content (second.1.clean clean) i).registry)
+        ∙ (λ i. dues_lapsed p (is.told i) (part-is i)
+        (found.0.content (second.1.clean clean) i).registry)
         ∙ ap (dues_lapsed p u (take at_most (due_by p u s))) is.left in
         record {
           counted = counted ∙ ap (λ (ds : List Due). min at_most (length ds)) due-is;
           left = left;
-          unnoticed = ap (now p) left ∙ some-lapsed p u (take at_most (due_by p u s)) (at u s) refl ∙ same-lapse p u s;
+          unnoticed = ap (now p) left ∙ some-lapsed p u (take at_most (due_by p u s)) (at u s) refl
+              ∙ same-lapse p u s;
         }

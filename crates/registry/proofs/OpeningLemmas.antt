@@ -42,7 +42,8 @@ is_others old new same closed found = record {
   other = λ clean. sym (found clean);
 }
 
-opens_later : (p : PolicyRules) (old mid new : BookState) → BookReads old mid → Follows mid new → Opens p mid new → Opens p old new
+opens_later : (p : PolicyRules) (old mid new : BookState) → BookReads old mid → Follows mid new
+    → Opens p mid new → Opens p old new
 opens_later p old mid new same then opens = record {
   counted = opens.counted ∙ same.counted;
   closed = opens.closed;
@@ -50,7 +51,9 @@ opens_later p old mid new same then opens = record {
   fits = λ clean. sym (ap (goes_on (terms_of p)) (same.content (then.clean clean))) ∙ opens.fits clean;
 }
 
-refuses_later : (fault : OpenFault) (p : PolicyRules) (old mid new : BookState) → old.is_open ≡ false → BookReads old mid → Follows mid new → Refuses fault p mid new → fault ≢ refusals.Schema → Refuses fault p old new
+refuses_later : (fault : OpenFault) (p : PolicyRules) (old mid new : BookState)
+    → old.is_open ≡ false → BookReads old mid → Follows mid new → Refuses fault p mid new
+    → fault ≢ refusals.Schema → Refuses fault p old new
 refuses_later refusals.Policy p old mid new closed same then refused other = record {
   back = back-later old mid new same then closed refused.back;
   differs = λ clean. sym (ap (goes_on (terms_of p)) (same.content (then.clean clean))) ∙ refused.differs clean;
@@ -60,22 +63,29 @@ refuses_later refusals.Memory p old mid new closed same then refused other = (ba
 refuses_later refusals.Store p old mid new closed same then refused other =
     (back-later old mid new same then closed refused.0, subst (λ n. (n < new.refused) ⊎ (new.refused ≡ 0xFFFF_FFFF_FFFF_FFFF)) same.counted refused.1)
 
-is_ours : (ready : Ready) (old mid new : BookState) → ready ≢ Other → (mid.is_clean ≡ true → ready ≡ old.readiness) → Follows mid new → IsOurs old new
+is_ours : (ready : Ready) (old mid new : BookState) → ready ≢ Other
+    → (mid.is_clean ≡ true → ready ≡ old.readiness) → Follows mid new → IsOurs old new
 is_ours ready old mid new differs found then clean other = differs (found (then.clean clean) ∙ other)
 
-refuses_ours : (fault : OpenFault) (old new : BookState) → IsOurs old new → RefusesOurs fault old new
+refuses_ours : (fault : OpenFault) (old new : BookState) → IsOurs old new
+    → RefusesOurs fault old new
 refuses_ours refusals.Policy old new ours = ours
 refuses_ours refusals.Schema old new ours = tt
 refuses_ours refusals.Memory old new ours = tt
 refuses_ours refusals.Store old new ours = tt
 
 -- what is seen first is whether it is ours
-pub opens_after : {A : Type 0} (result : Result A OpenFault) (ready : Ready) (p : PolicyRules) (old mid new : BookState)
-    → old.is_open ≡ false → ready ≢ Other → BookFinds (Ok ready) old.readiness old mid → OpensOurs result p mid new → OpensAny result p old new
+pub opens_after : {A : Type 0} (result : Result A OpenFault) (ready : Ready) (p : PolicyRules)
+    (old mid new : BookState)
+    → old.is_open ≡ false → ready ≢ Other → BookFinds (Ok ready) old.readiness old mid
+    → OpensOurs result p mid new → OpensAny result p old new
 opens_after (Ok it) ready p old mid new closed ours looked opens =
     let follows : Follows old mid = begun old mid looked.0.counted looked.1.0 in (
       opens_later p old mid new looked.0 opens.1.1 opens.0,
-      (is_ours ready old mid new ours looked.1.1 opens.1.1, (opens.1.0, follows-on old mid new follows opens.1.1)),
+      (
+        is_ours ready old mid new ours looked.1.1 opens.1.1,
+        (opens.1.0, follows-on old mid new follows opens.1.1),
+      ),
     )
 opens_after (Err fault) ready p old mid new closed ours looked refused =
     let follows : Follows old mid = begun old mid looked.0.counted looked.1.0 in
@@ -83,6 +93,7 @@ opens_after (Err fault) ready p old mid new closed ours looked refused =
     record {
       refuses = refuses_later fault p old mid new closed looked.0 then refused.0 refused.1.0;
       ours = refuses_ours fault old new (is_ours ready old mid new ours looked.1.1 then);
-      crash = refused_later fault p old mid new follows looked.1.0.leaves looked.0.content refused.1.1.0;
+      crash = refused_later fault p old mid new follows looked.1.0.leaves looked.0.content
+          refused.1.1.0;
       follows = follows-on old mid new follows then;
     }

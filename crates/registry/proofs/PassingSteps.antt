@@ -40,139 +40,212 @@ use Rattle.model.specs.DueBy.{due_by}
 -- ---- of a registry
 
 -- the registry of a moment is what it is by then
-pub now-lapsed : (p : PolicyRules) (moment : ℕ) (s : Registry) → now p (lapsed p moment s) ≡ lapsed p moment s
+pub now-lapsed : (p : PolicyRules) (moment : ℕ) (s : Registry)
+    → now p (lapsed p moment s) ≡ lapsed p moment s
 now-lapsed p moment s = lapses-on p (max moment s.clock) (max moment s.clock) (omega arith) s
 
 later : (moment before after : ℕ) → after ≡ max moment before → max moment after ≡ after
 later moment before after e = omega (arith, e)
 
 -- a registry that is now what another was at a moment is at that moment what the other is
-pub same_then : (p : PolicyRules) (moment : ℕ) (before after : Registry) → now p after ≡ now p (lapsed p moment before) → lapsed p moment after ≡ lapsed p moment before
+pub same_then : (p : PolicyRules) (moment : ℕ) (before after : Registry)
+    → now p after ≡ now p (lapsed p moment before) → lapsed p moment after ≡ lapsed p moment before
 same_then p moment before after left =
     let clock : after.clock ≡ max moment before.clock = ap (λ (s : Registry). s.clock) left in
-    ap (λ (u : ℕ). lapse p u after) (later moment before.clock after.clock clock) ∙ left ∙ now-lapsed p moment before
+    ap (λ (u : ℕ). lapse p u after) (later moment before.clock after.clock clock) ∙ left
+    ∙ now-lapsed p moment before
 
 module _ (p : PolicyRules) (moment : ℕ) (before : Registry) where
   abbrev u : ℕ
   u = max moment before.clock
 
   -- what concerns the registrar and the names has lapsed
-  passed-for : (r : Option ℕ) (g : Names) → IsPassed p (concerning r g) moment before (dues_lapsed p u (due_for p r g u (at u before)) (at u before)) u
+  passed-for : (r : Option ℕ) (g : Names)
+      → IsPassed p (concerning r g) moment before
+      (dues_lapsed p u (due_for p r g u (at u before)) (at u before)) u
   passed-for r g =
       let asked : List Due = due_for p r g u (at u before) in
       record {
         told = refl;
         clock = ap (λ (s : Registry). s.clock) (each-as-some p u asked (at u before));
-        settled = subst (λ (s : Registry). IsSettledIn p (concerned r g s) s) (sym (each-as-some p u asked (at u before))) (caught-up p r g u (among (objects_of asked)) (at u before) (has-concerned p r g u (at u before)));
+        settled = subst (λ (s : Registry). IsSettledIn p (concerned r g s) s)
+            (sym (each-as-some p u asked (at u before)))
+            (caught-up p r g u (among (objects_of asked)) (at u before)
+            (has-concerned p r g u (at u before)));
         future = some-lapsed p u asked (at u before) refl ∙ same-lapse p u before;
       }
 
   -- or all that is due has
-  passed-all : (after : Registry) → after ≡ lapsed p moment before → IsPassed p everything moment before after u
+  passed-all : (after : Registry) → after ≡ lapsed p moment before
+      → IsPassed p everything moment before after u
   passed-all after is =
-      let future : now p after ≡ lapsed p moment before = ap (now p) is ∙ now-lapsed p moment before in
-      record { told = refl; clock = ap (λ (s : Registry). s.clock) is; settled = future ∙ sym is; future = future }
+      let future : now p after ≡ lapsed p moment before = ap (now p) is
+      ∙ now-lapsed p moment before in
+      record {
+        told = refl;
+        clock = ap (λ (s : Registry). s.clock) is;
+        settled = future
+            ∙ sym is;
+        future = future;
+      }
 
-  passed : (what : Extent) → IsPassed p what moment before (dues_lapsed p u (due_in p what u (at u before)) (at u before)) u
-  passed nothing = record { told = refl; clock = refl; settled = nothing-due p (at u before); future = same-lapse p u before }
+  passed : (what : Extent)
+      → IsPassed p what moment before
+      (dues_lapsed p u (due_in p what u (at u before)) (at u before)) u
+  passed nothing = record {
+    told = refl;
+    clock = refl;
+    settled = nothing-due p (at u before);
+    future = same-lapse p u
+        before;
+  }
   passed (concerning r g) = passed-for r g
-  passed everything = passed-all (dues_lapsed p u (due_by p u (at u before)) (at u before)) (all-lapsed p u (at u before) refl ∙ same-lapse p u before)
+  passed everything = passed-all (dues_lapsed p u (due_by p u (at u before)) (at u before))
+      (all-lapsed p u (at u before) refl ∙ same-lapse p u before)
 
 -- and where the clock stands there, it has lapsed without its moving
-passed-there : (p : PolicyRules) (what : Extent) (t : ℕ) (s : Registry) → s.clock ≡ t → IsPassed p what t s (dues_lapsed p t (due_in p what t s) s) (max t s.clock)
+passed-there : (p : PolicyRules) (what : Extent) (t : ℕ) (s : Registry) → s.clock ≡ t
+    → IsPassed p what t s (dues_lapsed p t (due_in p what t s) s) (max t s.clock)
 passed-there p what t s stands =
     let same : max t s.clock ≡ t = omega (arith, stands) in
     let there : at t s ≡ s = ap (λ (u : ℕ). at u s) (sym stands) in
     subst (λ (after : Registry). IsPassed p what t s after (max t s.clock))
-    ((λ i. dues_lapsed p (same i) (due_in p what (same i) (at (same i) s)) (at (same i) s)) ∙ (λ i. dues_lapsed p t (due_in p what t (there i)) (there i)))
+    ((λ i. dues_lapsed p (same i) (due_in p what (same i) (at (same i) s)) (at (same i) s))
+    ∙ (λ i. dues_lapsed p t (due_in p what t (there i)) (there i)))
     (passed p t s what)
 
 -- ---- of a book
 
 -- what is asked for lapses where the clock stands
-pub catches-up : (p : PolicyRules) (what : Extent) (t : ℕ) (old new : BookState) → (old.is_clean ≡ true → old.content.registry.clock ≡ t)
-    → BookWrites old new (with_dues_lapsed p t (due_in p what t old.content.registry) old.content) × BookStays old new
-    → new.is_clean ≡ true → IsPassed p what t old.content.registry new.content.registry (max t old.content.registry.clock)
+pub catches-up : (p : PolicyRules) (what : Extent) (t : ℕ) (old new : BookState)
+    → (old.is_clean ≡ true → old.content.registry.clock ≡ t)
+    → BookWrites old new (with_dues_lapsed p t (due_in p what t old.content.registry) old.content)
+    × BookStays old new
+    → new.is_clean ≡ true
+    → IsPassed p what t old.content.registry new.content.registry (max t old.content.registry.clock)
 catches-up p what t old new stands lapses clean =
-    subst (λ (after : Registry). IsPassed p what t old.content.registry after (max t old.content.registry.clock)) (sym (ap (λ (held : Stored). held.registry) (lapses.0.content clean)))
+    subst (λ (after : Registry). IsPassed p what t old.content.registry after
+    (max t old.content.registry.clock)) (sym
+    (ap (λ (held : Stored). held.registry) (lapses.0.content clean)))
     (passed-there p what t old.content.registry (stands (lapses.1.clean clean)))
 
 -- where the clock has moved, and it lapses there, time passes
 pub passes : (p : PolicyRules) (what : Extent) (moment clock : ℕ) (old mid new : BookState)
-    → IsWithin old mid × (mid.is_clean ≡ true → HasMoved moment old.content.registry mid.content.registry clock)
-    → BookWrites mid new (with_dues_lapsed p clock (due_in p what clock mid.content.registry) mid.content) × BookStays mid new
-    → IsWithin old new × (new.is_clean ≡ true → IsPassed p what moment old.content.registry new.content.registry clock)
+    → IsWithin old mid × (mid.is_clean ≡ true
+    → HasMoved moment old.content.registry mid.content.registry clock)
+    → BookWrites mid new (with_dues_lapsed p clock (due_in p what clock mid.content.registry)
+    mid.content) × BookStays mid new
+    → IsWithin old new × (new.is_clean ≡ true
+    → IsPassed p what moment old.content.registry new.content.registry clock)
 passes p what moment clock old mid new moved lapses = (
-  within-on old mid new moved.0 (written mid new (with_dues_lapsed p clock (due_in p what clock mid.content.registry) mid.content) refl lapses.0 lapses.1),
+  within-on old mid new moved.0
+      (written mid new (with_dues_lapsed p clock (due_in p what clock mid.content.registry)
+      mid.content) refl lapses.0 lapses.1),
   λ clean. by clean (moved.1 (lapses.1.clean clean)),
 )
   where
     s : Registry
     s = old.content.registry
 
-    by : new.is_clean ≡ true → HasMoved moment s mid.content.registry clock → IsPassed p what moment s new.content.registry clock
+    by : new.is_clean ≡ true → HasMoved moment s mid.content.registry clock
+        → IsPassed p what moment s new.content.registry clock
     by clean is =
-        let left : new.content.registry ≡ dues_lapsed p (max moment s.clock) (due_in p what (max moment s.clock) (at (max moment s.clock) s)) (at (max moment s.clock) s) =
-        ap (λ (held : Stored). held.registry) (lapses.0.content clean) ∙ (λ i. dues_lapsed p (is.told i) (due_in p what (is.told i) (is.left i)) (is.left i)) in
+        let left : new.content.registry ≡ dues_lapsed p (max moment s.clock)
+        (due_in p what (max moment s.clock) (at (max moment s.clock) s))
+        (at (max moment s.clock) s) =
+        ap (λ (held : Stored). held.registry) (lapses.0.content clean)
+        ∙ (λ i. dues_lapsed p (is.told i) (due_in p what (is.told i) (is.left i)) (is.left i))
+        in
         subst (λ (after : Registry). IsPassed p what moment s after clock) (sym left)
-        (subst (λ (date : ℕ). IsPassed p what moment s (dues_lapsed p (max moment s.clock) (due_in p what (max moment s.clock) (at (max moment s.clock) s)) (at (max moment s.clock) s)) date) (sym is.told)
+        (subst (λ (date : ℕ). IsPassed p what moment s
+        (dues_lapsed p (max moment s.clock)
+        (due_in p what (max moment s.clock) (at (max moment s.clock) s))
+        (at (max moment s.clock) s)) date) (sym is.told)
         (passed p moment s what))
 
 -- ---- commands
 
-pub executed : (p : PolicyRules) (r : ℕ) (c : Command) (moment clock : ℕ) (prepared : Prepared) (reply : Reply) (before mid looked after : Registry)
-    → IsPassed p (concerning (Some r) (named_by c)) moment before mid clock → looked ≡ mid → IsPrepared p r c clock (facts p r c mid) prepared
-    → IsMade p prepared.changes prepared.reply looked after reply → IsStep p r c moment before after reply
+pub executed : (p : PolicyRules) (r : ℕ) (c : Command) (moment clock : ℕ) (prepared : Prepared)
+    (reply : Reply) (before mid looked after : Registry)
+    → IsPassed p (concerning (Some r) (named_by c)) moment before mid clock → looked ≡ mid
+    → IsPrepared p r c clock (facts p r c mid) prepared
+    → IsMade p prepared.changes prepared.reply looked after reply
+    → IsStep p r c moment before after reply
 executed p r c moment clock prepared reply before mid looked after is same by made =
     let clock-is : clock ≡ mid.clock = is.told ∙ sym is.clock in
     let told : reply ≡ answer p r c mid =
-    made.told ∙ by.reply ∙ ap (λ (t : ℕ). reply_of p r c (decided p r t c (facts p r c mid)).verdict (account_of r mid).commands) clock-is in
+    made.told ∙ by.reply ∙ ap
+    (λ (t : ℕ). reply_of p r c (decided p r t c (facts p r c mid)).verdict
+    (account_of r mid).commands) clock-is in
     let left : after ≡ effect p r c mid =
-    made.left ∙ (λ i. changed_all p (by.changes i) (same i)) ∙ ap (λ (t : ℕ). changed_all p (decided p r t c (facts p r c mid)).changes mid) clock-is in
+    made.left ∙ (λ i. changed_all p (by.changes i) (same i))
+    ∙ ap (λ (t : ℕ). changed_all p (decided p r t c (facts p r c mid)).changes mid) clock-is in
     record {
       answered = told ∙ sym (answer-now p r c mid is.settled) ∙ ap (answer p r c) is.future;
-      left = ap (now p) left ∙ effect-now p r c mid is.settled ∙ ap (λ (s : Registry). now p (effect p r c s)) is.future;
+      left = ap (now p) left ∙ effect-now p r c mid is.settled
+          ∙ ap (λ (s : Registry). now p (effect p r c s)) is.future;
     }
 
 -- ---- orders
 
-settled-for : (p : PolicyRules) (kind : ObjectKind) (name : Option (List ℕ)) (u : Registry) → IsSettledAs p (about_named kind name) u → IsSettledFor p kind name u
+settled-for : (p : PolicyRules) (kind : ObjectKind) (name : Option (List ℕ)) (u : Registry)
+    → IsSettledAs p (about_named kind name) u → IsSettledFor p kind name u
 settled-for p kind None u is = is
 settled-for p kind (Some name) u is = is
 
-pub ordered : (p : PolicyRules) (o : StatusOrder) (moment clock : ℕ) (name : Option (List ℕ)) (before mid after : Registry) (code : Code)
-    → name ≡ name_ordered p.zone o → IsPassed p (about_named o.kind name) moment before mid clock → IsCarriedOut p (status_at o name mid) mid after code
+pub ordered : (p : PolicyRules) (o : StatusOrder) (moment clock : ℕ) (name : Option (List ℕ))
+    (before mid after : Registry) (code : Code)
+    → name ≡ name_ordered p.zone o → IsPassed p (about_named o.kind name) moment before mid clock
+    → IsCarriedOut p (status_at o name mid) mid after code
     → IsOrderStep p (orders.Status o) moment before after code
 ordered p o moment clock name before mid after code named is made =
-    let settled : IsSettledFor p o.kind (name_ordered p.zone o) mid = subst (λ (n : Option (List ℕ)). IsSettledFor p o.kind n mid) named (settled-for p o.kind name mid is.settled) in
+    let settled : IsSettledFor p o.kind (name_ordered p.zone o) mid = subst
+    (λ (n : Option (List ℕ)). IsSettledFor p o.kind n mid) named
+    (settled-for p o.kind name mid is.settled) in
     record {
-      answered = made.told ∙ ap (λ (n : Option (List ℕ)). (status_at o n mid).code) named ∙ sym (status-answer-now p o mid settled) ∙ ap (order_answer p (orders.Status o)) is.future;
-      left = ap (now p) (made.left ∙ ap (λ (n : Option (List ℕ)). changed_all p (status_at o n mid).changes mid) named)
-          ∙ status-effect-now p o mid settled ∙ ap (λ (u : Registry). now p (order_effect p (orders.Status o) u)) is.future;
+      answered = made.told ∙ ap (λ (n : Option (List ℕ)). (status_at o n mid).code) named
+          ∙ sym (status-answer-now p o mid settled)
+          ∙ ap (order_answer p (orders.Status o)) is.future;
+      left = ap (now p) (made.left
+          ∙ ap (λ (n : Option (List ℕ)). changed_all p (status_at o n mid).changes mid) named)
+          ∙ status-effect-now p o mid settled
+          ∙ ap (λ (u : Registry). now p (order_effect p (orders.Status o) u)) is.future;
     }
 
-pub deposited : (p : PolicyRules) (id : List ℕ) (cents : ℤ) (moment clock : ℕ) (before mid after : Registry) (code : Code)
-    → IsPassed p nothing moment before mid clock → IsCarriedOut p (deposit_decision p clock id cents) mid after code → IsOrderStep p (orders.Deposit id cents) moment before after code
+pub deposited : (p : PolicyRules) (id : List ℕ) (cents : ℤ) (moment clock : ℕ)
+    (before mid after : Registry) (code : Code)
+    → IsPassed p nothing moment before mid clock
+    → IsCarriedOut p (deposit_decision p clock id cents) mid after code
+    → IsOrderStep p (orders.Deposit id cents) moment before after code
 deposited p id cents moment clock before mid after code is made = record {
   answered = made.told ∙ ap (λ (t : ℕ). (deposit_decision p t id cents).code) is.told;
-  left = ap (now p) (made.left ∙ ap (λ (t : ℕ). changed_all p (deposit_decision p t id cents).changes mid) (is.told ∙ sym is.clock))
-      ∙ deposit-effect-now p mid id cents ∙ ap (λ (u : Registry). now p (order_effect p (orders.Deposit id cents) u)) is.future;
+  left = ap (now p) (made.left
+      ∙ ap (λ (t : ℕ). changed_all p (deposit_decision p t id cents).changes mid)
+      (is.told ∙ sym is.clock))
+      ∙ deposit-effect-now p mid id cents
+      ∙ ap (λ (u : Registry). now p (order_effect p (orders.Deposit id cents) u)) is.future;
 }
 
 -- ---- hello
 
-pub greets : (p : PolicyRules) (moment date : ℕ) (before after : Registry) → IsPassed p nothing moment before after date → IsGreetingStep p moment before after date
-greets p moment date before after is = record { dated = is.told; left = is.future ∙ sym (now-lapsed p moment before) }
+pub greets : (p : PolicyRules) (moment date : ℕ) (before after : Registry)
+    → IsPassed p nothing moment before after date → IsGreetingStep p moment before after date
+greets p moment date before after is = record
+    { dated = is.told; left = is.future ∙ sym (now-lapsed p moment before) }
 
 -- ---- look-ups
 
-module _ {X : Type 0} (p : PolicyRules) (find : Registry → X) (what : Extent) (moment clock : ℕ) (before mid : Registry) (is : IsPassed p what moment before mid clock) where
+module _ {X : Type 0} (p : PolicyRules) (find : Registry → X) (what : Extent) (moment clock : ℕ)
+    (before mid : Registry) (is : IsPassed p what moment before mid clock) where
   pub looked-up : find (now p mid) ≡ find mid → IsLookUp p find moment before mid (find mid)
-  looked-up stands = record { told = sym stands ∙ ap find is.future; left = is.future ∙ sym (now-lapsed p moment before) }
+  looked-up stands = record
+      { told = sym stands ∙ ap find is.future; left = is.future ∙ sym (now-lapsed p moment before) }
 
   -- where the clock was moved before: both moments are the clock's
-  pub then-looked-up : (after : Registry) (found : X) → IsLookUp p find clock mid after found → IsLookUp p find moment before after found
+  pub then-looked-up : (after : Registry) (found : X) → IsLookUp p find clock mid after found
+      → IsLookUp p find moment before after found
   then-looked-up after found step =
       let late : max clock mid.clock ≡ mid.clock = omega (arith, is.told, is.clock) in
-      let same : lapsed p clock mid ≡ lapsed p moment before = ap (λ (u : ℕ). lapse p u mid) late ∙ is.future in
+      let same : lapsed p clock mid ≡ lapsed p moment before = ap (λ (u : ℕ). lapse p u mid) late
+      ∙ is.future in
       record { told = step.told ∙ ap find same; left = step.left ∙ ap (now p) same }

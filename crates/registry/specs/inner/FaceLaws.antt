@@ -1,4 +1,4 @@
--- What is looked up is the same whether all that is due has lapsed, or what lapses before the look-up.
+-- What is looked up is the same whether all that is due has lapsed, or only what lapses before.
 use Rattle.std.proofs.Common.{◌≡◌, ℕ, List, [], ◌∷◌, Option, Some, None, option_and_then, option_map, refl, ap, ◌∙◌}
 use Rattle.std.specs.FinMap.{get}
 use Rattle.accounts.specs.declared.account.Account.{Account}
@@ -45,8 +45,11 @@ module _ (p : PolicyRules) (name : List ℕ) (u : Registry) where
   pub addresses-now : host_addresses_at (now p u) name ≡ host_addresses_at u name
   addresses-now = refl
 
-pub names-now : (p : PolicyRules) (u : Registry) → now p u ≡ u → domain_names (now p u) ≡ domain_names u
+pub names-now : (p : PolicyRules) (u : Registry) → now p u ≡ u
+    → domain_names (now p u) ≡ domain_names u
 names-now p u is = ap domain_names is
 
-pub lines-now : (p : PolicyRules) (r : ℕ) (u : Registry) → IsSettledIn p (concerned (Some r) (named_by balance_command) u) u → (account_of r (now p u)).lines ≡ (account_of r u).lines
+pub lines-now : (p : PolicyRules) (r : ℕ) (u : Registry)
+    → IsSettledIn p (concerned (Some r) (named_by balance_command) u) u
+    → (account_of r (now p u)).lines ≡ (account_of r u).lines
 lines-now p r u is = ap (λ (a : Account). a.lines) (account-now p r balance_command u is)

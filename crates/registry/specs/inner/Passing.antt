@@ -1,4 +1,4 @@
--- How time passes in a registry, where what somebody asks for lapses and all else stays behind the clock.
+-- How time passes in a registry: what somebody asks for lapses, and all else stays behind the clock.
 use Rattle.std.specs.Prelude.{◌≡◌, ℕ, max, List, [], Option, Some, None, option_and_then}
 use Rattle.concerns.specs.declared.given.Names.{Names}
 use Rattle.concerns.specs.Concerns.{IsSettledIn, concerned}
@@ -59,9 +59,10 @@ abbrev pub IsAsNow : {X : Type 0} → Extent → (PolicyRules → Registry → X
 IsAsNow what find =
     (p : PolicyRules) (s : Registry) → IsSettledAs p what s → find p (now p s) ≡ find p s
 
--- The clock stands at the moment and is told, nothing of what lapses is due, and what the registry is now
--- is its lapse.
-pub record IsPassed (p : PolicyRules) (what : Extent) (moment : ℕ) (before after : Registry) (date : ℕ) : Type 0 where
+-- The clock stands at the moment and is told, nothing of what lapses is due, and what the registry is
+-- now is its lapse.
+pub record IsPassed (p : PolicyRules) (what : Extent) (moment : ℕ) (before after : Registry)
+    (date : ℕ) : Type 0 where
   pub told : date ≡ max moment before.clock
   pub clock : after.clock ≡ max moment before.clock
   pub settled : IsSettledAs p what after

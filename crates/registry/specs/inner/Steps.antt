@@ -31,12 +31,15 @@ Does (Ok it) is old new = is it
 Does (Err fault) is old new = WentBack fault old new
 
 -- a question of which this is true of the answer; nothing is changed
-abbrev pub FindsSome : {A : Type 0} → Result A BookFault → (A → Type 0) → BookState → BookState → Type 0
-FindsSome (Ok it) is old new = BookReads old new × (BookStays old new × (new.is_clean ≡ true → is it))
+abbrev pub FindsSome : {A : Type 0} → Result A BookFault → (A → Type 0) → BookState → BookState
+    → Type 0
+FindsSome (Ok it) is old new = BookReads old new
+    × (BookStays old new × (new.is_clean ≡ true → is it))
 FindsSome (Err fault) is old new = WentBack fault old new
 
 -- the registry takes this step, with its answer
-abbrev pub Works : {A : Type 0} → Result A BookFault → (Registry → Registry → A → Type 0) → BookState
+abbrev pub Works : {A : Type 0} → Result A BookFault → (Registry → Registry → A → Type 0)
+    → BookState
     → BookState → Type 0
 Works (Ok it) step old new =
     IsWithin old new
@@ -50,8 +53,10 @@ pub record IsOver (old new : BookState) : Type 0 where
   pub terms : SameTerms old new
   pub alone : LeavesItself new
 
--- A step was taken and kept. Where it gave up the book went back, but a crash may leave what the step makes.
-abbrev pub Keeps : {A : Type 0} → Result A BookFault → (Registry → Registry → A → Type 0) → BookState
+-- A step was taken and kept. Where it gave up the book went back, but a crash may leave what the step
+-- makes.
+abbrev pub Keeps : {A : Type 0} → Result A BookFault → (Registry → Registry → A → Type 0)
+    → BookState
     → BookState → Type 0
 Keeps (Ok it) step old new =
     IsOver old new × (new.is_clean ≡ true → step old.content.registry new.content.registry it)
@@ -67,13 +72,15 @@ pub record HasMoved (moment : ℕ) (before after : Registry) (clock : ℕ) : Typ
   pub left : after ≡ at (max moment before.clock) before
 
 -- These changes are made, and this is told.
-pub record IsMade {A : Type 0} (p : PolicyRules) (changes : List Change) (answer : A) (before after : Registry) (it : A) : Type 0 where
+pub record IsMade {A : Type 0} (p : PolicyRules) (changes : List Change) (answer : A)
+    (before after : Registry) (it : A) : Type 0 where
   pub told : it ≡ answer
   pub left : after ≡ changed_all p changes before
 
 -- a decision on an order is carried out
 abbrev pub IsCarriedOut : PolicyRules → OrderDecision → Registry → Registry → Code → Type 0
-IsCarriedOut p decision before after code = IsMade p decision.changes decision.code before after code
+IsCarriedOut p decision before after code = IsMade p decision.changes decision.code before after
+    code
 
 -- ---- an opening
 
@@ -90,14 +97,16 @@ TakesUp (Ok false) p old new = DoesNotFit p old new × (Follows old new × Leave
 TakesUp (Err fault) p old new = WentBack fault old new
 
 -- A book that is known to be ours is opened, and a crash leaves what is held; or it was refused.
-abbrev pub OpensOurs : {A : Type 0} → Result A OpenFault → PolicyRules → BookState → BookState → Type 0
+abbrev pub OpensOurs : {A : Type 0} → Result A OpenFault → PolicyRules → BookState → BookState
+    → Type 0
 OpensOurs (Ok it) p old new = Opens p old new × (LeavesItself new × Follows old new)
 OpensOurs (Err fault) p old new =
     Refuses fault p old new
     × ((fault ≢ refusals.Schema) × (RefusedTo fault p old new × Follows old new))
 
 -- the same of any book
-abbrev pub OpensAny : {A : Type 0} → Result A OpenFault → PolicyRules → BookState → BookState → Type 0
+abbrev pub OpensAny : {A : Type 0} → Result A OpenFault → PolicyRules → BookState → BookState
+    → Type 0
 OpensAny (Ok it) p old new =
     Opens p old new × (IsOurs old new × (LeavesItself new × Follows old new))
 OpensAny (Err fault) p old new = IsRefused fault p old new

@@ -20,8 +20,12 @@ returns g c =
     let lapses = c.in_ok-catch_up.ensures in
     let what = about kinds.Domain name in
     let find = λ (s : Registry). domain_face_at p s name in
-    finds-then c.domain_face.result (find mid.content.registry) (IsLookUp p find moment) old mid (g.B.Book.state c.domain_face.new.self) c.requires.opened (written old mid (with_dues_lapsed p moment (due_in p what moment old.content.registry) old.content) refl lapses.0 lapses.1)
+    finds-then c.domain_face.result (find mid.content.registry) (IsLookUp p find moment) old mid
+    (g.B.Book.state c.domain_face.new.self) c.requires.opened
+    (written old mid (with_dues_lapsed p moment (due_in p what moment old.content.registry)
+    old.content) refl lapses.0 lapses.1)
     (λ clean.
     let is = catches-up p what moment old mid c.requires.clock lapses clean in
-    looked-up p find what moment (max moment old.content.registry.clock) old.content.registry mid.content.registry is (domain-face-now p name mid.content.registry is.settled))
+    looked-up p find what moment (max moment old.content.registry.clock) old.content.registry
+    mid.content.registry is (domain-face-now p name mid.content.registry is.settled))
     c.domain_face.ensures

@@ -18,6 +18,10 @@ returns g c =
     let mid = g.B.Book.state c.pass.new.book in
     let new = g.B.Book.state c.deposit.new.book in
     let paid : to_z w64 (of_z w64 c.args.cents) ≡ c.args.cents = omega (arith, ints) in
-    works-then c.deposit.result (IsCarriedOut p (deposit_decision p now id c.args.cents)) (IsOrderStep p (orders.Deposit id c.args.cents) c.args.moment) old mid new
-    c.requires c.in_ok-now.ensures.0 (λ clean after code. deposited p id c.args.cents c.args.moment now old.content.registry mid.content.registry after code (c.in_ok-now.ensures.1 clean))
-    (subst (λ (cents : ℤ). Works c.deposit.result (IsCarriedOut p (deposit_decision p now id cents)) mid new) paid c.deposit.ensures)
+    works-then c.deposit.result (IsCarriedOut p (deposit_decision p now id c.args.cents))
+    (IsOrderStep p (orders.Deposit id c.args.cents) c.args.moment) old mid new
+    c.requires c.in_ok-now.ensures.0
+    (λ clean after code. deposited p id c.args.cents c.args.moment now old.content.registry
+    mid.content.registry after code (c.in_ok-now.ensures.1 clean))
+    (subst (λ (cents : ℤ). Works c.deposit.result (IsCarriedOut p (deposit_decision p now id cents))
+    mid new) paid c.deposit.ensures)

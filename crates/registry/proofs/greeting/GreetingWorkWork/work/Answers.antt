@@ -9,4 +9,6 @@ returns g c =
     let p = c.args.policy.now in
     let moment = c.args.self.now.moment in
     let old = g.B.Book.state c.args.book.now in
-    works-as c.pass.result (IsPassed p nothing moment) (IsGreetingStep p moment) old (g.B.Book.state c.pass.new.book) (λ after date. greets p moment date old.content.registry after) c.pass.ensures
+    works-as c.pass.result (IsPassed p nothing moment) (IsGreetingStep p moment) old
+    (g.B.Book.state c.pass.new.book)
+    (λ after date. greets p moment date old.content.registry after) c.pass.ensures

@@ -14,14 +14,17 @@ returns-in-Ok-clause-opened g c =
       opens = c.in-Ok.ensures.0;
       ours = c.in-Ok.ensures.1.0;
       well_formed = opens-kept c.args.policy old new c.in-Ok.ensures.0;
-      reopens = reopened c.args.policy new (λ clean. ap (λ (held : Stored). held.terms) (c.in-Ok.ensures.0.content clean));
+      reopens = reopened c.args.policy new
+          (λ clean. ap (λ (held : Stored). held.terms) (c.in-Ok.ensures.0.content clean));
       tells_alike = λ clean. alike-lists-tell-the-same c.args.policy new.content.registry;
       crash = c.in-Ok.ensures.1.1.0;
       follows = c.in-Ok.ensures.1.1.1;
     }
 
 pub returns-in-Ok-clause-lengths : goal.returns-in-Ok-clause-lengths
-returns-in-Ok-clause-lengths g c = opens-lengths c.args.policy (g.B.Book.state c.args.book) (g.B.Book.state c.open_in.new.book) c.in-Ok.ensures.0
+returns-in-Ok-clause-lengths g c = opens-lengths c.args.policy (g.B.Book.state c.args.book)
+    (g.B.Book.state c.open_in.new.book) c.in-Ok.ensures.0
 
 pub returns-in-Ok-clause-same : goal.returns-in-Ok-clause-same
-returns-in-Ok-clause-same g c = opens-same c.args.policy (g.B.Book.state c.args.book) (g.B.Book.state c.open_in.new.book) c.in-Ok.ensures.0
+returns-in-Ok-clause-same g c = opens-same c.args.policy (g.B.Book.state c.args.book)
+    (g.B.Book.state c.open_in.new.book) c.in-Ok.ensures.0

@@ -11,10 +11,14 @@ returns-in_err-begin-clause-keeps g c =
 
 pub returns-in-Ok-clause-keeps : goal.returns-in-Ok-clause-keeps
 returns-in-Ok-clause-keeps g c =
-    step_kept c.args.self.now.policy (g.W.Work.step c.args.work.now c.args.self.now.policy) c.in-Ok.answer
-    (g.B.Book.state c.args.self.now.book) (g.B.Book.state c.begin.new.self) (g.B.Book.state c.keep.new.book) c.in_ok-begin.ensures c.in-Ok.ensures
+    step_kept c.args.self.now.policy (g.W.Work.step c.args.work.now c.args.self.now.policy)
+    c.in-Ok.answer
+    (g.B.Book.state c.args.self.now.book) (g.B.Book.state c.begin.new.self)
+    (g.B.Book.state c.keep.new.book) c.in_ok-begin.ensures c.in-Ok.ensures
 
 pub returns-in-Err-clause-keeps : goal.returns-in-Err-clause-keeps
 returns-in-Err-clause-keeps g c =
-    rw c.from.ensures (step_went_back c.args.self.now.policy (g.W.Work.step c.args.work.now c.args.self.now.policy) c.in-Err.fault
-    (g.B.Book.state c.args.self.now.book) (g.B.Book.state c.begin.new.self) (g.B.Book.state c.keep.new.book) c.in_ok-begin.ensures c.in-Err.ensures)
+    rw c.from.ensures (step_went_back c.args.self.now.policy
+    (g.W.Work.step c.args.work.now c.args.self.now.policy) c.in-Err.fault
+    (g.B.Book.state c.args.self.now.book) (g.B.Book.state c.begin.new.self)
+    (g.B.Book.state c.keep.new.book) c.in_ok-begin.ensures c.in-Err.ensures)
