@@ -112,8 +112,7 @@ begun old mid counted stays = record { clean = stays.clean; counted = omega (ari
 
 -- a transaction was begun, and a step was taken in it and kept
 pub step_kept : {A : Type 0} (p : PolicyRules) (step : Registry → Registry → A → Type 0) (it : A)
-    (old mid new : BookState)
-    → BookStarts old mid × BookStays old mid → Keeps (Ok it) step mid new
+    (old mid new : BookState) → BookStarts old mid × BookStays old mid → Keeps (Ok it) step mid new
     → StepKeeps p (Makes step) (Ok it) p old new
 step_kept p step it old mid new begins keeps = record {
   policy = refl;
@@ -135,8 +134,7 @@ step_went_back p step fault old mid new begins keeps =
     record {
       policy = refl;
       follows = follows-on old mid new follows keeps.1.0;
-      crash =
-          (by fault left, keeps.1.1.1 ∙ begins.1.leaves.ready);
+      crash = (by fault left, keeps.1.1.1 ∙ begins.1.leaves.ready);
       terms = tt;
     }
   where

@@ -59,8 +59,7 @@ module _ {A U : Type 0} (step : Registry → Registry → A → Type 0) (it : A)
       closed = kept.0.closed;
       follows = record {
         clean = λ clean. within.stays.clean (kept.1.clean clean);
-        counted = omega
-            (arith, within.counted, kept.1.counted);
+        counted = omega (arith, within.counted, kept.1.counted);
       };
       terms = λ clean. ap (λ (held : Stored). held.terms) (kept.0.content clean)
           ∙ within.terms (kept.1.clean clean);
@@ -106,7 +105,7 @@ pub refused_later : (fault : OpenFault) (p : PolicyRules) (old mid new : BookSta
     → RefusedTo fault p mid new → RefusedTo fault p old new
 refused_later refusals.Policy p old mid new follows same content then = older old mid new same then
 refused_later refusals.Schema p old mid new follows same content then = older old mid new same then
-refused_later refusals.Memory p old mid new follows same content then = later (OpensTo p) old mid
-    new follows same content then
-refused_later refusals.Store p old mid new follows same content then = later (OpensTo p) old mid new
-    follows same content then
+refused_later refusals.Memory p old mid new follows same content then =
+    later (OpensTo p) old mid new follows same content then
+refused_later refusals.Store p old mid new follows same content then =
+    later (OpensTo p) old mid new follows same content then

@@ -27,8 +27,7 @@ same-lapse p u s = refl
 -- the clock has moved, and the first of what is due have lapsed
 pub settled : (p : PolicyRules) (moment at_most clock count : ℕ) (due part : List Due) (old moved listed new : BookState)
     → IsWithin old moved × (moved.is_clean ≡ true
-    → HasMoved moment old.content.registry moved.content.registry clock)
-    → BookReads moved listed
+    → HasMoved moment old.content.registry moved.content.registry clock) → BookReads moved listed
     × (BookStays moved listed
     × (listed.is_clean ≡ true → due ≡ due_by p clock moved.content.registry))
     → part ≡ take at_most due → count ≡ min at_most (length due)

@@ -60,8 +60,7 @@ module _ (p : PolicyRules) (moment : ℕ) (before : Registry) where
   u = max moment before.clock
 
   -- what concerns the registrar and the names has lapsed
-  passed-for : (r : Option ℕ) (g : Names)
-      → IsPassed p (concerning r g) moment before
+  passed-for : (r : Option ℕ) (g : Names) → IsPassed p (concerning r g) moment before
       (dues_lapsed p u (due_for p r g u (at u before)) (at u before)) u
   passed-for r g =
       let asked : List Due = due_for p r g u (at u before) in
@@ -84,20 +83,17 @@ module _ (p : PolicyRules) (moment : ℕ) (before : Registry) where
       record {
         told = refl;
         clock = ap (λ (s : Registry). s.clock) is;
-        settled = future
-            ∙ sym is;
+        settled = future ∙ sym is;
         future = future;
       }
 
-  passed : (what : Extent)
-      → IsPassed p what moment before
+  passed : (what : Extent) → IsPassed p what moment before
       (dues_lapsed p u (due_in p what u (at u before)) (at u before)) u
   passed nothing = record {
     told = refl;
     clock = refl;
     settled = nothing-due p (at u before);
-    future = same-lapse p u
-        before;
+    future = same-lapse p u before;
   }
   passed (concerning r g) = passed-for r g
   passed everything = passed-all (dues_lapsed p u (due_by p u (at u before)) (at u before))
@@ -120,8 +116,7 @@ passed-there p what t s stands =
 pub catches-up : (p : PolicyRules) (what : Extent) (t : ℕ) (old new : BookState)
     → (old.is_clean ≡ true → old.content.registry.clock ≡ t)
     → BookWrites old new (with_dues_lapsed p t (due_in p what t old.content.registry) old.content)
-    × BookStays old new
-    → new.is_clean ≡ true
+    × BookStays old new → new.is_clean ≡ true
     → IsPassed p what t old.content.registry new.content.registry (max t old.content.registry.clock)
 catches-up p what t old new stands lapses clean =
     subst (λ (after : Registry). IsPassed p what t old.content.registry after
@@ -134,8 +129,7 @@ pub passes : (p : PolicyRules) (what : Extent) (moment clock : ℕ) (old mid new
     → IsWithin old mid × (mid.is_clean ≡ true
     → HasMoved moment old.content.registry mid.content.registry clock)
     → BookWrites mid new (with_dues_lapsed p clock (due_in p what clock mid.content.registry)
-    mid.content) × BookStays mid new
-    → IsWithin old new × (new.is_clean ≡ true
+    mid.content) × BookStays mid new → IsWithin old new × (new.is_clean ≡ true
     → IsPassed p what moment old.content.registry new.content.registry clock)
 passes p what moment clock old mid new moved lapses = (
   within-on old mid new moved.0
@@ -213,16 +207,14 @@ ordered p o moment clock name before mid after code named is made =
     }
 
 pub deposited : (p : PolicyRules) (id : List ℕ) (cents : ℤ) (moment clock : ℕ)
-    (before mid after : Registry) (code : Code)
-    → IsPassed p nothing moment before mid clock
+    (before mid after : Registry) (code : Code) → IsPassed p nothing moment before mid clock
     → IsCarriedOut p (deposit_decision p clock id cents) mid after code
     → IsOrderStep p (orders.Deposit id cents) moment before after code
 deposited p id cents moment clock before mid after code is made = record {
   answered = made.told ∙ ap (λ (t : ℕ). (deposit_decision p t id cents).code) is.told;
   left = ap (now p) (made.left
       ∙ ap (λ (t : ℕ). changed_all p (deposit_decision p t id cents).changes mid)
-      (is.told ∙ sym is.clock))
-      ∙ deposit-effect-now p mid id cents
+      (is.told ∙ sym is.clock)) ∙ deposit-effect-now p mid id cents
       ∙ ap (λ (u : Registry). now p (order_effect p (orders.Deposit id cents) u)) is.future;
 }
 
@@ -230,16 +222,20 @@ deposited p id cents moment clock before mid after code is made = record {
 
 pub greets : (p : PolicyRules) (moment date : ℕ) (before after : Registry)
     → IsPassed p nothing moment before after date → IsGreetingStep p moment before after date
-greets p moment date before after is = record
-    { dated = is.told; left = is.future ∙ sym (now-lapsed p moment before) }
+greets p moment date before after is = record {
+  dated = is.told;
+  left = is.future ∙ sym (now-lapsed p moment before);
+}
 
 -- ---- look-ups
 
 module _ {X : Type 0} (p : PolicyRules) (find : Registry → X) (what : Extent) (moment clock : ℕ)
     (before mid : Registry) (is : IsPassed p what moment before mid clock) where
   pub looked-up : find (now p mid) ≡ find mid → IsLookUp p find moment before mid (find mid)
-  looked-up stands = record
-      { told = sym stands ∙ ap find is.future; left = is.future ∙ sym (now-lapsed p moment before) }
+  looked-up stands = record {
+    told = sym stands ∙ ap find is.future;
+    left = is.future ∙ sym (now-lapsed p moment before);
+  }
 
   -- where the clock was moved before: both moments are the clock's
   pub then-looked-up : (after : Registry) (found : X) → IsLookUp p find clock mid after found

@@ -12,8 +12,7 @@ stays-on old mid new first then = record {
   answers = λ was. then.answers (first.answers was);
   leaves = record {
     honest = λ honest. first.leaves.honest (then.leaves.honest honest);
-    same =
-        then.leaves.same ∙ first.leaves.same;
+    same = then.leaves.same ∙ first.leaves.same;
     ready = then.leaves.ready ∙ first.leaves.ready;
   };
 }
@@ -36,8 +35,7 @@ within-itself s is_open = record {
   stays = record {
     clean = λ clean. clean;
     answers = λ was. was;
-    leaves = record
-        { honest = λ honest. honest; same = refl; ready = refl };
+    leaves = record { honest = λ honest. honest; same = refl; ready = refl };
   };
 }
 
@@ -77,8 +75,7 @@ home-of old mid new was_open is then back = record {
 follow : (old mid new : BookState) → IsWithin old mid → Follows mid new → Follows old new
 follow old mid new is then = record {
   clean = λ clean. is.stays.clean (then.clean clean);
-  counted = omega
-      (arith, is.counted, then.counted);
+  counted = omega (arith, is.counted, then.counted);
 }
 
 pub gave-up-later : (fault : BookFault) (old mid new : BookState) → old.is_open ≡ true
@@ -86,15 +83,12 @@ pub gave-up-later : (fault : BookFault) (old mid new : BookState) → old.is_ope
     × Follows old new
 gave-up-later Memory old mid new was_open is gave = (
   (home-of old mid new was_open is gave.1 gave.0.0, gave.0.1 ∙ is.counted),
-  follow old mid new is
-      gave.1,
+  follow old mid new is gave.1,
 )
 gave-up-later Store old mid new was_open is gave = (
   (
     home-of old mid new was_open is gave.1 gave.0.0,
-    subst
-        (λ n. (n < new.refused) ⊎ (new.refused ≡ 0xFFFF_FFFF_FFFF_FFFF)) is.counted
-        gave.0.1,
+    subst (λ n. (n < new.refused) ⊎ (new.refused ≡ 0xFFFF_FFFF_FFFF_FFFF)) is.counted gave.0.1,
   ),
   follow old mid new is gave.1,
 )
@@ -109,8 +103,7 @@ went-later fault old mid new was_open is went =
         gave.1,
         record {
           honest = λ honest. is.stays.leaves.honest (same.honest honest);
-          same = same.same
-              ∙ is.stays.leaves.same;
+          same = same.same ∙ is.stays.leaves.same;
           ready = same.ready ∙ is.stays.leaves.ready;
         },
       ),
@@ -121,25 +114,24 @@ went-later fault old mid new was_open is went =
 module _ {A : Type 0} where
   pub works-as : (result : Result A BookFault) (step whole : Registry → Registry → A → Type 0)
       (old new : BookState)
-      → ((after : Registry) (it : A) → step old.content.registry after it
-      → whole old.content.registry after
-      it) → Works result step old new → Works result whole old new
+      → ((after : Registry) (it : A)
+      → step old.content.registry after it → whole old.content.registry after it)
+      → Works result step old new → Works result whole old new
   works-as (Ok it) step whole old new is works =
       (works.0, λ clean. is new.content.registry it (works.1 clean))
   works-as (Err fault) step whole old new is works = works
 
   pub works-then : (result : Result A BookFault) (step whole : Registry → Registry → A → Type 0)
       (old mid new : BookState) → old.is_open ≡ true → IsWithin old mid
-      → (mid.is_clean ≡ true → (after : Registry) (it : A) → step mid.content.registry after it
-      → whole old.content.registry after
-      it) → Works result step mid new → Works result whole old new
+      → (mid.is_clean ≡ true → (after : Registry) (it : A)
+      → step mid.content.registry after it → whole old.content.registry after it)
+      → Works result step mid new → Works result whole old new
   works-then (Ok it) step whole old mid new was_open within is works = (
     within-on old mid new within works.0,
-    λ clean. is (works.0.stays.clean clean)
-        new.content.registry it (works.1 clean),
+    λ clean. is (works.0.stays.clean clean) new.content.registry it (works.1 clean),
   )
-  works-then (Err fault) step whole old mid new was_open within is works = went-later fault old mid
-      new was_open within works
+  works-then (Err fault) step whole old mid new was_open within is works =
+      went-later fault old mid new was_open within works
 
   pub finds-then : (result : Result A BookFault) (value : A)
       (whole : Registry → Registry → A → Type 0) (old mid new : BookState) → old.is_open ≡ true
@@ -153,5 +145,5 @@ module _ {A : Type 0} where
         (subst (λ (a : A). whole old.content.registry mid.content.registry a)
         (sym (found.1.1 clean)) (is (found.1.0.clean clean))),
   )
-  finds-then (Err fault) value whole old mid new was_open within is found = went-later fault old mid
-      new was_open within found
+  finds-then (Err fault) value whole old mid new was_open within is found =
+      went-later fault old mid new was_open within found

@@ -21,8 +21,7 @@ returns g c =
     (λ name. name ≡ name_ordered zone o)) c.zone.ensures c.object_name.ensures in
     let named = subst (λ made. IfOk made (λ name. name ≡ name_ordered p.zone o))
     c.in_ok-name.ensures.0 read in
-    let passed = subst (λ (s : BookState). IsWithin s mid
-    × (mid.is_clean ≡ true
+    let passed = subst (λ (s : BookState). IsWithin s mid × (mid.is_clean ≡ true
     → IsPassed p (about_named o.kind name) c.args.moment s.content.registry mid.content.registry
     c.in_ok-pass_for.field-0))
     (ap (λ b. g.B.Book.state b) c.in_ok-name.ensures.1) c.in_ok-pass_for.ensures in
