@@ -1,16 +1,12 @@
 -- What a crash leaves after one call and another.
-use Rattle.std.proofs.Common.{◌≡◌, inl, inr, ⊎_elim, true, Result, Ok, Err, OnOk, List, sym, ap, subst, ◌∙◌, arith}
+use Rattle.std.proofs.Common.{◌≡◌, inl, inr, ⊎_elim, true, Result, Ok, Err, OnOk, List, sym, ap, subst, ◌∙◌}
 use Rattle.policy.specs.Rules.{PolicyRules}
 use Rattle.registry.specs.declared.fault.Fault.{Fault}
 use Rattle.registry.specs.declared.fault.Fault.TheVariants as faults
 use Rattle.registry.specs.declared.fault.OpenFault.{OpenFault}
 use Rattle.registry.specs.declared.fault.OpenFault.TheVariants as refusals
-use Rattle.registry.specs.Crashes.{GivesUpTo, Makes, OpensTo, RefusedTo}
-use Rattle.registry.specs.inner.Steps.{IsWithin, Keeps}
-use Rattle.registry.proofs.StepLemmas.{gave-up-later}
-use Rattle.books.specs.Book.{BookState, BookKeeps, Follows, GivesUp, LeavesHeld, LeavesItself, LeavesOld, LeavesOldOrMade, LeavesSame, Stored, may_leave}
-use Rattle.model.specs.Registry.{Registry}
-use Rattle.states.specs.declared.fault.BookFault.{BookFault}
+use Rattle.registry.specs.Crashes.{GivesUpTo, OpensTo, RefusedTo}
+use Rattle.books.specs.Book.{BookState, BookKeeps, Follows, LeavesHeld, LeavesItself, LeavesOld, LeavesOldOrMade, LeavesSame, Stored, may_leave}
 use Rattle.states.specs.States.{Has, Remains, holding}
 
 -- nothing was tried
@@ -46,48 +42,6 @@ kept_or_not result makes old mid new follows same made held left may =
     ⊎_elim (λ before. inl (left_alone old mid same left (held.honest may.0, before))) (λ is. inr (record { clean = follows.clean clean; held = mid.content; is = is; made = made clean })) (held.tried left may.1)
 
 pub ruleset leaving = (left_alone, gave_up, kept_alone, kept_or_not)
-
--- ---- a step in a transaction, which is kept or not
-
-module _ {A U : Type 0} (step : Registry → Registry → A → Type 0) (it : A) (old mid new : BookState)
-    (within : IsWithin old mid)
-    (stepped : mid.is_clean ≡ true → step old.content.registry mid.content.registry it) where
-  pub kept-step : (u : U) → BookKeeps mid new × Follows mid new
-      → LeavesHeld {E = BookFault} (Ok u) mid new → Keeps (Ok it) step old new
-  kept-step u kept held = (
-    record {
-      closed = kept.0.closed;
-      follows = record {
-        clean = λ clean. within.stays.clean (kept.1.clean clean);
-        counted = omega (arith, within.counted, kept.1.counted);
-      };
-      terms = λ clean. ap (λ (held : Stored). held.terms) (kept.0.content clean)
-          ∙ within.terms (kept.1.clean clean);
-      alone = kept_alone {E = BookFault} (Ok u) mid new held kept.0;
-    },
-    λ clean. subst (λ (held : Stored). step old.content.registry held.registry it)
-        (sym (kept.0.content clean)) (stepped (kept.1.clean clean)),
-  )
-
-  pub not-kept-step : (fault : BookFault) → old.is_open ≡ true → GivesUp fault mid new
-      × Follows mid new → LeavesHeld {A = U} (Err fault) mid new
-      → Keeps {A = A} (Err fault) step old new
-  not-kept-step fault was_open back held =
-      let follows : Follows old mid = record
-      { clean = within.stays.clean; counted = omega (arith, within.counted) } in
-      let made : mid.is_clean ≡ true
-      → Makes step old.content mid.content = λ clean. ((it, stepped clean), within.terms clean) in
-      let gave = gave-up-later fault old mid new was_open within back in (
-        gave.0,
-        (
-          gave.1,
-          (
-            kept_or_not {A = U} (Err fault) (Makes step) old mid new follows
-                within.stays.leaves made held,
-            held.as_before ∙ within.stays.leaves.ready,
-          ),
-        ),
-      )
 
 -- ---- a call that nothing but a look came before
 

@@ -2,19 +2,22 @@
 use Rattle.std.proofs.Common.{◌≡◌, ◌<◌, ◌⊎◌, true, cond, Result, Ok, Err, refl, sym, subst, ap, ◌∙◌, arith}
 use Rattle.model.specs.Registry.{Registry}
 use Rattle.registry.specs.inner.Steps.{IsWithin, Works}
-use Rattle.books.specs.Book.{BookFinds, BookReads, BookState, BookStays, BookWrites, Follows, GivesUp, IsBack, Stored, WentBack}
+use Rattle.books.specs.Book.{BookFinds, BookReads, BookState, BookStays, BookWrites, Follows, GivesUp, IsBack, LeavesSame, Stored, WentBack}
 use Rattle.states.specs.declared.fault.BookFault.{BookFault}
 use Rattle.states.specs.declared.fault.BookFault.TheVariants.{Memory, Store}
+
+leaves-on : (old mid new : BookState) → LeavesSame old mid → LeavesSame mid new → LeavesSame old new
+leaves-on old mid new first then = record {
+  honest = λ honest. first.honest (then.honest honest);
+  same = then.same ∙ first.same;
+  ready = then.ready ∙ first.ready;
+}
 
 stays-on : (old mid new : BookState) → BookStays old mid → BookStays mid new → BookStays old new
 stays-on old mid new first then = record {
   clean = λ clean. first.clean (then.clean clean);
   answers = λ was. then.answers (first.answers was);
-  leaves = record {
-    honest = λ honest. first.leaves.honest (then.leaves.honest honest);
-    same = then.leaves.same ∙ first.leaves.same;
-    ready = then.leaves.ready ∙ first.leaves.ready;
-  };
+  leaves = leaves-on old mid new first.leaves then.leaves;
 }
 
 pub within-on : (old mid new : BookState) → IsWithin old mid → IsWithin mid new → IsWithin old new
@@ -72,40 +75,27 @@ home-of old mid new was_open is then back = record {
       ∙ sym (ap (λ b. cond b old.before old.content) was_open);
 }
 
-follow : (old mid new : BookState) → IsWithin old mid → Follows mid new → Follows old new
-follow old mid new is then = record {
-  clean = λ clean. is.stays.clean (then.clean clean);
-  counted = omega (arith, is.counted, then.counted);
-}
-
-pub gave-up-later : (fault : BookFault) (old mid new : BookState) → old.is_open ≡ true
-    → IsWithin old mid → GivesUp fault mid new × Follows mid new → GivesUp fault old new
-    × Follows old new
-gave-up-later Memory old mid new was_open is gave = (
-  (home-of old mid new was_open is gave.1 gave.0.0, gave.0.1 ∙ is.counted),
-  follow old mid new is gave.1,
-)
-gave-up-later Store old mid new was_open is gave = (
-  (
-    home-of old mid new was_open is gave.1 gave.0.0,
-    subst (λ n. (n < new.refused) ⊎ (new.refused ≡ 0xFFFF_FFFF_FFFF_FFFF)) is.counted gave.0.1,
-  ),
-  follow old mid new is gave.1,
+gave-up-later : (fault : BookFault) (old mid new : BookState) → old.is_open ≡ true → IsWithin old mid
+    → GivesUp fault mid new → Follows mid new → GivesUp fault old new
+gave-up-later Memory old mid new was_open is gave then =
+    (home-of old mid new was_open is then gave.0, gave.1 ∙ is.counted)
+gave-up-later Store old mid new was_open is gave then = (
+  home-of old mid new was_open is then gave.0,
+  subst (λ n. (n < new.refused) ⊎ (new.refused ≡ 0xFFFF_FFFF_FFFF_FFFF)) is.counted gave.1,
 )
 
 pub went-later : (fault : BookFault) (old mid new : BookState) → old.is_open ≡ true
     → IsWithin old mid → WentBack fault mid new → WentBack fault old new
 went-later fault old mid new was_open is went =
-    let gave = gave-up-later fault old mid new was_open is (went.0, went.1.0) in
-    let same = went.1.1 in (
-      gave.0,
+    let then = went.1.0 in
+    let stays = is.stays in (
+      gave-up-later fault old mid new was_open is went.0 then,
       (
-        gave.1,
         record {
-          honest = λ honest. is.stays.leaves.honest (same.honest honest);
-          same = same.same ∙ is.stays.leaves.same;
-          ready = same.ready ∙ is.stays.leaves.ready;
+          clean = λ clean. stays.clean (then.clean clean);
+          counted = omega (arith, is.counted, then.counted);
         },
+        leaves-on old mid new stays.leaves went.1.1,
       ),
     )
 

@@ -31,7 +31,7 @@ pub(crate) trait Work {
 }
 
 /// Does the work of a call in an open transaction, and keeps what it did.
-#[tactic(auto, using(crate::proofs::CrashLemmas::gave_up))]
+#[tactic(auto, using(crate::proofs::CrashLemmas::leaving))]
 pub(crate) fn keep<B: Book, W: Work>(
     book: &mut B,
     alloc: Global,
