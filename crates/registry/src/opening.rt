@@ -56,21 +56,6 @@ fn take_up<B: Book>(book: &mut B, alloc: Global, policy: &Policy) -> Result<bool
     ensures { TakesUp result policy.now (B.state book.old) (B.state book.new) }
 {
     let clock = book.clock()?;
-    take_up_at(book, alloc, policy, clock)
-}
-
-/// The same, told its clock.
-fn take_up_at<B: Book>(
-    book: &mut B,
-    alloc: Global,
-    policy: &Policy,
-    clock: Moment,
-) -> Result<bool, BookFault>
-    requires open { (B.state book.old).is_open ≡ true }
-    requires clock { (B.state book.old).is_clean ≡ true
-        → clock ≡ (B.state book.old).content.registry.clock }
-    ensures { TakesUp result policy.now (B.state book.old) (B.state book.new) }
-{
     let earlier = book.terms()?;
     let own = or_rollback(book, policy.terms(alloc))?;
     let goes_on = continues_earlier(&own, &earlier, clock);
