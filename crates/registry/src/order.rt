@@ -2,7 +2,7 @@
 ghost use Rattle.std.specs.Prelude.{◌≡◌, true, option_and_then};
 ghost use Rattle.registry.specs.Execution.{IsOrderStep};
 ghost use Rattle.protocol.specs.declared.order.Order.TheVariants as orders;
-ghost use Rattle.registry.specs.inner.Passing.{IsPassed, about_named, status_at};
+ghost use Rattle.registry.specs.inner.Passing.{status_at};
 ghost use Rattle.registry.specs.inner.Steps.{IsCarriedOut, Works};
 ghost use Rattle.decisions.specs.Orders.{deposit_decision};
 ghost use Rattle.books.specs.Book.{BookFinds};
@@ -61,27 +61,14 @@ fn set_statuses_at<B: Book>(
         (B.state book.old) (B.state book.new) }
 {
     let name = or_rollback(book, order.object_name(alloc, policy.zone()))?;
-    pass_for(book, alloc, order.kind, &name, moment, policy)?;
+    pass(
+        book,
+        alloc,
+        &Scope::Named(order.kind, &name),
+        moment,
+        policy,
+    )?;
     set_statuses(book, alloc, order, &name, policy)
-}
-
-/// Lets time pass, and what an info of the object concerns lapse, if there is a name.
-fn pass_for<B: Book>(
-    book: &mut B,
-    alloc: Global,
-    kind: ObjectKind,
-    name: &Option<Text>,
-    moment: Moment,
-    policy: &Policy,
-) -> Result<Moment, BookFault>
-    requires { (B.state book.old).is_open ≡ true }
-    ensures { Works result (IsPassed policy.now (about_named kind name.now) moment)
-        (B.state book.old) (B.state book.new) }
-{
-    match name {
-        None => pass(book, alloc, &Scope::Nothing, moment, policy),
-        Some(name) => pass(book, alloc, &Scope::Object(kind, name), moment, policy),
-    }
 }
 
 /// Enters what a registrar paid, at a moment. Nothing lapses before.

@@ -30,6 +30,8 @@ pub(crate) enum Scope<'s> {
     Registrar(RegistrarNo),
     /// What an info of an object concerns.
     Object(ObjectKind, &'s Text),
+    /// The same, if there is a name.
+    Named(ObjectKind, &'s Option<Text>),
     All,
 }
 
@@ -85,6 +87,8 @@ fn due_in<B: Book>(
             book.due_for(Some(registrar), &balance_command(), moment, policy)
         }
         Scope::Object(kind, name) => book.due_at(kind, name, moment, policy),
+        Scope::Named(kind, Some(name)) => book.due_at(kind, name, moment, policy),
+        Scope::Named(_, None) => Ok(Seq::new(alloc)),
         Scope::All => book.due(moment, policy),
     }
 }

@@ -35,11 +35,17 @@ balance_command = Asked None Balance
 abbrev pub about : ObjectKind → List ℕ → Extent
 about kind name = concerning None (named_of kind name)
 
+-- what an order names, if its name reads
+abbrev pub about_named : ObjectKind → Option (List ℕ) → Extent
+about_named kind None = nothing
+about_named kind (Some name) = about kind name
+
 abbrev pub extent_of : Scope → Extent
 extent_of scopes.Nothing = nothing
 extent_of (scopes.Command caller c) = concerning (Some caller) (named_by c.now)
 extent_of (scopes.Registrar r) = concerning (Some r) (named_by balance_command)
 extent_of (scopes.Object kind name) = about kind name.now
+extent_of (scopes.Named kind name) = about_named kind name.now
 extent_of scopes.All = everything
 
 -- of what is due by a moment, what lapses
@@ -67,11 +73,6 @@ pub record IsPassed (p : PolicyRules) (what : Extent) (moment : ℕ) (before aft
   pub clock : after.clock ≡ max moment before.clock
   pub settled : IsSettledAs p what after
   pub future : now p after ≡ lapsed p moment before
-
--- what an order names, if its name reads
-abbrev pub about_named : ObjectKind → Option (List ℕ) → Extent
-about_named kind None = nothing
-about_named kind (Some name) = about kind name
 
 -- the decision on an order of statuses, of the object under a name, if there is a name
 abbrev pub status_at : StatusOrder → Option (List ℕ) → Registry → OrderDecision

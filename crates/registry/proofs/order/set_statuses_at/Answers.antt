@@ -16,19 +16,20 @@ returns g c =
     let o = c.args.order.now in
     let name = c.in_ok-name.name in
     let old = g.B.Book.state c.args.book.now in
-    let mid = g.B.Book.state c.pass_for.new.book in
+    let mid = g.B.Book.state c.pass.new.book in
     let read = subst (λ (zone : ZoneRules). IfOk c.object_name.result
     (λ name. name ≡ name_ordered zone o)) c.zone.ensures c.object_name.ensures in
     let named = subst (λ made. IfOk made (λ name. name ≡ name_ordered p.zone o))
     c.in_ok-name.ensures.0 read in
     let passed = subst (λ (s : BookState). IsWithin s mid × (mid.is_clean ≡ true
     → IsPassed p (about_named o.kind name) c.args.moment s.content.registry mid.content.registry
-    c.in_ok-pass_for.field-0))
-    (ap (λ b. g.B.Book.state b) c.in_ok-name.ensures.1) c.in_ok-pass_for.ensures in
+    c.in_ok-pass.field-0))
+    (ap (λ b. g.B.Book.state b) {x = c.or_rollback.new.book} c.in_ok-name.ensures.1)
+    c.in_ok-pass.ensures in
     works-then c.set_statuses.result
     (λ before after code. IsCarriedOut p (status_at o name before) before after code)
     (IsOrderStep p (orders.Status o) c.args.moment) old mid
     (g.B.Book.state c.set_statuses.new.book)
-    c.requires passed.0 (λ clean after code. ordered p o c.args.moment c.in_ok-pass_for.field-0 name
+    c.requires passed.0 (λ clean after code. ordered p o c.args.moment c.in_ok-pass.field-0 name
     old.content.registry mid.content.registry after code named
     (passed.1 clean)) c.set_statuses.ensures
