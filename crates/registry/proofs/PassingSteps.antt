@@ -20,7 +20,7 @@ use Rattle.protocol.specs.declared.order.StatusOrder.{StatusOrder}
 use Rattle.protocol.specs.declared.reply.Reply.{Reply}
 use Rattle.protocol.specs.Orders.{name_ordered}
 use Rattle.registry.specs.declared.command.Prepared.{Prepared}
-use Rattle.registry.specs.Execution.{IsGreetingStep, IsOrderStep, IsPrepared, IsStep}
+use Rattle.registry.specs.Execution.{IsGreetingStep, IsOrderStep, IsPrepared, IsStep, due_at_name, with_lapsed}
 use Rattle.registry.specs.Faces.{IsLookUp}
 use Rattle.registry.specs.Lapsing.{dues_lapsed, with_dues_lapsed}
 use Rattle.registry.specs.inner.Passing.{Extent, IsPassed, IsSettledAs, about_named, concerning, due_in, everything, nothing, status_at}
@@ -72,12 +72,14 @@ module _ (p : PolicyRules) (moment : ℕ) (before : Registry) where
             (caught-up p r g u (among (objects_of asked)) (at u before)
             (has-concerned p r g u (at u before)));
         future = some-lapsed p u asked (at u before) refl ∙ same-lapse p u before;
+        waits = refl;
       }
 
   -- or all that is due has
   passed-all : (after : Registry) → after ≡ lapsed p moment before
+      → after ≡ with_lapsed p (due_by p) moment before
       → IsPassed p everything moment before after u
-  passed-all after is =
+  passed-all after is waits =
       let future : now p after ≡ lapsed p moment before = ap (now p) is
       ∙ now-lapsed p moment before in
       record {
@@ -85,6 +87,7 @@ module _ (p : PolicyRules) (moment : ℕ) (before : Registry) where
         clock = ap (λ (s : Registry). s.clock) is;
         settled = future ∙ sym is;
         future = future;
+        waits = waits;
       }
 
   passed : (what : Extent) → IsPassed p what moment before
@@ -94,10 +97,11 @@ module _ (p : PolicyRules) (moment : ℕ) (before : Registry) where
     clock = refl;
     settled = nothing-due p (at u before);
     future = same-lapse p u before;
+    waits = refl;
   }
   passed (concerning r g) = passed-for r g
   passed everything = passed-all (dues_lapsed p u (due_by p u (at u before)) (at u before))
-      (all-lapsed p u (at u before) refl ∙ same-lapse p u before)
+      (all-lapsed p u (at u before) refl ∙ same-lapse p u before) refl
 
 -- and where the clock stands there, it has lapsed without its moving
 passed-there : (p : PolicyRules) (what : Extent) (t : ℕ) (s : Registry) → s.clock ≡ t
@@ -178,6 +182,7 @@ executed p r c moment clock prepared reply before mid looked after is same by ma
       answered = told ∙ sym (answer-now p r c mid is.settled) ∙ ap (answer p r c) is.future;
       left = ap (now p) left ∙ effect-now p r c mid is.settled
           ∙ ap (λ (s : Registry). now p (effect p r c s)) is.future;
+      waits = left ∙ ap (effect p r c) is.waits;
     }
 
 -- ---- orders
@@ -186,6 +191,11 @@ settled-for : (p : PolicyRules) (kind : ObjectKind) (name : Option (List ℕ)) (
     → IsSettledAs p (about_named kind name) u → IsSettledFor p kind name u
 settled-for p kind None u is = is
 settled-for p kind (Some name) u is = is
+
+due-named : (p : PolicyRules) (kind : ObjectKind) (name : Option (List ℕ)) (t : ℕ) (s : Registry)
+    → due_in p (about_named kind name) t s ≡ due_at_name p kind name t s
+due-named p kind None t s = refl
+due-named p kind (Some name) t s = refl
 
 pub ordered : (p : PolicyRules) (o : StatusOrder) (moment clock : ℕ) (name : Option (List ℕ))
     (before mid after : Registry) (code : Code)
@@ -204,6 +214,10 @@ ordered p o moment clock name before mid after code named is made =
           ∙ ap (λ (n : Option (List ℕ)). changed_all p (status_at o n mid).changes mid) named)
           ∙ status-effect-now p o mid settled
           ∙ ap (λ (u : Registry). now p (order_effect p (orders.Status o) u)) is.future;
+      waits = made.left
+          ∙ ap (λ (n : Option (List ℕ)). changed_all p (status_at o n mid).changes mid) named
+          ∙ ap (order_effect p (orders.Status o)) (is.waits
+          ∙ (λ i. with_lapsed p (λ t s. due-named p o.kind (named i) t s i) moment before));
     }
 
 pub deposited : (p : PolicyRules) (id : List ℕ) (cents : ℤ) (moment clock : ℕ)
@@ -216,6 +230,9 @@ deposited p id cents moment clock before mid after code is made = record {
       ∙ ap (λ (t : ℕ). changed_all p (deposit_decision p t id cents).changes mid)
       (is.told ∙ sym is.clock)) ∙ deposit-effect-now p mid id cents
       ∙ ap (λ (u : Registry). now p (order_effect p (orders.Deposit id cents) u)) is.future;
+  waits = made.left
+      ∙ ap (λ (t : ℕ). changed_all p (deposit_decision p t id cents).changes mid)
+      (is.told ∙ sym is.clock) ∙ ap (order_effect p (orders.Deposit id cents)) is.waits;
 }
 
 -- ---- hello
@@ -225,6 +242,7 @@ pub greets : (p : PolicyRules) (moment date : ℕ) (before after : Registry)
 greets p moment date before after is = record {
   dated = is.told;
   left = is.future ∙ sym (now-lapsed p moment before);
+  waits = is.waits;
 }
 
 -- ---- look-ups

@@ -1,5 +1,11 @@
 -- What the calls of the registry leave.
-use Rattle.std.specs.Prelude.{◌≡◌, ℕ, max, min, length, take, true}
+use Rattle.std.specs.Prelude.{◌≡◌, ℕ, max, min, length, take, true, List, [], Option, Some, None}
+use Rattle.concerns.specs.DueFor.{due_for}
+use Rattle.concerns.specs.Names.{named_by, named_of}
+use Rattle.lifecycle.specs.declared.due_object.Due.{Due}
+use Rattle.objects.specs.declared.roid.ObjectKind.{ObjectKind}
+use Rattle.protocol.specs.declared.order.Order.TheVariants.{Deposit, Status}
+use Rattle.protocol.specs.Orders.{name_ordered}
 use Rattle.policy.specs.Rules.{PolicyRules}
 use Rattle.registry.specs.Lapsing.{dues_lapsed}
 use Rattle.registry.specs.declared.fault.Fault.{Fault}
@@ -24,21 +30,47 @@ use Rattle.model.specs.Registry.{Registry}
 abbrev pub last_call : ℕ
 last_call = LAST_CALL
 
--- The reply is the rules' answer in the registry at that moment, and what is left is their effect.
+-- ---- what waits
+
+-- The registry as a call at a moment finds it: the clock is there, and of what is due just this has lapsed.
+abbrev pub with_lapsed : PolicyRules → (ℕ → Registry → List Due) → ℕ → Registry → Registry
+with_lapsed p due moment s =
+    let t = max moment s.clock in dues_lapsed p t (due t (at t s)) (at t s)
+
+-- before a registrar's command, what concerns it lapses
+abbrev pub found_by : PolicyRules → ℕ → Command → ℕ → Registry → Registry
+found_by p r c moment s = with_lapsed p (due_for p (Some r) (named_by c)) moment s
+
+-- before an order of statuses, what an info of the object concerns; before a deposit nothing
+abbrev pub due_at_name : PolicyRules → ObjectKind → Option (List ℕ) → ℕ → Registry → List Due
+due_at_name p kind None t s = []
+due_at_name p kind (Some name) t s = due_for p None (named_of kind name) t s
+
+abbrev pub due_for_order : PolicyRules → Order → ℕ → Registry → List Due
+due_for_order p (Status o) t s = due_at_name p o.kind (name_ordered p.zone o) t s
+due_for_order p (Deposit registrar cents) t s = []
+
+-- ---- steps
+
+-- The reply is the rules' answer in the registry at that moment, and what is left is their effect. Of what is
+-- due, just what concerns the command has lapsed.
 pub record IsStep (p : PolicyRules) (r : ℕ) (c : Command) (moment : ℕ) (before after : Registry) (reply : Reply) : Type 0 where
   pub answered : reply ≡ answer p r c (lapsed p moment before)
   pub left : now p after ≡ now p (effect p r c (lapsed p moment before))
+  pub waits : after ≡ effect p r c (found_by p r c moment before)
 
 -- The code is the rules' answer to an order in the registry at that moment, and what is left is the
--- order's effect.
+-- order's effect. Of what is due, just what concerns the order has lapsed.
 pub record IsOrderStep (p : PolicyRules) (order : Order) (moment : ℕ) (before after : Registry) (code : Code) : Type 0 where
   pub answered : code ≡ order_answer p order (lapsed p moment before)
   pub left : now p after ≡ now p (order_effect p order (lapsed p moment before))
+  pub waits : after ≡ order_effect p order (with_lapsed p (due_for_order p order) moment before)
 
--- Hello is answered with the registry's clock at that moment, and nothing else is done.
+-- Hello is answered with the registry's clock at that moment, and nothing else is done. Nothing lapses.
 pub record IsGreetingStep (p : PolicyRules) (moment : ℕ) (before after : Registry) (date : ℕ) : Type 0 where
   pub dated : date ≡ max moment before.clock
   pub left : now p after ≡ now p (lapsed p moment before)
+  pub waits : after ≡ at (max moment before.clock) before
 
 -- Of all that is due by the moment, in its order, the first so many objects lapse, and the clock stands
 -- there; what the registry is now is its lapse, however many they are.

@@ -17,6 +17,7 @@ use Rattle.protocol.specs.declared.command.Request.TheVariants.{Balance}
 use Rattle.protocol.specs.declared.order.StatusOrder.{StatusOrder}
 use Rattle.decisions.specs.declared.order.OrderDecision.{OrderDecision}
 use Rattle.decisions.specs.Orders.{decided_order}
+use Rattle.registry.specs.Execution.{with_lapsed}
 use Rattle.registry.specs.declared.passing.Scope.{Scope}
 use Rattle.registry.specs.declared.passing.Scope.TheVariants as scopes
 use Rattle.rules.specs.Orders.{order_code}
@@ -73,6 +74,7 @@ pub record IsPassed (p : PolicyRules) (what : Extent) (moment : ℕ) (before aft
   pub clock : after.clock ≡ max moment before.clock
   pub settled : IsSettledAs p what after
   pub future : now p after ≡ lapsed p moment before
+  pub waits : after ≡ with_lapsed p (due_in p what) moment before
 
 -- the decision on an order of statuses, of the object under a name, if there is a name
 abbrev pub status_at : StatusOrder → Option (List ℕ) → Registry → OrderDecision
