@@ -1,5 +1,5 @@
 -- What every call keeps follows from the question that it answers.
-use Rattle.std.proofs.Common.{◌≡◌, ℕ, ◌≤◌, max, true, Result, Ok, Err, IfOk, OnOk, Some, inr, refl, sym, ap, subst, ◌∙◌, arith}
+use Rattle.std.proofs.Common.{◌≡◌, ℕ, ◌≤◌, max, true, Result, Ok, Err, IfOk, Some, inr, refl, sym, ap, subst, ◌∙◌, arith}
 use Rattle.model.specs.Lapse.{lapsed, now}
 use Rattle.model.specs.Money.{MoneyFollows}
 use Rattle.model.specs.Registry.{Registry}
@@ -14,8 +14,9 @@ use Rattle.protocol.specs.declared.order.Order.{Order}
 use Rattle.registry.specs.declared.fault.Fault.{Fault}
 use Rattle.registry.specs.declared.fault.Fault.TheVariants as faults
 use Rattle.registry.specs.Calls.{CallKeeps, StepKeeps}
-use Rattle.registry.specs.Crashes.{Outlives}
-use Rattle.registry.specs.Execution.{SameTerms}
+use Rattle.registry.specs.Crashes.{GivesUpTo, Makes}
+use Rattle.registry.specs.Faults.{of_book}
+use Rattle.registry.specs.inner.Steps.{Keeps}
 use Rattle.registry.specs.Money.{CallKeepsMoney}
 use Rattle.registry.specs.WellFormed.{BookCanBeReopened, CallKeepsWellFormed, KeepsWellFormed, StaysWellFormed}
 use Rattle.decisions.specs.Askable.{CanBeAsked}
@@ -24,8 +25,10 @@ use Rattle.decisions.specs.Steps.{effect}
 use Rattle.decisions.proofs.LapsedLemmas.{serial-lapsed}
 use Rattle.decisions.proofs.MoneyLaws.{money-effect-now, money-lapsed-now, money-order-now}
 use Rattle.decisions.proofs.RegistryLemmas.{registry-effect, registry-lapsed, registry-now, registry-order}
-use Rattle.books.specs.Book.{BookStarts, BookState, BookStays, Follows, LeavesSame, Stored}
-use Rattle.registry.proofs.CrashLemmas.{gave_up_by, outlives_later}
+use Rattle.books.specs.Book.{BookStarts, BookState, BookStays, Follows, LeavesOldOrMade, LeavesSame, NoRefusal, Stored}
+use Rattle.states.specs.declared.fault.BookFault.{BookFault}
+use Rattle.states.specs.declared.fault.BookFault.TheVariants.{Memory, Store}
+use Rattle.registry.proofs.CrashLemmas.{gave_up_by, later}
 
 -- ---- a well formed registry
 
@@ -104,23 +107,41 @@ kept_late p moment x told makes s = record { policy = refl; follows = follows-it
 
 -- ---- a call inside
 
-pub begun : (old mid : BookState) → BookStarts old mid → BookStays old mid → Follows old mid
-begun old mid starts stays = record { clean = stays.clean; counted = omega (arith, starts.counted) }
+pub begun : (old mid : BookState) → NoRefusal old mid → BookStays old mid → Follows old mid
+begun old mid counted stays = record { clean = stays.clean; counted = omega (arith, counted) }
 
--- a transaction was begun, and work was done in it
-pub step_kept : {A : Type 0} (p : PolicyRules) (makes : Stored → Stored → Type 0) (result : Result A Fault) (old mid new : BookState)
-    → Follows old mid → LeavesSame old mid → (mid.is_clean ≡ true → mid.content ≡ old.content)
-    → Follows mid new → OnOk result (SameTerms mid new) → Outlives result makes mid new → StepKeeps p makes result p old new
-step_kept {A} p makes result old mid new follows same content then terms crash = record {
+-- a transaction was begun, and a step was taken in it and kept
+pub step_kept : {A : Type 0} (p : PolicyRules) (step : Registry → Registry → A → Type 0) (it : A)
+    (old mid new : BookState) → BookStarts old mid × BookStays old mid → Keeps (Ok it) step mid new
+    → StepKeeps p (Makes step) (Ok it) p old new
+step_kept p step it old mid new begins keeps = record {
   policy = refl;
-  follows = follows-on old mid new follows then;
-  crash = outlives_later result makes old mid new follows same content crash;
-  terms = by result terms;
+  follows = follows-on old mid new (begun old mid begins.0.counted begins.1) keeps.0.follows;
+  crash = keeps.0.alone;
+  terms = λ clean. keeps.0.terms clean
+      ∙ ap (λ (held : Stored). held.terms) (begins.0.content (keeps.0.follows.clean clean));
 }
+
+-- or it went back
+pub step_went_back : {A : Type 0} (p : PolicyRules) (step : Registry → Registry → A → Type 0)
+    (fault : BookFault) (old mid new : BookState)
+    → BookStarts old mid × BookStays old mid → Keeps {A = A} (Err fault) step mid new
+    → StepKeeps {A = A} p (Makes step) (Err (of_book fault)) p old new
+step_went_back p step fault old mid new begins keeps =
+    let follows : Follows old mid = begun old mid begins.0.counted begins.1 in
+    let left = later (Makes step) old mid new follows begins.1.leaves begins.0.content keeps.1.1.0
+    in
+    record {
+      policy = refl;
+      follows = follows-on old mid new follows keeps.1.0;
+      crash = (by fault left, keeps.1.1.1 ∙ begins.1.leaves.ready);
+      terms = tt;
+    }
   where
-    by : (result : Result A Fault) → OnOk result (SameTerms mid new) → OnOk result (SameTerms old new)
-    by (Ok it) terms = λ clean. terms clean ∙ ap (λ (held : Stored). held.terms) (content (then.clean clean))
-    by (Err fault) terms = tt
+    by : (fault : BookFault) → LeavesOldOrMade (Makes step) old new
+        → GivesUpTo (of_book fault) (Makes step) old new
+    by Memory left = left
+    by Store left = left
 
 -- or it couldn't be begun
 pub step_gave_up : {A : Type 0} (p : PolicyRules) (makes : Stored → Stored → Type 0) (fault : Fault) (old new : BookState)

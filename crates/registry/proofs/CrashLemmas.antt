@@ -1,12 +1,11 @@
 -- What a crash leaves after one call and another.
-use Rattle.std.proofs.Common.{◌≡◌, inl, inr, ⊎_elim, true, Result, Ok, Err, IfErr, OnOk, List, sym, ap, subst, ◌∙◌}
+use Rattle.std.proofs.Common.{◌≡◌, inl, inr, ⊎_elim, true, Result, Ok, Err, OnOk, List, sym, ap, subst, ◌∙◌}
 use Rattle.policy.specs.Rules.{PolicyRules}
 use Rattle.registry.specs.declared.fault.Fault.{Fault}
 use Rattle.registry.specs.declared.fault.Fault.TheVariants as faults
 use Rattle.registry.specs.declared.fault.OpenFault.{OpenFault}
 use Rattle.registry.specs.declared.fault.OpenFault.TheVariants as refusals
-use Rattle.registry.specs.Crashes.{GivesUpTo, OpensTo, Outlives, OutlivesOpening}
-use Rattle.registry.specs.Execution.{GoesBack}
+use Rattle.registry.specs.Crashes.{GivesUpTo, OpensTo, RefusedTo}
 use Rattle.books.specs.Book.{BookState, BookKeeps, Follows, LeavesHeld, LeavesItself, LeavesOld, LeavesOldOrMade, LeavesSame, Stored, may_leave}
 use Rattle.states.specs.States.{Has, Remains, holding}
 
@@ -42,37 +41,25 @@ kept_or_not result makes old mid new follows same made held left may =
     let clean : mid.is_clean ≡ true = held.answered may.0 in
     ⊎_elim (λ before. inl (left_alone old mid same left (held.honest may.0, before))) (λ is. inr (record { clean = follows.clean clean; held = mid.content; is = is; made = made clean })) (held.tried left may.1)
 
-pub outlives_by : {A : Type 0} (result : Result A Fault) (makes : Stored → Stored → Type 0) (old mid new : BookState) → Follows old mid → LeavesSame old mid → (mid.is_clean ≡ true → makes old.content mid.content)
-    → LeavesHeld result mid new → OnOk result (BookKeeps mid new) → IfErr result (λ fault. GoesBack fault mid new) → Outlives result makes old new
-outlives_by (Ok it) makes old mid new follows same made held commits back = kept_alone (Ok it) mid new held commits
-outlives_by (Err fault) makes old mid new follows same made held commits back = (go fault back (kept_or_not (Err fault) makes old mid new follows same made held), held.as_before ∙ same.ready)
-  where
-    go : (fault : Fault) → GoesBack fault mid new → LeavesOldOrMade makes old new → GivesUpTo fault makes old new
-    go faults.Memory back left = left
-    go faults.Store back left = left
-    go faults.Moment back left = absurd back
+pub ruleset leaving = (left_alone, gave_up, kept_alone, kept_or_not)
 
 -- ---- a call that nothing but a look came before
 
 older : (old mid new : BookState) → LeavesSame old mid → LeavesOld mid new → LeavesOld old new
 older old mid new same then = λ left may. left_alone old mid same left (then left may)
 
-later : (makes : Stored → Stored → Type 0) (old mid new : BookState) → Follows old mid → LeavesSame old mid → (mid.is_clean ≡ true → mid.content ≡ old.content)
+pub later : (makes : Stored → Stored → Type 0) (old mid new : BookState) → Follows old mid
+    → LeavesSame old mid → (mid.is_clean ≡ true → mid.content ≡ old.content)
     → LeavesOldOrMade makes mid new → LeavesOldOrMade makes old new
 later makes old mid new follows same content then = λ left may.
     ⊎_elim (λ before. inl (left_alone old mid same left before)) (λ it. inr (record { clean = follows.clean it.clean; held = it.held; is = it.is; made = subst (λ (held : Stored). makes held it.held) (content it.clean) it.made })) (then left may)
 
-pub outlives_later : {A : Type 0} (result : Result A Fault) (makes : Stored → Stored → Type 0) (old mid new : BookState) → Follows old mid → LeavesSame old mid → (mid.is_clean ≡ true → mid.content ≡ old.content)
-    → Outlives result makes mid new → Outlives result makes old new
-outlives_later (Ok it) makes old mid new follows same content then = then
-outlives_later (Err faults.Memory) makes old mid new follows same content then = (later makes old mid new follows same content then.0, then.1 ∙ same.ready)
-outlives_later (Err faults.Store) makes old mid new follows same content then = (later makes old mid new follows same content then.0, then.1 ∙ same.ready)
-outlives_later (Err faults.Moment) makes old mid new follows same content then = (older old mid new same then.0, then.1 ∙ same.ready)
-
-pub opening_later : {A : Type 0} (result : Result A OpenFault) (p : PolicyRules) (old mid new : BookState) → Follows old mid → LeavesSame old mid → (mid.is_clean ≡ true → mid.content ≡ old.content)
-    → OutlivesOpening result p mid new → OutlivesOpening result p old new
-opening_later (Ok it) p old mid new follows same content then = then
-opening_later (Err refusals.Policy) p old mid new follows same content then = older old mid new same then
-opening_later (Err refusals.Schema) p old mid new follows same content then = older old mid new same then
-opening_later (Err refusals.Memory) p old mid new follows same content then = later (OpensTo p) old mid new follows same content then
-opening_later (Err refusals.Store) p old mid new follows same content then = later (OpensTo p) old mid new follows same content then
+pub refused_later : (fault : OpenFault) (p : PolicyRules) (old mid new : BookState)
+    → Follows old mid → LeavesSame old mid → (mid.is_clean ≡ true → mid.content ≡ old.content)
+    → RefusedTo fault p mid new → RefusedTo fault p old new
+refused_later refusals.Policy p old mid new follows same content then = older old mid new same then
+refused_later refusals.Schema p old mid new follows same content then = older old mid new same then
+refused_later refusals.Memory p old mid new follows same content then =
+    later (OpensTo p) old mid new follows same content then
+refused_later refusals.Store p old mid new follows same content then =
+    later (OpensTo p) old mid new follows same content then

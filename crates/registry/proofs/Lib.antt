@@ -1,12 +1,12 @@
 pub mod Isolations
 pub mod OpeningLemmas
 pub mod OpenedLemmas
+pub mod StepLemmas
 pub mod LapsingLemmas
 pub mod LapseSteps
 pub mod CrashLemmas
 pub mod Answering
 pub mod CallsKept
-pub mod FaceLemmas
 pub mod PassingSteps
 pub mod DomainsSteps
 mod CallLemmas

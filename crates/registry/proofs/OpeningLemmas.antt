@@ -1,12 +1,15 @@
 -- Accounts are opened one after another, and a book once it is known to be ours.
-use Rattle.std.proofs.Common.{◌≡◌, ◌≢◌, ◌<◌, ◌⊎◌, ℕ, suc, ◌+◌, true, false, cond, [], ◌∷◌, ◌++◌, refl, sym, ap, subst, ◌∙◌, arith}
+use Rattle.std.proofs.Common.{◌≡◌, ◌≢◌, ◌<◌, ◌⊎◌, ℕ, suc, ◌+◌, true, false, cond, Result, Ok, Err, [], ◌∷◌, ◌++◌, refl, sym, ap, subst, ◌∙◌, arith}
 use Rattle.policy.specs.Rules.{PolicyRules}
 use Rattle.registry.specs.declared.fault.OpenFault.{OpenFault}
 use Rattle.registry.specs.declared.fault.OpenFault.TheVariants as refusals
 use Rattle.registry.specs.Opening.{IsOthers, IsOurs, Opens, Refuses, RefusesOurs, goes_on, openings}
 use Rattle.policy.specs.Terms.{terms_of}
 use Rattle.registry.specs.Opening.{opened}
-use Rattle.books.specs.Book.{BookState, Follows, IsBack, BookReads, home}
+use Rattle.registry.specs.inner.Steps.{OpensAny, OpensOurs}
+use Rattle.registry.proofs.CallsKept.{begun, follows-on}
+use Rattle.registry.proofs.CrashLemmas.{refused_later}
+use Rattle.books.specs.Book.{BookFinds, BookReads, BookState, Follows, IsBack, home}
 use Rattle.states.specs.declared.readiness.Ready.{Ready}
 use Rattle.states.specs.declared.readiness.Ready.TheVariants.{Other}
 use Rattle.decisions.specs.declared.change.Change.TheVariants.{OpenAccount}
@@ -39,7 +42,8 @@ is_others old new same closed found = record {
   other = λ clean. sym (found clean);
 }
 
-pub opens_later : (p : PolicyRules) (old mid new : BookState) → BookReads old mid → Follows mid new → Opens p mid new → Opens p old new
+opens_later : (p : PolicyRules) (old mid new : BookState) → BookReads old mid → Follows mid new
+    → Opens p mid new → Opens p old new
 opens_later p old mid new same then opens = record {
   counted = opens.counted ∙ same.counted;
   closed = opens.closed;
@@ -47,7 +51,9 @@ opens_later p old mid new same then opens = record {
   fits = λ clean. sym (ap (goes_on (terms_of p)) (same.content (then.clean clean))) ∙ opens.fits clean;
 }
 
-pub refuses_later : (fault : OpenFault) (p : PolicyRules) (old mid new : BookState) → old.is_open ≡ false → BookReads old mid → Follows mid new → Refuses fault p mid new → fault ≢ refusals.Schema → Refuses fault p old new
+refuses_later : (fault : OpenFault) (p : PolicyRules) (old mid new : BookState)
+    → old.is_open ≡ false → BookReads old mid → Follows mid new → Refuses fault p mid new
+    → fault ≢ refusals.Schema → Refuses fault p old new
 refuses_later refusals.Policy p old mid new closed same then refused other = record {
   back = back-later old mid new same then closed refused.back;
   differs = λ clean. sym (ap (goes_on (terms_of p)) (same.content (then.clean clean))) ∙ refused.differs clean;
@@ -57,11 +63,37 @@ refuses_later refusals.Memory p old mid new closed same then refused other = (ba
 refuses_later refusals.Store p old mid new closed same then refused other =
     (back-later old mid new same then closed refused.0, subst (λ n. (n < new.refused) ⊎ (new.refused ≡ 0xFFFF_FFFF_FFFF_FFFF)) same.counted refused.1)
 
-pub is_ours : (ready : Ready) (old mid new : BookState) → ready ≢ Other → (mid.is_clean ≡ true → ready ≡ old.readiness) → Follows mid new → IsOurs old new
+is_ours : (ready : Ready) (old mid new : BookState) → ready ≢ Other
+    → (mid.is_clean ≡ true → ready ≡ old.readiness) → Follows mid new → IsOurs old new
 is_ours ready old mid new differs found then clean other = differs (found (then.clean clean) ∙ other)
 
-pub refuses_ours : (fault : OpenFault) (old new : BookState) → IsOurs old new → RefusesOurs fault old new
+refuses_ours : (fault : OpenFault) (old new : BookState) → IsOurs old new
+    → RefusesOurs fault old new
 refuses_ours refusals.Policy old new ours = ours
 refuses_ours refusals.Schema old new ours = tt
 refuses_ours refusals.Memory old new ours = tt
 refuses_ours refusals.Store old new ours = tt
+
+-- what is seen first is whether it is ours
+pub opens_after : {A : Type 0} (result : Result A OpenFault) (ready : Ready) (p : PolicyRules)
+    (old mid new : BookState)
+    → old.is_open ≡ false → ready ≢ Other → BookFinds (Ok ready) old.readiness old mid
+    → OpensOurs result p mid new → OpensAny result p old new
+opens_after (Ok it) ready p old mid new closed ours looked opens =
+    let follows : Follows old mid = begun old mid looked.0.counted looked.1.0 in (
+      opens_later p old mid new looked.0 opens.1.1 opens.0,
+      (
+        is_ours ready old mid new ours looked.1.1 opens.1.1,
+        (opens.1.0, follows-on old mid new follows opens.1.1),
+      ),
+    )
+opens_after (Err fault) ready p old mid new closed ours looked refused =
+    let follows : Follows old mid = begun old mid looked.0.counted looked.1.0 in
+    let then = refused.1.1.1 in
+    record {
+      refuses = refuses_later fault p old mid new closed looked.0 then refused.0 refused.1.0;
+      ours = refuses_ours fault old new (is_ours ready old mid new ours looked.1.1 then);
+      crash = refused_later fault p old mid new follows looked.1.0.leaves looked.0.content
+          refused.1.1.0;
+      follows = follows-on old mid new follows then;
+    }

@@ -42,8 +42,3 @@ RefusedTo refusals.Policy p old new = LeavesOld old new
 RefusedTo refusals.Schema p old new = LeavesOld old new
 RefusedTo refusals.Memory p old new = LeavesOldOrMade (OpensTo p) old new
 RefusedTo refusals.Store p old new = LeavesOldOrMade (OpensTo p) old new
-
-abbrev pub OutlivesOpening : {A : Type 0} → Result A OpenFault → PolicyRules → BookState → BookState
-    → Type 0
-OutlivesOpening (Ok it) p old new = LeavesItself new
-OutlivesOpening (Err fault) p old new = RefusedTo fault p old new

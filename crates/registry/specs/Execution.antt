@@ -1,5 +1,11 @@
 -- What the calls of the registry leave.
-use Rattle.std.specs.Prelude.{◌≡◌, ℕ, max, min, length, take, true, false}
+use Rattle.std.specs.Prelude.{◌≡◌, ℕ, max, min, length, take, true, List, [], Option, Some, None}
+use Rattle.concerns.specs.DueFor.{due_for}
+use Rattle.concerns.specs.Names.{named_by, named_of}
+use Rattle.lifecycle.specs.declared.due_object.Due.{Due}
+use Rattle.objects.specs.declared.roid.ObjectKind.{ObjectKind}
+use Rattle.protocol.specs.declared.order.Order.TheVariants.{Deposit, Status}
+use Rattle.protocol.specs.Orders.{name_ordered}
 use Rattle.policy.specs.Rules.{PolicyRules}
 use Rattle.registry.specs.Lapsing.{dues_lapsed}
 use Rattle.registry.specs.declared.fault.Fault.{Fault}
@@ -10,7 +16,7 @@ use Rattle.decisions.specs.Decisions.{decided}
 use Rattle.decisions.specs.Orders.{order_answer, order_effect}
 use Rattle.decisions.specs.Steps.{answer, effect, reply_of}
 use Rattle.decisions.specs.Isolation.{IsIsolated}
-use Rattle.books.specs.Book.{BookState, Follows, HasRefused, IsBack, NoRefusal, Stored}
+use Rattle.books.specs.Book.{BookState, HasRefused, NoRefusal}
 use Rattle.model.specs.DueBy.{due_by}
 use Rattle.protocol.specs.declared.code.Code.{Code}
 use Rattle.protocol.specs.declared.command.Command.{Command}
@@ -24,21 +30,47 @@ use Rattle.model.specs.Registry.{Registry}
 abbrev pub last_call : ℕ
 last_call = LAST_CALL
 
--- The reply is the rules' answer in the registry at that moment, and what is left is their effect.
+-- ---- what waits
+
+-- The registry as a call at a moment finds it: the clock is there, and of what is due just this has lapsed.
+abbrev pub with_lapsed : PolicyRules → (ℕ → Registry → List Due) → ℕ → Registry → Registry
+with_lapsed p due moment s =
+    let t = max moment s.clock in dues_lapsed p t (due t (at t s)) (at t s)
+
+-- before a registrar's command, what concerns it lapses
+abbrev pub found_by : PolicyRules → ℕ → Command → ℕ → Registry → Registry
+found_by p r c moment s = with_lapsed p (due_for p (Some r) (named_by c)) moment s
+
+-- before an order of statuses, what an info of the object concerns; before a deposit nothing
+abbrev pub due_at_name : PolicyRules → ObjectKind → Option (List ℕ) → ℕ → Registry → List Due
+due_at_name p kind None t s = []
+due_at_name p kind (Some name) t s = due_for p None (named_of kind name) t s
+
+abbrev pub due_for_order : PolicyRules → Order → ℕ → Registry → List Due
+due_for_order p (Status o) t s = due_at_name p o.kind (name_ordered p.zone o) t s
+due_for_order p (Deposit registrar cents) t s = []
+
+-- ---- steps
+
+-- The reply is the rules' answer in the registry at that moment, and what is left is their effect. Of what is
+-- due, just what concerns the command has lapsed.
 pub record IsStep (p : PolicyRules) (r : ℕ) (c : Command) (moment : ℕ) (before after : Registry) (reply : Reply) : Type 0 where
   pub answered : reply ≡ answer p r c (lapsed p moment before)
   pub left : now p after ≡ now p (effect p r c (lapsed p moment before))
+  pub waits : after ≡ effect p r c (found_by p r c moment before)
 
 -- The code is the rules' answer to an order in the registry at that moment, and what is left is the
--- order's effect.
+-- order's effect. Of what is due, just what concerns the order has lapsed.
 pub record IsOrderStep (p : PolicyRules) (order : Order) (moment : ℕ) (before after : Registry) (code : Code) : Type 0 where
   pub answered : code ≡ order_answer p order (lapsed p moment before)
   pub left : now p after ≡ now p (order_effect p order (lapsed p moment before))
+  pub waits : after ≡ order_effect p order (with_lapsed p (due_for_order p order) moment before)
 
--- Hello is answered with the registry's clock at that moment, and nothing else is done.
+-- Hello is answered with the registry's clock at that moment, and nothing else is done. Nothing lapses.
 pub record IsGreetingStep (p : PolicyRules) (moment : ℕ) (before after : Registry) (date : ℕ) : Type 0 where
   pub dated : date ≡ max moment before.clock
   pub left : now p after ≡ now p (lapsed p moment before)
+  pub waits : after ≡ at (max moment before.clock) before
 
 -- Of all that is due by the moment, in its order, the first so many objects lapse, and the clock stands
 -- there; what the registry is now is its lapse, however many they are.
@@ -75,12 +107,6 @@ pub record IsPrepared (p : PolicyRules) (r : ℕ) (c : Command) (t : ℕ) (f : F
   pub reply : prepared.reply ≡ reply_of p r c (decided p r t c f).verdict f.account.commands
   pub changes : prepared.changes ≡ (decided p r t c f).changes
 
--- what a call that gave up in a transaction leaves: it went back
-abbrev pub GoesBack : Fault → BookState → BookState → Type 0
-GoesBack faults.Memory old new = IsBack old new × NoRefusal old new
-GoesBack faults.Store old new = IsBack old new × HasRefused old new
-GoesBack faults.Moment old new = ⊥
-
 -- the book holds what it held
 pub record IsUnchanged (old new : BookState) : Type 0 where
   pub content : new.is_clean ≡ true → new.content ≡ old.content
@@ -94,19 +120,3 @@ Fails faults.Moment old new = IsUnchanged old new × NoRefusal old new
 -- the book is kept under the same terms
 abbrev pub SameTerms : BookState → BookState → Type 0
 SameTerms old new = new.is_clean ≡ true → new.content.terms ≡ old.content.terms
-
--- the same terms, with the registry as a call at a moment finds it
-abbrev pub at_moment : PolicyRules → ℕ → Stored → Stored
-at_moment p t s = record s { registry = lapsed p t s.registry }
-
--- the transaction is still open, and can go back as before; the terms are the same
-pub record IsWithin (old new : BookState) : Type 0 where
-  pub counted : NoRefusal old new
-  pub opened : new.is_open ≡ true
-  pub before : new.is_clean ≡ true → new.before ≡ old.before
-  pub terms : SameTerms old new
-
--- the transaction is over, kept or gone back on
-pub record IsOver (old new : BookState) : Type 0 where
-  pub closed : new.is_open ≡ false
-  pub follows : Follows old new

@@ -7,7 +7,6 @@ use Rattle.decisions.specs.Changes.{changed_all}
 use Rattle.decisions.specs.Lapsing.{lapse_changes}
 use Rattle.lifecycle.specs.declared.due_object.Due.{Due}
 use Rattle.books.specs.Book.{Stored}
-use Rattle.model.specs.DueBy.{due_by}
 
 abbrev pub due_lapsed : PolicyRules → ℕ → Registry → Due → Registry
 due_lapsed p t s d = changed_all p (lapse_changes p t d.name (object_at s d.kind d.name)) s
@@ -17,7 +16,3 @@ dues_lapsed p t ds s = fold (due_lapsed p t) s ds
 
 abbrev pub with_dues_lapsed : PolicyRules → ℕ → List Due → Stored → Stored
 with_dues_lapsed p t ds held = record held { registry = dues_lapsed p t ds held.registry }
-
--- all that is due by a moment
-abbrev pub with_lapsed : PolicyRules → ℕ → Stored → Stored
-with_lapsed p t held = with_dues_lapsed p t (due_by p t held.registry) held

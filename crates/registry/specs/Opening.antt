@@ -10,7 +10,7 @@ use Rattle.registry.specs.declared.fault.OpenFault.TheVariants as refusals
 use Rattle.decisions.specs.declared.change.Change.{Change}
 use Rattle.decisions.specs.declared.change.Change.TheVariants.{OpenAccount}
 use Rattle.decisions.specs.Changes.{changed_all}
-use Rattle.books.specs.Book.{BookState, HasRefused, IsBack, BookWrites, NoRefusal, Stored}
+use Rattle.books.specs.Book.{BookState, HasRefused, IsBack, NoRefusal, Stored}
 use Rattle.states.specs.declared.readiness.Ready.TheVariants.{Other}
 
 abbrev pub continues_earlier : ℕ → Terms → Option Terms → Bool
@@ -76,13 +76,3 @@ RefusesOurs refusals.Policy old new = IsOurs old new
 RefusesOurs refusals.Schema old new = Unit {0}
 RefusesOurs refusals.Memory old new = Unit {0}
 RefusesOurs refusals.Store old new = Unit {0}
-
--- in the open transaction the accounts are there, and the terms put down
-pub record IsTakenUp (p : PolicyRules) (old new : BookState) : Type 0 where
-  pub moves : BookWrites old new (opened p old.content)
-  pub fits : new.is_clean ≡ true → goes_on (terms_of p) old.content ≡ true
-
--- in a transaction, the book was taken up or it went back
-abbrev pub TakesUp : Bool → PolicyRules → BookState → BookState → Type 0
-TakesUp true p old new = IsTakenUp p old new
-TakesUp false p old new = DoesNotFit p old new

@@ -1,21 +1,20 @@
 //! How a registrar's command is answered.
-ghost use Rattle.std.specs.Prelude.{◌≡◌, true, IfOk, IfErr, OnOk};
+ghost use Rattle.std.specs.Prelude.{◌≡◌, true, IfOk};
 ghost use Rattle.accounts.specs.Account.{saturating_next};
-ghost use Rattle.registry.specs.Execution.{GoesBack, IsPrepared, IsStep, IsWithin, Steps};
+ghost use Rattle.registry.specs.Execution.{IsPrepared, IsStep};
+ghost use Rattle.registry.specs.inner.Steps.{FindsSome, IsMade, Works};
 ghost use Rattle.decisions.specs.Steps.{reply_of};
-ghost use Rattle.books.specs.Book.{Follows, BookReads, LeavesSame, BookWrites, with_changes};
 ghost use Rattle.facts.specs.Facts.{facts};
 ghost use Rattle.rules.specs.ResponseData.{id_of};
 ghost use Rattle.protocol.specs.Requests.{cl_trid_of};
 
-use crate::fault::Fault;
-use crate::passing::settle_for_command;
-use crate::transaction::{apply, facts_for, or_rollback};
+use crate::passing::{Scope, pass};
+use crate::transaction::or_rollback;
 use crate::work::Work;
 use basis::list::Seq;
 use basis::registrar::RegistrarNo;
 use basis::text::{Text, copied};
-use books::Book;
+use books::{Book, BookFault};
 use calendar::Moment;
 use decisions::{Change, decide};
 use facts::Facts;
@@ -35,33 +34,19 @@ pub(crate) struct CommandWork<'c> {
 impl Work for CommandWork<'_> {
     type Answer = Reply;
 
-    ghost step = { λ it p before after reply. IsStep p it.caller it.command.now it.moment before after reply };
+    ghost step = { λ it p. IsStep p it.caller it.command.now it.moment };
 
-    fn work<B: Book>(&self, book: &mut B, alloc: Global, policy: &Policy) -> Result<Reply, Fault> {
-        execute_in(book, alloc, self.caller, self.command, self.moment, policy)
+    fn work<B: Book>(
+        &self,
+        book: &mut B,
+        alloc: Global,
+        policy: &Policy,
+    ) -> Result<Reply, BookFault> {
+        let scope = Scope::Command(self.caller, self.command);
+        let now = pass(book, alloc, &scope, self.moment, policy)?;
+        let prepared = prepare(book, alloc, self.caller, self.command, now, policy)?;
+        make_prepared(book, prepared, policy)
     }
-}
-
-/// Answers a command in an open transaction.
-fn execute_in<B: Book>(
-    book: &mut B,
-    alloc: Global,
-    caller: RegistrarNo,
-    command: &Command,
-    moment: Moment,
-    policy: &Policy,
-) -> Result<Reply, Fault>
-    requires { (B.state book.old).is_open ≡ true }
-    ensures step { IfOk result (λ reply. Steps policy.now caller command.now moment reply
-        (B.state book.old) (B.state book.new)) }
-    ensures within { OnOk result (IsWithin (B.state book.old) (B.state book.new)) }
-    ensures fault { IfErr result (λ fault. GoesBack fault (B.state book.old) (B.state book.new)) }
-    ensures follows { Follows (B.state book.old) (B.state book.new) }
-    ensures leaves { LeavesSame (B.state book.old) (B.state book.new) }
-{
-    let now = settle_for_command(book, alloc, caller, command, moment, policy)?;
-    let prepared = prepare(book, alloc, caller, command, now, policy)?;
-    make_prepared(book, prepared, policy)
 }
 
 /// A reply, and the changes that go with it.
@@ -79,17 +64,13 @@ fn prepare<B: Book>(
     command: &Command,
     now: Moment,
     policy: &Policy,
-) -> Result<Prepared, Fault>
+) -> Result<Prepared, BookFault>
     requires { (B.state book.old).is_open ≡ true }
-    ensures prepared { IfOk result (λ prepared. (B.state book.new).is_clean ≡ true
-        → IsPrepared policy.now caller command.now now (facts policy.now caller command.now
-        (B.state book.old).content.registry) prepared) }
-    ensures same { OnOk result (BookReads (B.state book.old) (B.state book.new)) }
-    ensures fault { IfErr result (λ fault. GoesBack fault (B.state book.old) (B.state book.new)) }
-    ensures follows { Follows (B.state book.old) (B.state book.new) }
-    ensures leaves { LeavesSame (B.state book.old) (B.state book.new) }
+    ensures { FindsSome result (IsPrepared policy.now caller command.now now (facts policy.now
+        caller command.now (B.state book.old).content.registry)) (B.state book.old)
+        (B.state book.new) }
 {
-    let facts = facts_for(book, caller, command, policy)?;
+    let facts = book.facts_for(caller, command, policy)?;
     let prepared = prepared_by(alloc, &facts, caller, command, now, policy);
     drop(facts);
     or_rollback(book, prepared)
@@ -115,17 +96,17 @@ fn prepared_by(
 }
 
 /// Makes the changes in an open transaction, and gives the reply.
-fn make_prepared<B: Book>(book: &mut B, prepared: Prepared, policy: &Policy) -> Result<Reply, Fault>
+fn make_prepared<B: Book>(
+    book: &mut B,
+    prepared: Prepared,
+    policy: &Policy,
+) -> Result<Reply, BookFault>
     requires { (B.state book.old).is_open ≡ true }
-    ensures reply { IfOk result (λ reply. reply ≡ prepared.reply) }
-    ensures made { OnOk result (BookWrites (B.state book.old) (B.state book.new)
-        (with_changes policy.now prepared.changes (B.state book.old).content)) }
-    ensures fault { IfErr result (λ fault. GoesBack fault (B.state book.old) (B.state book.new)) }
-    ensures follows { Follows (B.state book.old) (B.state book.new) }
-    ensures leaves { LeavesSame (B.state book.old) (B.state book.new) }
+    ensures { Works result (IsMade policy.now prepared.changes prepared.reply) (B.state book.old)
+        (B.state book.new) }
 {
     let Prepared { reply, changes } = prepared;
-    match apply(book, changes, policy) {
+    match book.apply(changes, policy) {
         Ok(()) => Ok(reply),
         Err(fault) => {
             drop(reply);

@@ -1,22 +1,24 @@
-//! What can be looked up in a registry at a moment: what everyone may know, and a registrar's account.
-ghost use Rattle.std.specs.Prelude.{◌≡◌, true, map, IfOk, IfErr, OnOk};
-ghost use Rattle.registry.specs.Execution.{GoesBack, IsWithin};
-ghost use Rattle.registry.specs.Faces.{IsLookUp, LooksUp};
-ghost use Rattle.books.specs.Book.{Follows, BookReads, LeavesSame};
+//! What can be looked up in a registry at a moment: what everyone may know, and a registrar's
+//! account.
+ghost use Rattle.std.specs.Prelude.{◌≡◌, true, map, Some};
+ghost use Rattle.concerns.specs.Names.{named_by};
+ghost use Rattle.objects.specs.declared.roid.ObjectKind.TheVariants as kinds;
+ghost use Rattle.registry.specs.Faces.{IsLookUp};
+ghost use Rattle.registry.specs.inner.FaceLaws as laws;
+ghost use Rattle.registry.specs.inner.Passing.{about, balance_command, concerning, everything};
+ghost use Rattle.registry.specs.inner.Steps.{Works};
 ghost use Rattle.model.specs.Registry.{account_of};
-ghost use Rattle.books.specs.Faces.{contact_face_at, domain_face_at, domain_names, host_addresses_at, host_face_at};
+ghost use Rattle.books.specs.Faces.{contact_face_at, domain_face_at, domain_names};
+ghost use Rattle.books.specs.Faces.{host_addresses_at, host_face_at};
 
-use crate::fault::Fault;
-use crate::passing::{
-    settle_all, settle_for_object, settle_for_registrar, settle_nothing, settle_object,
-};
+use crate::passing::{Scope, catch_up, pass};
 use crate::transaction::or_rollback;
 use crate::work::Work;
 use accounts::Lines;
 use basis::list::Seq;
 use basis::registrar::RegistrarNo;
 use basis::text::Text;
-use books::Book;
+use books::{Book, BookFault};
 use calendar::Moment;
 use objects::{ContactFace, DomainFace, HostFace, ObjectKind};
 use policy::Policy;
@@ -24,12 +26,11 @@ use std::alloc::Global;
 
 /// What can be looked up in a book.
 pub(crate) trait LookUp {
-    ghost use Rattle.std.specs.Prelude.{◌≡◌, true, IfOk, IfErr, OnOk};
+    ghost use Rattle.std.specs.Prelude.{◌≡◌};
     ghost use Rattle.model.specs.Registry.{Registry};
     ghost use Rattle.policy.specs.Rules.{PolicyRules};
-    ghost use Rattle.registry.specs.Execution.{GoesBack};
-    ghost use Rattle.registry.specs.inner.Passing.{Reaches};
-    ghost use Rattle.books.specs.Book.{Follows, BookReads, LeavesSame};
+    ghost use Rattle.registry.specs.inner.Passing.{Extent, IsAsNow, extent_of};
+    ghost use Rattle.books.specs.Book.{BookFinds};
 
     /// What is found.
     type Found: Drop;
@@ -37,32 +38,20 @@ pub(crate) trait LookUp {
     /// What it is in a registry.
     ghost finds: { Self → PolicyRules → Registry → Self.Found };
 
-    /// Lets time pass up to a moment in an open transaction, and all lapse that bears on it.
-    fn reach<B: Book>(
-        &self,
-        book: &mut B,
-        alloc: Global,
-        moment: Moment,
-        policy: &Policy,
-    ) -> Result<(), Fault>
-        requires { (B.state book.old).is_open ≡ true }
-        ensures reached { OnOk result (Reaches policy.now (finds self.now policy.now) moment
-            (B.state book.old) (B.state book.new)) }
-        ensures fault { IfErr result (λ fault. GoesBack fault (B.state book.old)
-            (B.state book.new)) }
-        ensures follows { Follows (B.state book.old) (B.state book.new) }
-        ensures leaves { LeavesSame (B.state book.old) (B.state book.new) };
+    /// What lapses before.
+    ghost awaits: { Self → Extent };
+
+    /// Once that has lapsed, it is what it is once all has that is due.
+    ghost stands: { (it : Self) → IsAsNow (awaits it) (finds it) };
+
+    /// What lapses before.
+    fn scope(&self) -> Scope<'_>
+        ensures { extent_of result ≡ awaits self.now };
 
     /// Looks it up in an open transaction.
-    fn look<B: Book>(&self, book: &mut B, policy: &Policy) -> Result<Self::Found, Fault>
-        requires { (B.state book.old).is_open ≡ true }
-        ensures found { IfOk result (λ found. (B.state book.new).is_clean ≡ true
-            → found ≡ finds self.now policy.now (B.state book.old).content.registry) }
-        ensures same { OnOk result (BookReads (B.state book.old) (B.state book.new)) }
-        ensures fault { IfErr result (λ fault. GoesBack fault (B.state book.old)
-            (B.state book.new)) }
-        ensures follows { Follows (B.state book.old) (B.state book.new) }
-        ensures leaves { LeavesSame (B.state book.old) (B.state book.new) };
+    fn look<B: Book>(&self, book: &mut B, policy: &Policy) -> Result<Self::Found, BookFault>
+        ensures { BookFinds result (finds self.now policy.now (B.state book.old).content.registry)
+            (B.state book.old) (B.state book.new) };
 }
 
 /// The domain under a name.
@@ -74,19 +63,20 @@ impl LookUp for DomainAt<'_> {
 
     ghost finds = { λ it p s. domain_face_at p s it.0.now };
 
-    fn reach<B: Book>(
-        &self,
-        book: &mut B,
-        alloc: Global,
-        moment: Moment,
-        policy: &Policy,
-    ) -> Result<(), Fault> {
-        settle_for_object(book, alloc, ObjectKind::Domain, self.0, moment, policy)?;
-        Ok(())
+    ghost awaits = { λ it. about kinds.Domain it.0.now };
+
+    ghost stands = { λ it p s. laws.domain-face-now p it.0.now s };
+
+    fn scope(&self) -> Scope<'_> {
+        Scope::Object(ObjectKind::Domain, self.0)
     }
 
-    fn look<B: Book>(&self, book: &mut B, policy: &Policy) -> Result<Option<DomainFace>, Fault> {
-        Ok(book.domain_face(self.0, policy)?)
+    fn look<B: Book>(
+        &self,
+        book: &mut B,
+        policy: &Policy,
+    ) -> Result<Option<DomainFace>, BookFault> {
+        book.domain_face(self.0, policy)
     }
 }
 
@@ -99,19 +89,16 @@ impl LookUp for HostAt<'_> {
 
     ghost finds = { λ it p s. host_face_at p s it.0.now };
 
-    fn reach<B: Book>(
-        &self,
-        book: &mut B,
-        alloc: Global,
-        moment: Moment,
-        policy: &Policy,
-    ) -> Result<(), Fault> {
-        settle_for_object(book, alloc, ObjectKind::Host, self.0, moment, policy)?;
-        Ok(())
+    ghost awaits = { λ it. about kinds.Host it.0.now };
+
+    ghost stands = { λ it p s. laws.host-face-now p it.0.now s };
+
+    fn scope(&self) -> Scope<'_> {
+        Scope::Object(ObjectKind::Host, self.0)
     }
 
-    fn look<B: Book>(&self, book: &mut B, policy: &Policy) -> Result<Option<HostFace>, Fault> {
-        Ok(book.host_face(self.0, policy)?)
+    fn look<B: Book>(&self, book: &mut B, policy: &Policy) -> Result<Option<HostFace>, BookFault> {
+        book.host_face(self.0, policy)
     }
 }
 
@@ -124,19 +111,16 @@ impl LookUp for ContactAt<'_> {
 
     ghost finds = { λ it p s. contact_face_at s it.0.now };
 
-    fn reach<B: Book>(
-        &self,
-        book: &mut B,
-        alloc: Global,
-        moment: Moment,
-        policy: &Policy,
-    ) -> Result<(), Fault> {
-        settle_for_object(book, alloc, ObjectKind::Contact, self.0, moment, policy)?;
-        Ok(())
+    ghost awaits = { λ it. about kinds.Contact it.0.now };
+
+    ghost stands = { λ it p s. laws.contact-face-now p it.0.now s };
+
+    fn scope(&self) -> Scope<'_> {
+        Scope::Object(ObjectKind::Contact, self.0)
     }
 
-    fn look<B: Book>(&self, book: &mut B, _: &Policy) -> Result<Option<ContactFace>, Fault> {
-        Ok(book.contact_face(self.0)?)
+    fn look<B: Book>(&self, book: &mut B, _: &Policy) -> Result<Option<ContactFace>, BookFault> {
+        book.contact_face(self.0)
     }
 }
 
@@ -149,19 +133,16 @@ impl LookUp for DomainNames {
 
     ghost finds = { λ _ p s. domain_names s };
 
-    fn reach<B: Book>(
-        &self,
-        book: &mut B,
-        alloc: Global,
-        moment: Moment,
-        policy: &Policy,
-    ) -> Result<(), Fault> {
-        settle_all(book, alloc, moment, policy)?;
-        Ok(())
+    ghost awaits = { λ _. everything };
+
+    ghost stands = { λ _ p s. laws.names-now p s };
+
+    fn scope(&self) -> Scope<'_> {
+        Scope::All
     }
 
-    fn look<B: Book>(&self, book: &mut B, _: &Policy) -> Result<Seq<Text>, Fault> {
-        Ok(book.domain_names()?)
+    fn look<B: Book>(&self, book: &mut B, _: &Policy) -> Result<Seq<Text>, BookFault> {
+        book.domain_names()
     }
 }
 
@@ -174,19 +155,16 @@ impl LookUp for AddressesAt<'_> {
 
     ghost finds = { λ it p s. host_addresses_at s it.0.now };
 
-    fn reach<B: Book>(
-        &self,
-        book: &mut B,
-        alloc: Global,
-        moment: Moment,
-        policy: &Policy,
-    ) -> Result<(), Fault> {
-        settle_for_object(book, alloc, ObjectKind::Host, self.0, moment, policy)?;
-        Ok(())
+    ghost awaits = { λ it. about kinds.Host it.0.now };
+
+    ghost stands = { λ it p s _. laws.addresses-now p it.0.now s };
+
+    fn scope(&self) -> Scope<'_> {
+        Scope::Object(ObjectKind::Host, self.0)
     }
 
-    fn look<B: Book>(&self, book: &mut B, _: &Policy) -> Result<Option<Seq<Text>>, Fault> {
-        Ok(book.host_addresses(self.0)?)
+    fn look<B: Book>(&self, book: &mut B, _: &Policy) -> Result<Option<Seq<Text>>, BookFault> {
+        book.host_addresses(self.0)
     }
 }
 
@@ -199,19 +177,16 @@ impl LookUp for LinesOf {
 
     ghost finds = { λ it p s. (account_of it.0 s).lines };
 
-    fn reach<B: Book>(
-        &self,
-        book: &mut B,
-        alloc: Global,
-        moment: Moment,
-        policy: &Policy,
-    ) -> Result<(), Fault> {
-        settle_for_registrar(book, alloc, self.0, moment, policy)?;
-        Ok(())
+    ghost awaits = { λ it. concerning (Some it.0) (named_by balance_command) };
+
+    ghost stands = { λ it p s. laws.lines-now p it.0 s };
+
+    fn scope(&self) -> Scope<'_> {
+        Scope::Registrar(self.0)
     }
 
-    fn look<B: Book>(&self, book: &mut B, _: &Policy) -> Result<Lines, Fault> {
-        Ok(book.lines(self.0)?)
+    fn look<B: Book>(&self, book: &mut B, _: &Policy) -> Result<Lines, BookFault> {
+        book.lines(self.0)
     }
 }
 
@@ -225,15 +200,15 @@ pub(crate) struct LookUpWork<'l, L> {
 impl<L: LookUp> Work for LookUpWork<'_, L> {
     type Answer = L::Found;
 
-    ghost step = { λ it p before after found. IsLookUp p (L.finds it.what.now p) it.moment before after found };
+    ghost step = { λ it p. IsLookUp p (L.finds it.what.now p) it.moment };
 
     fn work<B: Book>(
         &self,
         book: &mut B,
         alloc: Global,
         policy: &Policy,
-    ) -> Result<L::Found, Fault> {
-        self.what.reach(book, alloc, self.moment, policy)?;
+    ) -> Result<L::Found, BookFault> {
+        pass(book, alloc, &self.what.scope(), self.moment, policy)?;
         self.what.look(book, policy)
     }
 }
@@ -248,38 +223,33 @@ pub(crate) struct DomainsWork<'n> {
 impl Work for DomainsWork<'_> {
     type Answer = Seq<Option<DomainFace>>;
 
-    ghost step = { λ it p before after found. IsLookUp p (λ s. map (domain_face_at p s) it.names.now) it.moment before after found };
+    ghost step = { λ it p. IsLookUp p (λ s. map (domain_face_at p s) it.names.now) it.moment };
 
     fn work<B: Book>(
         &self,
         book: &mut B,
         alloc: Global,
         policy: &Policy,
-    ) -> Result<Seq<Option<DomainFace>>, Fault> {
-        let now = settle_nothing(book, alloc, self.moment, policy)?;
+    ) -> Result<Seq<Option<DomainFace>>, BookFault> {
+        let now = pass(book, alloc, &Scope::Nothing, self.moment, policy)?;
         domains_at(book, alloc, self.names, now, policy)
     }
 }
 
-/// What everyone may know of the domain under each of these names, in an open transaction whose clock
-/// stands at the moment: one after another lapses and is looked up.
+/// What everyone may know of the domain under each of these names, in an open transaction whose
+/// clock stands at the moment: one after another lapses and is looked up.
 fn domains_at<B: Book>(
     book: &mut B,
     alloc: Global,
     names: &[Text],
     moment: Moment,
     policy: &Policy,
-) -> Result<Seq<Option<DomainFace>>, Fault>
+) -> Result<Seq<Option<DomainFace>>, BookFault>
     requires opened { (B.state book.old).is_open ≡ true }
     requires clock { (B.state book.old).is_clean ≡ true
         → (B.state book.old).content.registry.clock ≡ moment }
-    ensures found { IfOk result (λ found. LooksUp policy.now
-        (λ s. map (domain_face_at policy.now s) names.now) moment found (B.state book.old)
-        (B.state book.new)) }
-    ensures within { OnOk result (IsWithin (B.state book.old) (B.state book.new)) }
-    ensures fault { IfErr result (λ fault. GoesBack fault (B.state book.old) (B.state book.new)) }
-    ensures follows { Follows (B.state book.old) (B.state book.new) }
-    ensures leaves { LeavesSame (B.state book.old) (B.state book.new) }
+    ensures { Works result (IsLookUp policy.now (λ s. map (domain_face_at policy.now s) names.now)
+        moment) (B.state book.old) (B.state book.new) }
 {
     let mut faces = Seq::new(alloc);
     for name in names {
@@ -297,18 +267,19 @@ fn domain_at<B: Book>(
     name: &Text,
     moment: Moment,
     policy: &Policy,
-) -> Result<Option<DomainFace>, Fault>
+) -> Result<Option<DomainFace>, BookFault>
     requires opened { (B.state book.old).is_open ≡ true }
     requires clock { (B.state book.old).is_clean ≡ true
         → (B.state book.old).content.registry.clock ≡ moment }
-    ensures found { IfOk result (λ found. LooksUp policy.now
-        (λ s. domain_face_at policy.now s name.now) moment found (B.state book.old)
-        (B.state book.new)) }
-    ensures within { OnOk result (IsWithin (B.state book.old) (B.state book.new)) }
-    ensures fault { IfErr result (λ fault. GoesBack fault (B.state book.old) (B.state book.new)) }
-    ensures follows { Follows (B.state book.old) (B.state book.new) }
-    ensures leaves { LeavesSame (B.state book.old) (B.state book.new) }
+    ensures { Works result (IsLookUp policy.now (λ s. domain_face_at policy.now s name.now) moment)
+        (B.state book.old) (B.state book.new) }
 {
-    settle_object(book, alloc, ObjectKind::Domain, name, moment, policy)?;
-    DomainAt(name).look(book, policy)
+    catch_up(
+        book,
+        alloc,
+        &Scope::Object(ObjectKind::Domain, name),
+        moment,
+        policy,
+    )?;
+    book.domain_face(name, policy)
 }

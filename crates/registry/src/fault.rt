@@ -1,7 +1,7 @@
 //! Why a call of the registry gave up.
 ghost use Rattle.std.specs.Prelude.{◌≡◌};
 ghost use Rattle.registry.specs.declared.fault.Fault.TheVariants.{Memory};
-ghost use Rattle.registry.specs.Faults.{of_book};
+ghost use Rattle.registry.specs.Faults.{of_book, opening_of_book};
 
 use books::BookFault;
 use std::alloc::AllocError;
@@ -56,4 +56,15 @@ pub enum OpenFault {
     /// What keeps the book refused.
     #[error("store fault")]
     Store,
+}
+
+impl From<BookFault> for OpenFault {
+    ghost from_gives = { λ error fault. fault ≡ opening_of_book error };
+
+    fn from(error: BookFault) -> OpenFault {
+        match error {
+            BookFault::Memory => OpenFault::Memory,
+            BookFault::Store => OpenFault::Store,
+        }
+    }
 }

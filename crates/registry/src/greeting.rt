@@ -1,10 +1,9 @@
 //! How hello is answered (RFC 5730, 2.4).
 ghost use Rattle.registry.specs.Execution.{IsGreetingStep};
 
-use crate::fault::Fault;
-use crate::passing::settle_nothing;
+use crate::passing::{Scope, pass};
 use crate::work::Work;
-use books::Book;
+use books::{Book, BookFault};
 use calendar::Moment;
 use policy::Policy;
 use std::alloc::Global;
@@ -18,9 +17,14 @@ pub(crate) struct GreetingWork {
 impl Work for GreetingWork {
     type Answer = Moment;
 
-    ghost step = { λ it p before after date. IsGreetingStep p it.moment before after date };
+    ghost step = { λ it p. IsGreetingStep p it.moment };
 
-    fn work<B: Book>(&self, book: &mut B, alloc: Global, policy: &Policy) -> Result<Moment, Fault> {
-        settle_nothing(book, alloc, self.moment, policy)
+    fn work<B: Book>(
+        &self,
+        book: &mut B,
+        alloc: Global,
+        policy: &Policy,
+    ) -> Result<Moment, BookFault> {
+        pass(book, alloc, &Scope::Nothing, self.moment, policy)
     }
 }

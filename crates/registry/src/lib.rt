@@ -1,6 +1,6 @@
-//! The registry that registrars and the operator use: a command or an order is one transaction and one
-//! step of the rules. A registrar's reply depends on nothing that the registrar may not see: see the
-//! clause `isolation` of [`Registry::execute`].
+//! The registry that registrars and the operator use: a command or an order is one transaction and
+//! one step of the rules. A registrar's reply depends on nothing that the registrar may not see:
+//! see the clause `isolation` of [`Registry::execute`].
 #![tactic(auto)]
 
 mod askable;

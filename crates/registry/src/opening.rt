@@ -1,15 +1,12 @@
 //! How a book is opened under a policy.
-ghost use Rattle.std.specs.Prelude.{◌≡◌, ◌≢◌, true, false, IfOk, IfErr, OnOk};
+ghost use Rattle.std.specs.Prelude.{◌≡◌, true, false, IfOk};
 ghost use Rattle.policy.specs.Terms.{terms_of};
-ghost use Rattle.registry.specs.Crashes.{OpensTo, OutlivesOpening};
-ghost use Rattle.registry.specs.Execution.{GoesBack};
 ghost use Rattle.registry.specs.Opening as spec;
-ghost use Rattle.registry.specs.declared.fault.OpenFault.TheVariants as refusals;
-ghost use Rattle.registry.specs.Opening.{IsOurs, Opens, Refuses, RefusesOurs, TakesUp};
-ghost use Rattle.books.specs.Book.{Follows, LeavesSame, BookWrites};
+ghost use Rattle.registry.specs.inner.Steps.{OpensAny, OpensOurs, TakesUp};
+ghost use Rattle.books.specs.Book.{BookMakes};
 
-use crate::fault::{Fault, OpenFault};
-use crate::transaction::{apply, clock, keep_terms, or_rollback, terms};
+use crate::fault::OpenFault;
+use crate::transaction::or_rollback;
 use basis::list::Seq;
 use basis::registrar::RegistrarNo;
 use books::{Book, BookFault, Ready};
@@ -19,51 +16,31 @@ use policy::{Policy, Terms};
 use std::alloc::{AllocError, Global};
 
 /// Opens a book, unless what keeps it is another's.
-#[tactic(auto, using(crate::proofs::OpeningLemmas::opens_later, crate::proofs::OpeningLemmas::refuses_later, crate::proofs::OpeningLemmas::is_others, crate::proofs::OpeningLemmas::is_ours, crate::proofs::OpeningLemmas::refuses_ours, crate::proofs::CrashLemmas::gave_up, crate::proofs::CrashLemmas::left_alone, crate::proofs::CrashLemmas::opening_later))]
+#[tactic(auto, using(crate::proofs::OpeningLemmas::is_others, crate::proofs::CrashLemmas::leaving))]
 pub(crate) fn open_in<B: Book>(
     book: &mut B,
     alloc: Global,
     policy: &Policy,
 ) -> Result<(), OpenFault>
     requires { (B.state book.old).is_open ≡ false }
-    ensures opened { OnOk result (Opens policy.now (B.state book.old) (B.state book.new)
-        × IsOurs (B.state book.old) (B.state book.new)) }
-    ensures refused { IfErr result (λ fault. Refuses fault policy.now (B.state book.old)
-        (B.state book.new)) }
-    ensures refused_ours { IfErr result (λ fault. RefusesOurs fault (B.state book.old)
-        (B.state book.new)) }
-    ensures crash { OutlivesOpening result policy.now (B.state book.old) (B.state book.new) }
-    ensures follows { Follows (B.state book.old) (B.state book.new) }
+    ensures { OpensAny result policy.now (B.state book.old) (B.state book.new) }
 {
     match book.ready() {
         Ok(Ready::Other) => Err(OpenFault::Schema),
         Ok(Ready::Empty | Ready::Used) => open_ours(book, alloc, policy),
-        Err(BookFault::Memory) => Err(OpenFault::Memory),
-        Err(BookFault::Store) => Err(OpenFault::Store),
+        Err(fault) => Err(OpenFault::from(fault)),
     }
 }
 
 /// Opens a book in one transaction.
-#[tactic(auto, using(crate::proofs::CrashLemmas::gave_up, crate::proofs::CrashLemmas::left_alone, crate::proofs::CrashLemmas::kept_alone, crate::proofs::CrashLemmas::kept_or_not))]
+#[tactic(auto, using(crate::proofs::CrashLemmas::leaving))]
 fn open_ours<B: Book>(book: &mut B, alloc: Global, policy: &Policy) -> Result<(), OpenFault>
     requires { (B.state book.old).is_open ≡ false }
-    ensures opened { OnOk result (Opens policy.now (B.state book.old) (B.state book.new)) }
-    ensures refused { IfErr result (λ fault. Refuses fault policy.now (B.state book.old)
-        (B.state book.new)) }
-    ensures known { IfErr result (λ fault. fault ≢ refusals.Schema) }
-    ensures crash { OutlivesOpening result policy.now (B.state book.old) (B.state book.new) }
-    ensures follows { Follows (B.state book.old) (B.state book.new) }
+    ensures { OpensOurs result policy.now (B.state book.old) (B.state book.new) }
 {
-    match book.begin() {
-        Ok(()) => {}
-        Err(BookFault::Memory) => return Err(OpenFault::Memory),
-        Err(BookFault::Store) => return Err(OpenFault::Store),
-    }
-    match take_up(book, alloc, policy) {
-        Ok(true) => {}
-        Ok(false) => return Err(OpenFault::Policy),
-        Err(Fault::Store) => return Err(OpenFault::Store),
-        Err(_) => return Err(OpenFault::Memory),
+    book.begin()?;
+    if !take_up(book, alloc, policy)? {
+        return Err(OpenFault::Policy);
     }
     match book.commit() {
         Ok(()) => Ok(()),
@@ -72,37 +49,14 @@ fn open_ours<B: Book>(book: &mut B, alloc: Global, policy: &Policy) -> Result<()
     }
 }
 
-/// Takes a book up in an open transaction, or goes back where the policy doesn't continue the terms that it
-/// was used under.
-fn take_up<B: Book>(book: &mut B, alloc: Global, policy: &Policy) -> Result<bool, Fault>
+/// Takes a book up in an open transaction, or goes back where the policy doesn't continue the terms
+/// that it was used under.
+fn take_up<B: Book>(book: &mut B, alloc: Global, policy: &Policy) -> Result<bool, BookFault>
     requires { (B.state book.old).is_open ≡ true }
-    ensures taken { IfOk result (λ taken. TakesUp taken policy.now (B.state book.old)
-        (B.state book.new)) }
-    ensures fault { IfErr result (λ fault. GoesBack fault (B.state book.old) (B.state book.new)) }
-    ensures follows { Follows (B.state book.old) (B.state book.new) }
-    ensures leaves { LeavesSame (B.state book.old) (B.state book.new) }
+    ensures { TakesUp result policy.now (B.state book.old) (B.state book.new) }
 {
-    let clock = clock(book)?;
-    take_up_at(book, alloc, policy, clock)
-}
-
-/// The same, told its clock.
-fn take_up_at<B: Book>(
-    book: &mut B,
-    alloc: Global,
-    policy: &Policy,
-    clock: Moment,
-) -> Result<bool, Fault>
-    requires open { (B.state book.old).is_open ≡ true }
-    requires clock { (B.state book.old).is_clean ≡ true
-        → clock ≡ (B.state book.old).content.registry.clock }
-    ensures taken { IfOk result (λ taken. TakesUp taken policy.now (B.state book.old)
-        (B.state book.new)) }
-    ensures fault { IfErr result (λ fault. GoesBack fault (B.state book.old) (B.state book.new)) }
-    ensures follows { Follows (B.state book.old) (B.state book.new) }
-    ensures leaves { LeavesSame (B.state book.old) (B.state book.new) }
-{
-    let earlier = terms(book)?;
+    let clock = book.clock()?;
+    let earlier = book.terms()?;
     let own = or_rollback(book, policy.terms(alloc))?;
     let goes_on = continues_earlier(&own, &earlier, clock);
     drop(earlier);
@@ -126,18 +80,20 @@ fn continues_earlier(terms: &Terms, earlier: &Option<Terms>, clock: Moment) -> b
 }
 
 /// Opens the registrars' accounts, and puts down the terms.
-fn install<B: Book>(book: &mut B, alloc: Global, policy: &Policy, own: Terms) -> Result<(), Fault>
+fn install<B: Book>(
+    book: &mut B,
+    alloc: Global,
+    policy: &Policy,
+    own: Terms,
+) -> Result<(), BookFault>
     requires open { (B.state book.old).is_open ≡ true }
     requires own { own ≡ terms_of policy.now }
-    ensures opened { OnOk result (BookWrites (B.state book.old) (B.state book.new)
-        (spec.opened policy.now (B.state book.old).content)) }
-    ensures fault { IfErr result (λ fault. GoesBack fault (B.state book.old) (B.state book.new)) }
-    ensures follows { Follows (B.state book.old) (B.state book.new) }
-    ensures leaves { LeavesSame (B.state book.old) (B.state book.new) }
+    ensures { BookMakes result (spec.opened policy.now (B.state book.old).content)
+        (B.state book.old) (B.state book.new) }
 {
     let accounts = or_rollback(book, openings(alloc, policy.registrars()))?;
-    apply(book, accounts, policy)?;
-    keep_terms(book, own)
+    book.apply(accounts, policy)?;
+    book.keep_terms(own)
 }
 
 /// An account for each of the first registrars.

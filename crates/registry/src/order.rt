@@ -1,18 +1,18 @@
 //! How an order of the operator is carried out.
-ghost use Rattle.std.specs.Prelude.{◌≡◌, true, option_and_then, IfOk, IfErr, OnOk};
-ghost use Rattle.registry.specs.Execution.{GoesBack, IsOrderStep, IsWithin, OrderSteps};
+ghost use Rattle.std.specs.Prelude.{◌≡◌, true, option_and_then};
+ghost use Rattle.registry.specs.Execution.{IsOrderStep};
 ghost use Rattle.protocol.specs.declared.order.Order.TheVariants as orders;
 ghost use Rattle.registry.specs.inner.Passing.{status_at};
+ghost use Rattle.registry.specs.inner.Steps.{IsCarriedOut, Works};
 ghost use Rattle.decisions.specs.Orders.{deposit_decision};
-ghost use Rattle.books.specs.Book.{Follows, BookReads, LeavesSame, BookWrites, with_changes};
+ghost use Rattle.books.specs.Book.{BookFinds};
 ghost use Rattle.model.specs.Objects.{object_at};
 
-use crate::fault::Fault;
-use crate::passing::{settle_for_name, settle_nothing};
-use crate::transaction::{apply, object_at, or_rollback};
+use crate::passing::{Scope, pass};
+use crate::transaction::or_rollback;
 use crate::work::Work;
 use basis::text::Text;
-use books::Book;
+use books::{Book, BookFault};
 use calendar::Moment;
 use decisions::{OrderDecision, decide_deposit, decide_order};
 use model::Object;
@@ -31,33 +31,19 @@ pub(crate) struct OrderWork<'o> {
 impl Work for OrderWork<'_> {
     type Answer = Code;
 
-    ghost step = { λ it p before after code. IsOrderStep p it.order.now it.moment before after code };
+    ghost step = { λ it p. IsOrderStep p it.order.now it.moment };
 
-    fn work<B: Book>(&self, book: &mut B, alloc: Global, policy: &Policy) -> Result<Code, Fault> {
-        execute_order_in(book, alloc, self.order, self.moment, policy)
-    }
-}
-
-/// Carries out an order in an open transaction.
-fn execute_order_in<B: Book>(
-    book: &mut B,
-    alloc: Global,
-    order: &Order,
-    moment: Moment,
-    policy: &Policy,
-) -> Result<Code, Fault>
-    requires { (B.state book.old).is_open ≡ true }
-    ensures step { IfOk result (λ code. OrderSteps policy.now order.now moment code
-        (B.state book.old) (B.state book.new)) }
-    ensures within { OnOk result (IsWithin (B.state book.old) (B.state book.new)) }
-    ensures fault { IfErr result (λ fault. GoesBack fault (B.state book.old) (B.state book.new)) }
-    ensures follows { Follows (B.state book.old) (B.state book.new) }
-    ensures leaves { LeavesSame (B.state book.old) (B.state book.new) }
-{
-    match order {
-        Order::Status(order) => set_statuses_at(book, alloc, order, moment, policy),
-        Order::Deposit { registrar, cents } => {
-            deposit_at(book, alloc, registrar, *cents, moment, policy)
+    fn work<B: Book>(
+        &self,
+        book: &mut B,
+        alloc: Global,
+        policy: &Policy,
+    ) -> Result<Code, BookFault> {
+        match self.order {
+            Order::Status(order) => set_statuses_at(book, alloc, order, self.moment, policy),
+            Order::Deposit { registrar, cents } => {
+                deposit_at(book, alloc, registrar, *cents, self.moment, policy)
+            }
         }
     }
 }
@@ -69,17 +55,19 @@ fn set_statuses_at<B: Book>(
     order: &StatusOrder,
     moment: Moment,
     policy: &Policy,
-) -> Result<Code, Fault>
+) -> Result<Code, BookFault>
     requires { (B.state book.old).is_open ≡ true }
-    ensures step { IfOk result (λ code. OrderSteps policy.now (orders.Status order.now) moment code
-        (B.state book.old) (B.state book.new)) }
-    ensures within { OnOk result (IsWithin (B.state book.old) (B.state book.new)) }
-    ensures fault { IfErr result (λ fault. GoesBack fault (B.state book.old) (B.state book.new)) }
-    ensures follows { Follows (B.state book.old) (B.state book.new) }
-    ensures leaves { LeavesSame (B.state book.old) (B.state book.new) }
+    ensures { Works result (IsOrderStep policy.now (orders.Status order.now) moment)
+        (B.state book.old) (B.state book.new) }
 {
     let name = or_rollback(book, order.object_name(alloc, policy.zone()))?;
-    settle_for_name(book, alloc, order.kind, &name, moment, policy)?;
+    pass(
+        book,
+        alloc,
+        &Scope::Named(order.kind, &name),
+        moment,
+        policy,
+    )?;
     set_statuses(book, alloc, order, &name, policy)
 }
 
@@ -91,16 +79,12 @@ fn deposit_at<B: Book>(
     cents: i64,
     moment: Moment,
     policy: &Policy,
-) -> Result<Code, Fault>
+) -> Result<Code, BookFault>
     requires { (B.state book.old).is_open ≡ true }
-    ensures step { IfOk result (λ code. OrderSteps policy.now (orders.Deposit registrar.now cents)
-        moment code (B.state book.old) (B.state book.new)) }
-    ensures within { OnOk result (IsWithin (B.state book.old) (B.state book.new)) }
-    ensures fault { IfErr result (λ fault. GoesBack fault (B.state book.old) (B.state book.new)) }
-    ensures follows { Follows (B.state book.old) (B.state book.new) }
-    ensures leaves { LeavesSame (B.state book.old) (B.state book.new) }
+    ensures { Works result (IsOrderStep policy.now (orders.Deposit registrar.now cents) moment)
+        (B.state book.old) (B.state book.new) }
 {
-    let now = settle_nothing(book, alloc, moment, policy)?;
+    let now = pass(book, alloc, &Scope::Nothing, moment, policy)?;
     deposit(book, alloc, registrar, cents, now, policy)
 }
 
@@ -111,21 +95,15 @@ fn set_statuses<B: Book>(
     order: &StatusOrder,
     name: &Option<Text>,
     policy: &Policy,
-) -> Result<Code, Fault>
+) -> Result<Code, BookFault>
     requires { (B.state book.old).is_open ≡ true }
-    ensures code { IfOk result (λ code. (B.state book.new).is_clean ≡ true
-        → code ≡ (status_at order.now name.now (B.state book.old).content.registry).code) }
-    ensures made { OnOk result (BookWrites (B.state book.old) (B.state book.new)
-        (with_changes policy.now
-        (status_at order.now name.now (B.state book.old).content.registry).changes
-        (B.state book.old).content)) }
-    ensures fault { IfErr result (λ fault. GoesBack fault (B.state book.old) (B.state book.new)) }
-    ensures follows { Follows (B.state book.old) (B.state book.new) }
-    ensures leaves { LeavesSame (B.state book.old) (B.state book.new) }
+    ensures { Works result (λ before after code. IsCarriedOut policy.now
+        (status_at order.now name.now before) before after code) (B.state book.old)
+        (B.state book.new) }
 {
     let object = object_named(book, order.kind, name)?;
     let OrderDecision { code, changes } = or_rollback(book, decide_order(alloc, order, object))?;
-    apply(book, changes, policy)?;
+    book.apply(changes, policy)?;
     Ok(code)
 }
 
@@ -137,20 +115,15 @@ fn deposit<B: Book>(
     cents: i64,
     now: Moment,
     policy: &Policy,
-) -> Result<Code, Fault>
+) -> Result<Code, BookFault>
     requires { (B.state book.old).is_open ≡ true }
-    ensures code { IfOk result (λ code. code
-        ≡ (deposit_decision policy.now now registrar.now cents).code) }
-    ensures made { OnOk result (BookWrites (B.state book.old) (B.state book.new)
-        (with_changes policy.now (deposit_decision policy.now now registrar.now cents).changes
-        (B.state book.old).content)) }
-    ensures fault { IfErr result (λ fault. GoesBack fault (B.state book.old) (B.state book.new)) }
-    ensures follows { Follows (B.state book.old) (B.state book.new) }
-    ensures leaves { LeavesSame (B.state book.old) (B.state book.new) }
+    ensures { Works result (IsCarriedOut policy.now
+        (deposit_decision policy.now now registrar.now cents)) (B.state book.old)
+        (B.state book.new) }
 {
     let decided = decide_deposit(alloc, registrar, cents, now, policy);
     let OrderDecision { code, changes } = or_rollback(book, decided)?;
-    apply(book, changes, policy)?;
+    book.apply(changes, policy)?;
     Ok(code)
 }
 
@@ -159,17 +132,13 @@ fn object_named<B: Book>(
     book: &mut B,
     kind: ObjectKind,
     name: &Option<Text>,
-) -> Result<Option<Object>, Fault>
-    requires { (B.state book.old).is_open ≡ true }
-    ensures found { IfOk result (λ object. (B.state book.new).is_clean ≡ true
-        → object ≡ option_and_then (object_at (B.state book.old).content.registry kind) name.now) }
-    ensures same { OnOk result (BookReads (B.state book.old) (B.state book.new)) }
-    ensures fault { IfErr result (λ fault. GoesBack fault (B.state book.old) (B.state book.new)) }
-    ensures follows { Follows (B.state book.old) (B.state book.new) }
-    ensures leaves { LeavesSame (B.state book.old) (B.state book.new) }
+) -> Result<Option<Object>, BookFault>
+    ensures { BookFinds result
+        (option_and_then (object_at (B.state book.old).content.registry kind) name.now)
+        (B.state book.old) (B.state book.new) }
 {
     match name {
         None => Ok(None),
-        Some(name) => object_at(book, kind, name),
+        Some(name) => book.object_at(kind, name),
     }
 }

@@ -1,183 +1,104 @@
-//! How time passes in an open transaction: what somebody asks for lapses, and all else that is due stays
-//! behind the clock until it is asked for or settled.
-ghost use Rattle.std.specs.Prelude.{◌≡◌, max, true, Some, None, IfOk, IfErr, OnOk};
-ghost use Rattle.concerns.specs.Names.{named_by, no_names};
-ghost use Rattle.registry.specs.Execution.{GoesBack, at_moment};
-ghost use Rattle.registry.specs.inner.Passing.{Passes, balance_command, names_at};
-ghost use Rattle.books.specs.Book.{BookWrites, Follows, LeavesSame};
+//! How time passes in an open transaction: what somebody asks for lapses, and all else that is due
+//! stays behind the clock until it is asked for or settled.
+ghost use Rattle.std.specs.Prelude.{◌≡◌, true};
+ghost use Rattle.registry.specs.Lapsing.{with_dues_lapsed};
+ghost use Rattle.registry.specs.inner.Passing as spec;
+ghost use Rattle.registry.specs.inner.Passing.{IsPassed, extent_of};
+ghost use Rattle.registry.specs.inner.Steps.{Works};
+ghost use Rattle.books.specs.Book.{BookFinds, BookMakes};
 
-use crate::fault::Fault;
-use crate::lapse::{due_at, due_for, lapse_all, lapse_each};
+use crate::lapse::lapse_each;
 use crate::transaction::move_clock;
+use basis::list::Seq;
 use basis::registrar::RegistrarNo;
 use basis::text::Text;
-use books::Book;
+use books::{Book, BookFault};
 use calendar::Moment;
+use lifecycle::Due;
 use objects::ObjectKind;
 use policy::Policy;
 use protocol::{Command, Request};
 use std::alloc::Global;
 
-/// Lets time pass up to a moment, lets what concerns a registrar's command lapse, and gives the clock.
-pub(crate) fn settle_for_command<B: Book>(
+/// What lapses before something is done.
+#[derive(Clone, Copy, Drop)]
+pub(crate) enum Scope<'s> {
+    Nothing,
+    /// What concerns a registrar's command.
+    Command(RegistrarNo, &'s Command),
+    /// What concerns a registrar, as its question for the balance does.
+    Registrar(RegistrarNo),
+    /// What an info of an object concerns.
+    Object(ObjectKind, &'s Text),
+    /// The same, if there is a name.
+    Named(ObjectKind, &'s Option<Text>),
+    All,
+}
+
+/// Lets time pass up to a moment, lets what is in the scope lapse, and gives the clock.
+pub(crate) fn pass<B: Book>(
     book: &mut B,
     alloc: Global,
-    caller: RegistrarNo,
-    command: &Command,
+    scope: &Scope<'_>,
     moment: Moment,
     policy: &Policy,
-) -> Result<Moment, Fault>
+) -> Result<Moment, BookFault>
     requires { (B.state book.old).is_open ≡ true }
-    ensures moved { OnOk result (Passes policy.now (Some caller) (named_by command.now) moment
-        (B.state book.old) (B.state book.new)) }
-    ensures clock { IfOk result (λ clock. (B.state book.new).is_clean ≡ true
-        → clock ≡ max moment (B.state book.old).content.registry.clock) }
-    ensures fault { IfErr result (λ fault. GoesBack fault (B.state book.old) (B.state book.new)) }
-    ensures follows { Follows (B.state book.old) (B.state book.new) }
-    ensures leaves { LeavesSame (B.state book.old) (B.state book.new) }
+    ensures { Works result (IsPassed policy.now (extent_of scope.now) moment) (B.state book.old)
+        (B.state book.new) }
 {
     let now = move_clock(book, alloc, moment, policy)?;
-    let due = due_for(book, caller, command, now, policy)?;
-    lapse_each(book, alloc, due, now, policy)?;
+    catch_up(book, alloc, scope, now, policy)?;
     Ok(now)
 }
 
-/// The same for what concerns a registrar, as its question for the balance does.
-pub(crate) fn settle_for_registrar<B: Book>(
+/// Lets what is in the scope and due by a moment lapse.
+pub(crate) fn catch_up<B: Book>(
     book: &mut B,
     alloc: Global,
-    registrar: RegistrarNo,
+    scope: &Scope<'_>,
     moment: Moment,
     policy: &Policy,
-) -> Result<Moment, Fault>
+) -> Result<(), BookFault>
     requires { (B.state book.old).is_open ≡ true }
-    ensures moved { OnOk result (Passes policy.now (Some registrar) (named_by balance_command) moment
-        (B.state book.old) (B.state book.new)) }
-    ensures clock { IfOk result (λ clock. (B.state book.new).is_clean ≡ true
-        → clock ≡ max moment (B.state book.old).content.registry.clock) }
-    ensures fault { IfErr result (λ fault. GoesBack fault (B.state book.old) (B.state book.new)) }
-    ensures follows { Follows (B.state book.old) (B.state book.new) }
-    ensures leaves { LeavesSame (B.state book.old) (B.state book.new) }
+    ensures { BookMakes result (with_dues_lapsed policy.now moment (spec.due_in policy.now
+        (extent_of scope.now) moment (B.state book.old).content.registry)
+        (B.state book.old).content) (B.state book.old) (B.state book.new) }
 {
-    let balance = balance_command();
-    settle_for_command(book, alloc, registrar, &balance, moment, policy)
+    let due = due_in(book, alloc, scope, moment, policy)?;
+    lapse_each(book, alloc, due, moment, policy)
+}
+
+/// What is in the scope and due by a moment.
+fn due_in<B: Book>(
+    book: &mut B,
+    alloc: Global,
+    scope: &Scope<'_>,
+    moment: Moment,
+    policy: &Policy,
+) -> Result<Seq<Due>, BookFault>
+    ensures { BookFinds result (spec.due_in policy.now (extent_of scope.now) moment
+        (B.state book.old).content.registry) (B.state book.old) (B.state book.new) }
+{
+    match *scope {
+        Scope::Nothing => Ok(Seq::new(alloc)),
+        Scope::Command(caller, command) => book.due_for(Some(caller), command, moment, policy),
+        Scope::Registrar(registrar) => {
+            book.due_for(Some(registrar), &balance_command(), moment, policy)
+        }
+        Scope::Object(kind, name) => book.due_at(kind, name, moment, policy),
+        Scope::Named(kind, Some(name)) => book.due_at(kind, name, moment, policy),
+        Scope::Named(_, None) => Ok(Seq::new(alloc)),
+        Scope::All => book.due(moment, policy),
+    }
 }
 
 /// The question for the balance.
 fn balance_command() -> Command
-    ensures { result ≡ balance_command }
+    ensures { result ≡ spec.balance_command }
 {
     Command::Asked {
         cl_trid: None,
         request: Request::Balance,
     }
-}
-
-/// The same for what an info of an object concerns, if its name is there; else nothing lapses.
-pub(crate) fn settle_for_name<B: Book>(
-    book: &mut B,
-    alloc: Global,
-    kind: ObjectKind,
-    name: &Option<Text>,
-    moment: Moment,
-    policy: &Policy,
-) -> Result<Moment, Fault>
-    requires { (B.state book.old).is_open ≡ true }
-    ensures moved { OnOk result (Passes policy.now None (names_at kind name.now) moment
-        (B.state book.old) (B.state book.new)) }
-    ensures clock { IfOk result (λ clock. (B.state book.new).is_clean ≡ true
-        → clock ≡ max moment (B.state book.old).content.registry.clock) }
-    ensures fault { IfErr result (λ fault. GoesBack fault (B.state book.old) (B.state book.new)) }
-    ensures follows { Follows (B.state book.old) (B.state book.new) }
-    ensures leaves { LeavesSame (B.state book.old) (B.state book.new) }
-{
-    match name {
-        None => settle_nothing(book, alloc, moment, policy),
-        Some(name) => settle_for_object(book, alloc, kind, name, moment, policy),
-    }
-}
-
-/// Lets time pass up to a moment, lets nothing lapse, and gives the clock.
-pub(crate) fn settle_nothing<B: Book>(
-    book: &mut B,
-    alloc: Global,
-    moment: Moment,
-    policy: &Policy,
-) -> Result<Moment, Fault>
-    requires { (B.state book.old).is_open ≡ true }
-    ensures moved { OnOk result (Passes policy.now None no_names moment (B.state book.old)
-        (B.state book.new)) }
-    ensures clock { IfOk result (λ clock. (B.state book.new).is_clean ≡ true
-        → clock ≡ max moment (B.state book.old).content.registry.clock) }
-    ensures fault { IfErr result (λ fault. GoesBack fault (B.state book.old) (B.state book.new)) }
-    ensures follows { Follows (B.state book.old) (B.state book.new) }
-    ensures leaves { LeavesSame (B.state book.old) (B.state book.new) }
-{
-    move_clock(book, alloc, moment, policy)
-}
-
-/// The same for what an info of an object concerns.
-pub(crate) fn settle_for_object<B: Book>(
-    book: &mut B,
-    alloc: Global,
-    kind: ObjectKind,
-    name: &Text,
-    moment: Moment,
-    policy: &Policy,
-) -> Result<Moment, Fault>
-    requires { (B.state book.old).is_open ≡ true }
-    ensures moved { OnOk result (Passes policy.now None (names_at kind (Some name.now)) moment
-        (B.state book.old) (B.state book.new)) }
-    ensures clock { IfOk result (λ clock. (B.state book.new).is_clean ≡ true
-        → clock ≡ max moment (B.state book.old).content.registry.clock) }
-    ensures fault { IfErr result (λ fault. GoesBack fault (B.state book.old) (B.state book.new)) }
-    ensures follows { Follows (B.state book.old) (B.state book.new) }
-    ensures leaves { LeavesSame (B.state book.old) (B.state book.new) }
-{
-    let now = move_clock(book, alloc, moment, policy)?;
-    settle_object(book, alloc, kind, name, now, policy)?;
-    Ok(now)
-}
-
-/// Lets time pass up to a moment, lets all that is due by then lapse, and gives the clock.
-pub(crate) fn settle_all<B: Book>(
-    book: &mut B,
-    alloc: Global,
-    moment: Moment,
-    policy: &Policy,
-) -> Result<Moment, Fault>
-    requires { (B.state book.old).is_open ≡ true }
-    ensures moved { OnOk result (BookWrites (B.state book.old) (B.state book.new)
-        (at_moment policy.now moment (B.state book.old).content)) }
-    ensures clock { IfOk result (λ clock. (B.state book.new).is_clean ≡ true
-        → clock ≡ max moment (B.state book.old).content.registry.clock) }
-    ensures fault { IfErr result (λ fault. GoesBack fault (B.state book.old) (B.state book.new)) }
-    ensures follows { Follows (B.state book.old) (B.state book.new) }
-    ensures leaves { LeavesSame (B.state book.old) (B.state book.new) }
-{
-    let now = move_clock(book, alloc, moment, policy)?;
-    lapse_all(book, alloc, now, policy)?;
-    Ok(now)
-}
-
-/// Lets what an info of an object concerns lapse, where the clock stands at the moment.
-pub(crate) fn settle_object<B: Book>(
-    book: &mut B,
-    alloc: Global,
-    kind: ObjectKind,
-    name: &Text,
-    moment: Moment,
-    policy: &Policy,
-) -> Result<(), Fault>
-    requires opened { (B.state book.old).is_open ≡ true }
-    requires clock { (B.state book.old).is_clean ≡ true
-        → (B.state book.old).content.registry.clock ≡ moment }
-    ensures moved { OnOk result (Passes policy.now None (names_at kind (Some name.now)) moment
-        (B.state book.old) (B.state book.new)) }
-    ensures fault { IfErr result (λ fault. GoesBack fault (B.state book.old) (B.state book.new)) }
-    ensures follows { Follows (B.state book.old) (B.state book.new) }
-    ensures leaves { LeavesSame (B.state book.old) (B.state book.new) }
-{
-    let due = due_at(book, kind, name, moment, policy)?;
-    lapse_each(book, alloc, due, moment, policy)
 }

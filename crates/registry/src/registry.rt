@@ -1,5 +1,6 @@
 //! The registry.
-ghost use Rattle.std.specs.Prelude.{◌≡◌, ◌≢◌, ◌<◌, nat_lt, true, false, ◌↔◌, map, IfOk, IfErr, OnOk, Err, Some};
+ghost use Rattle.std.specs.Prelude.{◌≡◌, ◌≢◌, ◌<◌, nat_lt, true, false, ◌↔◌, map};
+ghost use Rattle.std.specs.Prelude.{IfOk, IfErr, Err, Some};
 ghost use Rattle.std.proofs.Props.{props};
 ghost use Rattle.std.specs.Coded.{codes};
 ghost use Rattle.basis.specs.Sets.{names_code};
@@ -8,12 +9,15 @@ ghost use Rattle.policy.specs.Terms.{terms_of};
 ghost use Rattle.isolation.specs.Runs as two_runs;
 ghost use Rattle.registry.specs.Calls.{CallKeeps, IsOpenedAs, IsRefused, LooksUpKeeping, StepKeeps};
 ghost use Rattle.registry.specs.Crashes.{Makes};
-ghost use Rattle.registry.specs.Execution.{Fails, Greets, IsGreetingStep, IsOrderStep, IsSettlement, IsStep, Isolates, OrderSteps, Settles, Steps, last_call};
+ghost use Rattle.registry.specs.Execution.{Fails, Greets, Isolates, OrderSteps, Settles, Steps};
+ghost use Rattle.registry.specs.Execution.{last_call};
+ghost use Rattle.registry.specs.Execution.{IsGreetingStep, IsOrderStep, IsSettlement, IsStep};
 ghost use Rattle.registry.specs.Faces.{IsLookUp, LooksUp};
 ghost use Rattle.registry.specs.Opening.{KeepsLengths, OpensAsItWas};
 ghost use Rattle.registry.specs.Sound.{BeginAfter-prop};
 ghost use Rattle.model.specs.Registry.{account_of};
-ghost use Rattle.books.specs.Faces.{contact_face_at, domain_face_at, domain_names, host_addresses_at, host_face_at};
+ghost use Rattle.books.specs.Faces.{contact_face_at, domain_face_at, domain_names};
+ghost use Rattle.books.specs.Faces.{host_addresses_at, host_face_at};
 
 use crate::askable::can_be_asked;
 use crate::command::CommandWork;
@@ -56,18 +60,19 @@ pub struct Registry<B: Book> {
     alloc: Global,
     ghost sound: { IsSound policy } by { Prim.hlevel (props, BeginAfter-prop) },
     ghost idle: { (B.state book).is_open ≡ false },
-    ghost kept: { (B.state book).is_clean ≡ true → (B.state book).content.terms ≡ Some (terms_of policy) } by { Prim.hlevel (codes, names_code) },
+    ghost kept: { (B.state book).is_clean ≡ true
+        → (B.state book).content.terms ≡ Some (terms_of policy) } by { Prim.hlevel (codes, names_code) },
 }
 
 impl<B: Book + Drop> Registry<B> {
     /// Opens a book under a policy, and the accounts of the registrars that have none yet. A book
-    /// that was used under another zone, other reserved labels, lengths of periods or prices, or whose
-    /// earlier registrars aren't the first of the policy, is refused (`OpenFault::Policy`); so is what
-    /// isn't a book of this form (`OpenFault::Schema`). Tables of lengths may have been added after the
-    /// earlier ones, each of which begins later than the book's clock. What is refused is handed back as
-    /// it was. Each period that began by the clock keeps its length, and by now the registry is what it
-    /// was under the earlier policy. A new book, or one of a well formed registry, is opened as a well
-    /// formed registry.
+    /// that was used under another zone, other reserved labels, lengths of periods or prices, or
+    /// whose earlier registrars aren't the first of the policy, is refused (`OpenFault::Policy`);
+    /// so is what isn't a book of this form (`OpenFault::Schema`). Tables of lengths may have been
+    /// added after the earlier ones, each of which begins later than the book's clock. What is
+    /// refused is handed back as it was. Each period that began by the clock keeps its length, and
+    /// by now the registry is what it was under the earlier policy. A new book, or one of a well
+    /// formed registry, is opened as a well formed registry.
     pub fn open(alloc: Global, book: B, policy: Policy) -> Result<Registry<B>, (OpenFault, B)>
         requires { (B.state book).is_open ≡ false }
         ensures opened { IfOk result (λ registry. IsOpenedAs policy registry.policy (B.state book)
@@ -123,8 +128,8 @@ impl<B: Book + Drop> Registry<B> {
             reply (B.state self.old.book) (B.state self.new.book)) }
         ensures fault { IfErr result (λ fault. Fails fault (B.state self.old.book)
             (B.state self.new.book)) }
-        ensures keeps { CallKeeps self.old.policy moment (two_runs.command caller command.now) two_runs.reply
-            (Makes (IsStep self.old.policy caller command.now moment)) result
+        ensures keeps { CallKeeps self.old.policy moment (two_runs.command caller command.now)
+            two_runs.reply (Makes (IsStep self.old.policy caller command.now moment)) result
             self.new.policy (B.state self.old.book) (B.state self.new.book) }
         ensures late { (result ≡ Err Fault.Moment) ↔ (last_call < moment) }
     {
@@ -161,9 +166,9 @@ impl<B: Book + Drop> Registry<B> {
         self.transact(&OrderWork { order, moment })
     }
 
-    /// Answers hello at a moment with the server's date (RFC 5730, 2.4), which is the clock; a moment
-    /// before the clock counts as the clock. Nobody's command is counted. A well formed registry
-    /// stays well formed.
+    /// Answers hello at a moment with the server's date (RFC 5730, 2.4), which is the clock; a
+    /// moment before the clock counts as the clock. Nobody's command is counted. A well formed
+    /// registry stays well formed.
     #[tactic(auto, using(crate::proofs::CallsKept::kept_late))]
     pub fn greet(&mut self, moment: Moment) -> Result<Moment, Fault>
         ensures step { IfOk result (λ date. Greets self.old.policy moment date
@@ -181,9 +186,10 @@ impl<B: Book + Drop> Registry<B> {
         self.transact(&GreetingWork { moment })
     }
 
-    /// Lets objects lapse that are due by a moment, the first so many by due moment, contacts first, by
-    /// name, and gives how many they were; one moment before the clock counts as the clock. No later
-    /// call can tell whether it was done, but this one. A well formed registry stays well formed.
+    /// Lets objects lapse that are due by a moment, the first so many by due moment, contacts
+    /// first, by name, and gives how many they were; one moment before the clock counts as the
+    /// clock. No later call can tell whether it was done, but this one. A well formed registry
+    /// stays well formed.
     #[tactic(auto, using(crate::proofs::CallsKept::kept_late))]
     pub fn settle(&mut self, moment: Moment, at_most: u32) -> Result<u32, Fault>
         ensures step { IfOk result (λ done. Settles self.old.policy moment at_most done
@@ -201,8 +207,8 @@ impl<B: Book + Drop> Registry<B> {
         self.transact(&SettlementWork { moment, at_most })
     }
 
-    /// What everyone may know of the domain under a name at a moment; a moment before the clock counts
-    /// as the clock. Time passes as in every call, and nothing else is done.
+    /// What everyone may know of the domain under a name at a moment; a moment before the clock
+    /// counts as the clock. Time passes as in every call, and nothing else is done.
     pub fn domain_face(
         &mut self,
         name: &DomainName,
@@ -214,8 +220,8 @@ impl<B: Book + Drop> Registry<B> {
         ensures fault { IfErr result (λ fault. Fails fault (B.state self.old.book)
             (B.state self.new.book)) }
         ensures keeps { LooksUpKeeping self.old.policy moment
-            (Makes (IsLookUp self.old.policy (λ s. domain_face_at self.old.policy s name.now) moment)) result
-            self.new.policy (B.state self.old.book) (B.state self.new.book) }
+            (Makes (IsLookUp self.old.policy (λ s. domain_face_at self.old.policy s name.now)
+            moment)) result self.new.policy (B.state self.old.book) (B.state self.new.book) }
         ensures late { (result ≡ Err Fault.Moment) ↔ (last_call < moment) }
     {
         self.look_up(&DomainAt(name.text()), moment)
@@ -229,8 +235,8 @@ impl<B: Book + Drop> Registry<B> {
         ensures fault { IfErr result (λ fault. Fails fault (B.state self.old.book)
             (B.state self.new.book)) }
         ensures keeps { LooksUpKeeping self.old.policy moment
-            (Makes (IsLookUp self.old.policy (λ s. host_face_at self.old.policy s name.now) moment)) result
-            self.new.policy (B.state self.old.book) (B.state self.new.book) }
+            (Makes (IsLookUp self.old.policy (λ s. host_face_at self.old.policy s name.now) moment))
+            result self.new.policy (B.state self.old.book) (B.state self.new.book) }
         ensures late { (result ≡ Err Fault.Moment) ↔ (last_call < moment) }
     {
         self.look_up(&HostAt(name.text()), moment)
@@ -269,8 +275,8 @@ impl<B: Book + Drop> Registry<B> {
         self.look_up(&DomainNames, moment)
     }
 
-    /// What everyone may know of the domain under each of these names, in their order. They are looked
-    /// up one after another in one transaction, so all of them are held at once.
+    /// What everyone may know of the domain under each of these names, in their order. They are
+    /// looked up one after another in one transaction, so all of them are held at once.
     #[tactic(auto, using(crate::proofs::CallsKept::kept_late))]
     pub fn listed_domains(
         &mut self,
@@ -283,7 +289,8 @@ impl<B: Book + Drop> Registry<B> {
         ensures fault { IfErr result (λ fault. Fails fault (B.state self.old.book)
             (B.state self.new.book)) }
         ensures keeps { LooksUpKeeping self.old.policy moment
-            (Makes (IsLookUp self.old.policy (λ s. map (domain_face_at self.old.policy s) names.now) moment)) result
+            (Makes (IsLookUp self.old.policy
+            (λ s. map (domain_face_at self.old.policy s) names.now) moment)) result
             self.new.policy (B.state self.old.book) (B.state self.new.book) }
         ensures late { (result ≡ Err Fault.Moment) ↔ (last_call < moment) }
     {
@@ -312,9 +319,9 @@ impl<B: Book + Drop> Registry<B> {
         self.look_up(&AddressesAt(name), moment)
     }
 
-    /// The lines of a registrar's account at a moment: none where it was never opened. What concerns the
-    /// registrar lapses first, as for its question for the balance, so the charges of all that fell due
-    /// by then are among them.
+    /// The lines of a registrar's account at a moment: none where it was never opened. What
+    /// concerns the registrar lapses first, as for its question for the balance, so the charges of
+    /// all that fell due by then are among them.
     pub fn lines(&mut self, registrar: RegistrarNo, moment: Moment) -> Result<Lines, Fault>
         ensures step { IfOk result (λ found. LooksUp self.old.policy
             (λ s. (account_of registrar s).lines) moment found (B.state self.old.book)
@@ -361,6 +368,9 @@ impl<B: Book + Drop> Registry<B> {
         ensures early { result ≢ Err Fault.Moment }
     {
         self.book.begin()?;
-        keep(&mut self.book, self.alloc, work, &self.policy)
+        match keep(&mut self.book, self.alloc, work, &self.policy) {
+            Ok(answer) => Ok(answer),
+            Err(fault) => Err(Fault::from(fault)),
+        }
     }
 }

@@ -1,8 +1,11 @@
--- How time passes in a book, where what somebody asks for lapses and all else stays behind the clock.
-use Rattle.std.specs.Prelude.{◌≡◌, ℕ, max, true, List, Option, Some, None, option_and_then}
+-- How time passes in a registry: what somebody asks for lapses, and all else stays behind the clock.
+use Rattle.std.specs.Prelude.{◌≡◌, ℕ, max, List, [], Option, Some, None, option_and_then}
 use Rattle.concerns.specs.declared.given.Names.{Names}
 use Rattle.concerns.specs.Concerns.{IsSettledIn, concerned}
-use Rattle.concerns.specs.Names.{named_of, no_names}
+use Rattle.concerns.specs.DueFor.{due_for}
+use Rattle.concerns.specs.Names.{named_by, named_of, no_names}
+use Rattle.lifecycle.specs.declared.due_object.Due.{Due}
+use Rattle.model.specs.DueBy.{due_by}
 use Rattle.model.specs.Lapse.{lapsed, now}
 use Rattle.model.specs.Objects.{object_at}
 use Rattle.model.specs.Registry.{Registry}
@@ -14,44 +17,64 @@ use Rattle.protocol.specs.declared.command.Request.TheVariants.{Balance}
 use Rattle.protocol.specs.declared.order.StatusOrder.{StatusOrder}
 use Rattle.decisions.specs.declared.order.OrderDecision.{OrderDecision}
 use Rattle.decisions.specs.Orders.{decided_order}
-use Rattle.books.specs.Book.{BookState, NoRefusal}
+use Rattle.registry.specs.Execution.{with_lapsed}
+use Rattle.registry.specs.declared.passing.Scope.{Scope}
+use Rattle.registry.specs.declared.passing.Scope.TheVariants as scopes
 use Rattle.rules.specs.Orders.{order_code}
 
--- The clock stands at the moment, nothing is due that concerns the registrar and the names, and what the
--- registry is now is its lapse.
-pub record IsPassed (p : PolicyRules) (r : Option ℕ) (g : Names) (moment : ℕ) (before after : Registry) : Type 0 where
-  pub clock : after.clock ≡ max moment before.clock
-  pub settled : IsSettledIn p (concerned r g after) after
-  pub future : now p after ≡ lapsed p moment before
-
--- so it is in the open transaction, under the same terms
-pub record Passes (p : PolicyRules) (r : Option ℕ) (g : Names) (moment : ℕ) (old new : BookState) : Type 0 where
-  pub counted : NoRefusal old new
-  pub opened : new.is_open ≡ true
-  pub passed : new.is_clean ≡ true → IsPassed p r g moment old.content.registry new.content.registry
-  pub terms : new.is_clean ≡ true → new.content.terms ≡ old.content.terms
-  pub before : new.is_clean ≡ true → new.before ≡ old.before
+-- what lapses before something is done: nothing, what concerns a registrar and names, or all
+pub data Extent : Type 0 where
+  nothing : Extent
+  concerning : Option ℕ → Names → Extent
+  everything : Extent
 
 -- a registrar's question for its balance, which concerns what bears on its account
 abbrev pub balance_command : Command
 balance_command = Asked None Balance
 
--- what an order names, if its name reads
-abbrev pub names_at : ObjectKind → Option (List ℕ) → Names
-names_at kind None = no_names
-names_at kind (Some name) = named_of kind name
+-- what an info of an object concerns
+abbrev pub about : ObjectKind → List ℕ → Extent
+about kind name = concerning None (named_of kind name)
 
--- In the open transaction this is found as it is found in the registry at that moment, which is what the
--- registry is now.
-pub record Reaches {X : Type 0} (p : PolicyRules) (find : Registry → X) (moment : ℕ) (old new : BookState) : Type 0 where
-  pub counted : NoRefusal old new
-  pub opened : new.is_open ≡ true
-  pub found : new.is_clean ≡ true
-      → find new.content.registry ≡ find (lapsed p moment old.content.registry)
-  pub future : new.is_clean ≡ true
-      → now p new.content.registry ≡ lapsed p moment old.content.registry
-  pub terms : new.is_clean ≡ true → new.content.terms ≡ old.content.terms
-  pub before : new.is_clean ≡ true → new.before ≡ old.before
+-- what an order names, if its name reads
+abbrev pub about_named : ObjectKind → Option (List ℕ) → Extent
+about_named kind None = nothing
+about_named kind (Some name) = about kind name
+
+abbrev pub extent_of : Scope → Extent
+extent_of scopes.Nothing = nothing
+extent_of (scopes.Command caller c) = concerning (Some caller) (named_by c.now)
+extent_of (scopes.Registrar r) = concerning (Some r) (named_by balance_command)
+extent_of (scopes.Object kind name) = about kind name.now
+extent_of (scopes.Named kind name) = about_named kind name.now
+extent_of scopes.All = everything
+
+-- of what is due by a moment, what lapses
+abbrev pub due_in : PolicyRules → Extent → ℕ → Registry → List Due
+due_in p nothing t s = []
+due_in p (concerning r g) t s = due_for p r g t s
+due_in p everything t s = due_by p t s
+
+-- nothing of it is due
+abbrev pub IsSettledAs : PolicyRules → Extent → Registry → Type 0
+IsSettledAs p nothing s = IsSettledIn p (concerned None no_names s) s
+IsSettledAs p (concerning r g) s = IsSettledIn p (concerned r g s) s
+IsSettledAs p everything s = now p s ≡ s
+
+-- once that has lapsed, this is what it is once all has that is due
+abbrev pub IsAsNow : {X : Type 0} → Extent → (PolicyRules → Registry → X) → Type 0
+IsAsNow what find =
+    (p : PolicyRules) (s : Registry) → IsSettledAs p what s → find p (now p s) ≡ find p s
+
+-- The clock stands at the moment and is told, nothing of what lapses is due, and what the registry is
+-- now is its lapse.
+pub record IsPassed (p : PolicyRules) (what : Extent) (moment : ℕ) (before after : Registry)
+    (date : ℕ) : Type 0 where
+  pub told : date ≡ max moment before.clock
+  pub clock : after.clock ≡ max moment before.clock
+  pub settled : IsSettledAs p what after
+  pub future : now p after ≡ lapsed p moment before
+  pub waits : after ≡ with_lapsed p (due_in p what) moment before
 
 -- the decision on an order of statuses, of the object under a name, if there is a name
 abbrev pub status_at : StatusOrder → Option (List ℕ) → Registry → OrderDecision

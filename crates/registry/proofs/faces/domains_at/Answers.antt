@@ -17,8 +17,10 @@ loop-name-preserved g c =
     let old = g.B.Book.state c.args.book.now in
     let new = g.B.Book.state c.domain_at.new.book in
     let next : take (i + 1) names ≡ take i names ++ c.name-item.result ∷ [] = take_more names i _ (search rules) ∙ ap (λ (name : List ℕ). take i names ++ name ∷ []) (sym c.name-item.is) in
-    let pushed : c.push-pushed.new.self ≡ faces ++ c.in_ok-face.face ∷ [] = left_by _ c.push-pushed.result c.in_ok-or_rollback.field-0 c.in_ok-or_rollback.ensures.made c.push-pushed.ensures.ok in
+    let pushed : c.push-pushed.new.self ≡ faces ++ c.in_ok-face.face ∷ [] = left_by _
+    c.push-pushed.result c.in_ok-or_rollback.field-0 c.in_ok-or_rollback.ensures.0
+    c.push-pushed.ensures.ok in
     more-are c.args.policy.now c.args.moment (take i names ++ c.name-item.result ∷ []) (take (i + 1) names) (faces ++ c.in_ok-face.face ∷ []) c.push-pushed.new.self old new (g.B.Book.state c.or_rollback.new.book)
-    next pushed (ap (g.B.Book.state) c.in_ok-or_rollback.ensures.same)
+    next pushed (ap (g.B.Book.state) c.in_ok-or_rollback.ensures.1)
     (one-more c.args.policy.now c.args.moment (take i names) c.name-item.result faces c.in_ok-face.face old (g.B.Book.state c.loop-name.book) new
-    c.loop-name.invariant c.in_ok-face.ensures.found c.in_ok-face.ensures.within c.domain_at.ensures.follows c.domain_at.ensures.leaves)
+    c.loop-name.invariant c.in_ok-face.ensures)

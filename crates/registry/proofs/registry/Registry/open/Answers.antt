@@ -11,21 +11,20 @@ returns-in-Ok-clause-opened g c =
     let new = g.B.Book.state c.open_in.new.book in
     record {
       policy = refl;
-      opens = c.in-Ok.ensures.opened.0;
-      ours = c.in-Ok.ensures.opened.1;
-      well_formed = opens-kept c.args.policy old new c.in-Ok.ensures.opened.0;
-      reopens = reopened c.args.policy new (λ clean. ap (λ (held : Stored). held.terms) (c.in-Ok.ensures.opened.0.content clean));
+      opens = c.in-Ok.ensures.0;
+      ours = c.in-Ok.ensures.1.0;
+      well_formed = opens-kept c.args.policy old new c.in-Ok.ensures.0;
+      reopens = reopened c.args.policy new
+          (λ clean. ap (λ (held : Stored). held.terms) (c.in-Ok.ensures.0.content clean));
       tells_alike = λ clean. alike-lists-tell-the-same c.args.policy new.content.registry;
-      crash = c.in-Ok.ensures.crash;
-      follows = c.open_in.ensures.follows;
+      crash = c.in-Ok.ensures.1.1.0;
+      follows = c.in-Ok.ensures.1.1.1;
     }
 
 pub returns-in-Ok-clause-lengths : goal.returns-in-Ok-clause-lengths
-returns-in-Ok-clause-lengths g c = opens-lengths c.args.policy (g.B.Book.state c.args.book) (g.B.Book.state c.open_in.new.book) c.in-Ok.ensures.opened.0
+returns-in-Ok-clause-lengths g c = opens-lengths c.args.policy (g.B.Book.state c.args.book)
+    (g.B.Book.state c.open_in.new.book) c.in-Ok.ensures.0
 
 pub returns-in-Ok-clause-same : goal.returns-in-Ok-clause-same
-returns-in-Ok-clause-same g c = opens-same c.args.policy (g.B.Book.state c.args.book) (g.B.Book.state c.open_in.new.book) c.in-Ok.ensures.opened.0
-
-pub returns-in-Err-clause-refused : goal.returns-in-Err-clause-refused
-returns-in-Err-clause-refused g c =
-    record { refuses = c.in-Err.ensures.refused; ours = c.in-Err.ensures.refused_ours; crash = c.in-Err.ensures.crash; follows = c.open_in.ensures.follows }
+returns-in-Ok-clause-same g c = opens-same c.args.policy (g.B.Book.state c.args.book)
+    (g.B.Book.state c.open_in.new.book) c.in-Ok.ensures.0

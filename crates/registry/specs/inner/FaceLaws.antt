@@ -1,11 +1,11 @@
--- What everyone may know of an object is the same whether all that is due has lapsed, or what an info of it
--- concerns.
+-- What is looked up is the same whether all that is due has lapsed, or only what lapses before.
 use Rattle.std.proofs.Common.{◌≡◌, ℕ, List, [], ◌∷◌, Option, Some, None, option_and_then, option_map, refl, ap, ◌∙◌}
 use Rattle.std.specs.FinMap.{get}
+use Rattle.accounts.specs.declared.account.Account.{Account}
 use Rattle.facts.specs.Facts.{superordinate_of_domain}
 use Rattle.lifecycle.specs.Phases.{phase}
 use Rattle.model.specs.Lapse.{now}
-use Rattle.model.specs.Registry.{Registry}
+use Rattle.model.specs.Registry.{Registry, account_of}
 use Rattle.names.specs.Zone.{last_two_of}
 use Rattle.objects.specs.declared.contact.Contact.{Contact}
 use Rattle.objects.specs.declared.domain.Domain.{Domain}
@@ -17,10 +17,11 @@ use Rattle.objects.specs.Contacts.{contact_face_of}
 use Rattle.objects.specs.Domains.{face_of}
 use Rattle.policy.specs.Rules.{PolicyRules}
 use Rattle.concerns.specs.Concerns.{IsSettledIn, concerned}
-use Rattle.concerns.specs.Names.{named_of}
+use Rattle.concerns.specs.Names.{named_by, named_of}
 use Rattle.concerns.proofs.ConcernLemmas.{in-filter_map, in-itself}
-use Rattle.concerns.proofs.FactsLemmas.{contact-at, contact-linked, domain-at, graces-now, host-linked}
-use Rattle.books.specs.Faces.{contact_face_at, domain_face, domain_face_at, host_addresses_at, host_face_at}
+use Rattle.concerns.proofs.FactsLemmas.{account-now, contact-at, contact-linked, domain-at, graces-now, host-linked}
+use Rattle.registry.specs.inner.Passing.{balance_command}
+use Rattle.books.specs.Faces.{contact_face_at, domain_face, domain_face_at, domain_names, host_addresses_at, host_face_at}
 use Rattle.rules.specs.ResponseData.{host_info, with_shown_link}
 
 module _ (p : PolicyRules) (name : List ℕ) (u : Registry) where
@@ -43,3 +44,12 @@ module _ (p : PolicyRules) (name : List ℕ) (u : Registry) where
 
   pub addresses-now : host_addresses_at (now p u) name ≡ host_addresses_at u name
   addresses-now = refl
+
+pub names-now : (p : PolicyRules) (u : Registry) → now p u ≡ u
+    → domain_names (now p u) ≡ domain_names u
+names-now p u is = ap domain_names is
+
+pub lines-now : (p : PolicyRules) (r : ℕ) (u : Registry)
+    → IsSettledIn p (concerned (Some r) (named_by balance_command) u) u
+    → (account_of r (now p u)).lines ≡ (account_of r u).lines
+lines-now p r u is = ap (λ (a : Account). a.lines) (account-now p r balance_command u is)

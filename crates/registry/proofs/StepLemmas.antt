@@ -1,0 +1,139 @@
+-- One step in a transaction after another.
+use Rattle.std.proofs.Common.{◌≡◌, ◌<◌, ◌⊎◌, true, cond, Result, Ok, Err, refl, sym, subst, ap, ◌∙◌, arith}
+use Rattle.model.specs.Registry.{Registry}
+use Rattle.registry.specs.inner.Steps.{IsWithin, Works}
+use Rattle.books.specs.Book.{BookFinds, BookReads, BookState, BookStays, BookWrites, Follows, GivesUp, IsBack, LeavesSame, Stored, WentBack}
+use Rattle.states.specs.declared.fault.BookFault.{BookFault}
+use Rattle.states.specs.declared.fault.BookFault.TheVariants.{Memory, Store}
+
+leaves-on : (old mid new : BookState) → LeavesSame old mid → LeavesSame mid new → LeavesSame old new
+leaves-on old mid new first then = record {
+  honest = λ honest. first.honest (then.honest honest);
+  same = then.same ∙ first.same;
+  ready = then.ready ∙ first.ready;
+}
+
+stays-on : (old mid new : BookState) → BookStays old mid → BookStays mid new → BookStays old new
+stays-on old mid new first then = record {
+  clean = λ clean. first.clean (then.clean clean);
+  answers = λ was. then.answers (first.answers was);
+  leaves = leaves-on old mid new first.leaves then.leaves;
+}
+
+pub within-on : (old mid new : BookState) → IsWithin old mid → IsWithin mid new → IsWithin old new
+within-on old mid new first then = record {
+  counted = then.counted ∙ first.counted;
+  opened = then.opened;
+  before = λ clean. then.before clean ∙ first.before (then.stays.clean clean);
+  terms = λ clean. then.terms clean ∙ first.terms (then.stays.clean clean);
+  stays = stays-on old mid new first.stays then.stays;
+}
+
+pub within-itself : (s : BookState) → s.is_open ≡ true → IsWithin s s
+within-itself s is_open = record {
+  counted = refl;
+  opened = is_open;
+  before = λ clean. refl;
+  terms = λ clean. refl;
+  stays = record {
+    clean = λ clean. clean;
+    answers = λ was. was;
+    leaves = record { honest = λ honest. honest; same = refl; ready = refl };
+  };
+}
+
+-- a change of the registry alone
+pub written : (old new : BookState) (held : Stored) → held.terms ≡ old.content.terms
+    → BookWrites old new held → BookStays old new → IsWithin old new
+written old new held terms writes stays = record {
+  counted = writes.counted;
+  opened = writes.opened;
+  before = writes.before;
+  terms = λ clean. ap (λ (held : Stored). held.terms) (writes.content clean) ∙ terms;
+  stays = stays;
+}
+
+pub only-read : (old new : BookState) → old.is_open ≡ true → BookReads old new → BookStays old new
+    → IsWithin old new
+only-read old new is_open reads stays = record {
+  counted = reads.counted;
+  opened = reads.opened ∙ is_open;
+  before = reads.before;
+  terms = λ clean. ap (λ (held : Stored). held.terms) (reads.content clean);
+  stays = stays;
+}
+
+-- ---- where a later step gives up, the book went back to where the transaction began
+
+home-of : (old mid new : BookState) → old.is_open ≡ true → IsWithin old mid → Follows mid new
+    → IsBack mid new → IsBack old new
+home-of old mid new was_open is then back = record {
+  closed = back.closed;
+  content = λ clean.
+      back.content clean ∙ ap (λ b. cond b mid.before mid.content) is.opened
+      ∙ is.before (then.clean clean)
+      ∙ sym (ap (λ b. cond b old.before old.content) was_open);
+}
+
+gave-up-later : (fault : BookFault) (old mid new : BookState) → old.is_open ≡ true → IsWithin old mid
+    → GivesUp fault mid new → Follows mid new → GivesUp fault old new
+gave-up-later Memory old mid new was_open is gave then =
+    (home-of old mid new was_open is then gave.0, gave.1 ∙ is.counted)
+gave-up-later Store old mid new was_open is gave then = (
+  home-of old mid new was_open is then gave.0,
+  subst (λ n. (n < new.refused) ⊎ (new.refused ≡ 0xFFFF_FFFF_FFFF_FFFF)) is.counted gave.1,
+)
+
+pub went-later : (fault : BookFault) (old mid new : BookState) → old.is_open ≡ true
+    → IsWithin old mid → WentBack fault mid new → WentBack fault old new
+went-later fault old mid new was_open is went =
+    let then = went.1.0 in
+    let stays = is.stays in (
+      gave-up-later fault old mid new was_open is went.0 then,
+      (
+        record {
+          clean = λ clean. stays.clean (then.clean clean);
+          counted = omega (arith, is.counted, then.counted);
+        },
+        leaves-on old mid new stays.leaves went.1.1,
+      ),
+    )
+
+-- ---- what one step does after another
+
+module _ {A : Type 0} where
+  pub works-as : (result : Result A BookFault) (step whole : Registry → Registry → A → Type 0)
+      (old new : BookState)
+      → ((after : Registry) (it : A)
+      → step old.content.registry after it → whole old.content.registry after it)
+      → Works result step old new → Works result whole old new
+  works-as (Ok it) step whole old new is works =
+      (works.0, λ clean. is new.content.registry it (works.1 clean))
+  works-as (Err fault) step whole old new is works = works
+
+  pub works-then : (result : Result A BookFault) (step whole : Registry → Registry → A → Type 0)
+      (old mid new : BookState) → old.is_open ≡ true → IsWithin old mid
+      → (mid.is_clean ≡ true → (after : Registry) (it : A)
+      → step mid.content.registry after it → whole old.content.registry after it)
+      → Works result step mid new → Works result whole old new
+  works-then (Ok it) step whole old mid new was_open within is works = (
+    within-on old mid new within works.0,
+    λ clean. is (works.0.stays.clean clean) new.content.registry it (works.1 clean),
+  )
+  works-then (Err fault) step whole old mid new was_open within is works =
+      went-later fault old mid new was_open within works
+
+  pub finds-then : (result : Result A BookFault) (value : A)
+      (whole : Registry → Registry → A → Type 0) (old mid new : BookState) → old.is_open ≡ true
+      → IsWithin old mid
+      → (mid.is_clean ≡ true → whole old.content.registry mid.content.registry value)
+      → BookFinds result value mid new → Works result whole old new
+  finds-then (Ok it) value whole old mid new was_open within is found = (
+    within-on old mid new within (only-read mid new within.opened found.0 found.1.0),
+    λ clean. subst (λ (held : Stored). whole old.content.registry held.registry it)
+        (sym (found.0.content clean))
+        (subst (λ (a : A). whole old.content.registry mid.content.registry a)
+        (sym (found.1.1 clean)) (is (found.1.0.clean clean))),
+  )
+  finds-then (Err fault) value whole old mid new was_open within is found =
+      went-later fault old mid new was_open within found
