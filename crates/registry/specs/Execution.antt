@@ -72,7 +72,7 @@ pub record IsGreetingStep (p : PolicyRules) (moment : ℕ) (before after : Regis
   pub left : now p after ≡ now p (lapsed p moment before)
   pub waits : after ≡ at (max moment before.clock) before
 
--- Of all that is due by the moment, in its order, the first so many objects lapse, and the clock stands
+-- Of all that is due by the moment, in its order, the first so many objects lapse, and the clock is
 -- there; what the registry is now is its lapse, however many they are.
 pub record IsSettlement (p : PolicyRules) (moment at_most : ℕ) (before after : Registry) (done : ℕ) : Type 0 where
   pub counted : done ≡ min at_most (length (due_by p (max moment before.clock) before))

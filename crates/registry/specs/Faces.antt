@@ -11,7 +11,7 @@ use Rattle.policy.specs.Rules.{PolicyRules}
 use Rattle.books.specs.Book.{BookState}
 use Rattle.books.specs.Faces.{domain_faces, host_faces}
 
--- of all hosts and all domains, and the moment at which they stand so
+-- of all hosts and all domains, and the moment at which they are so
 pub record ZoneFaces : Type 0 where
   pub moment : ℕ
   pub hosts : FinMap (slice_cmp nat_cmp) HostFace
@@ -21,7 +21,7 @@ pub record ZoneFaces : Type 0 where
 abbrev pub zone_faces_of : PolicyRules → Registry → ZoneFaces
 zone_faces_of p s = record { moment = s.clock; hosts = host_faces p s; domains = domain_faces p s }
 
--- What is told is what is found in the registry at that moment, and nothing else is done.
+-- What is answered is what is found in the registry at that moment, and nothing else is done.
 pub record IsLookUp {X : Type 0} (p : PolicyRules) (find : Registry → X) (moment : ℕ) (before after : Registry) (found : X) : Type 0 where
   pub told : found ≡ find (lapsed p moment before)
   pub left : now p after ≡ now p (lapsed p moment before)

@@ -1,4 +1,4 @@
--- How what is due lapses in a book: one object after another, each as it stands by then.
+-- How what is due lapses in a book: one object after another, each as it is by then.
 use Rattle.std.specs.Prelude.{ℕ, List, fold}
 use Rattle.model.specs.Objects.{object_at}
 use Rattle.model.specs.Registry.{Registry}

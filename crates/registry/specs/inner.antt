@@ -1,4 +1,4 @@
--- Words that this crate's own functions are told by, and that no promise of the registry names.
+-- Words for this crate's own functions, which no promise of the registry names.
 pub mod FaceLaws
 pub mod Passing
 pub mod Steps

@@ -237,7 +237,7 @@ impl Work for DomainsWork<'_> {
 }
 
 /// What everyone may know of the domain under each of these names, in an open transaction whose
-/// clock stands at the moment: one after another lapses and is looked up.
+/// clock is at the moment: one after another lapses and is looked up.
 fn domains_at<B: Book>(
     book: &mut B,
     alloc: Global,

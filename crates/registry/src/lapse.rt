@@ -32,7 +32,7 @@ pub(crate) fn lapse_each<B: Book>(
     Ok(())
 }
 
-/// Lets the object lapse that stands under a name.
+/// Has the object under a name lapse.
 fn lapse_one<B: Book>(
     book: &mut B,
     alloc: Global,
@@ -49,7 +49,7 @@ fn lapse_one<B: Book>(
     book.apply(changes, policy)
 }
 
-/// What the lapse of the object changes that stands under a name.
+/// What the lapse of the object under a name changes.
 fn changes_of<B: Book>(
     book: &mut B,
     alloc: Global,

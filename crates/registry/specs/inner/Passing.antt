@@ -66,7 +66,7 @@ abbrev pub IsAsNow : {X : Type 0} → Extent → (PolicyRules → Registry → X
 IsAsNow what find =
     (p : PolicyRules) (s : Registry) → IsSettledAs p what s → find p (now p s) ≡ find p s
 
--- The clock stands at the moment and is told, nothing of what lapses is due, and what the registry is
+-- The clock is at the moment and is the answer, nothing of what lapses is due, and what the registry is
 -- now is its lapse.
 pub record IsPassed (p : PolicyRules) (what : Extent) (moment : ℕ) (before after : Registry)
     (date : ℕ) : Type 0 where

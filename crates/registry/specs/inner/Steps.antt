@@ -66,12 +66,12 @@ Keeps (Err fault) step old new =
 
 -- ---- steps
 
--- The clock stands at the moment, or where it stood if that is later, and is told.
+-- The clock is at the moment, or where it was if that is later, and is the answer.
 pub record HasMoved (moment : ℕ) (before after : Registry) (clock : ℕ) : Type 0 where
   pub told : clock ≡ max moment before.clock
   pub left : after ≡ at (max moment before.clock) before
 
--- These changes are made, and this is told.
+-- These changes are made, and this is the answer.
 pub record IsMade {A : Type 0} (p : PolicyRules) (changes : List Change) (answer : A)
     (before after : Registry) (it : A) : Type 0 where
   pub told : it ≡ answer
