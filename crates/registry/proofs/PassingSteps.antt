@@ -23,7 +23,7 @@ use Rattle.registry.specs.declared.command.Prepared.{Prepared}
 use Rattle.registry.specs.Execution.{IsGreetingStep, IsOrderStep, IsPrepared, IsStep, due_at_name, with_lapsed}
 use Rattle.registry.specs.Faces.{IsLookUp}
 use Rattle.registry.specs.Lapsing.{dues_lapsed, with_dues_lapsed}
-use Rattle.registry.specs.inner.Passing.{Extent, IsPassed, IsSettledAs, about_named, concerning, due_in, everything, nothing, status_at}
+use Rattle.registry.specs.inner.Passing.{Extent, IsPassed, IsSettledAs, about_named, concerning, due_in, everything, lapsing, nothing, status_at}
 use Rattle.registry.specs.inner.Steps.{HasMoved, IsCarriedOut, IsMade, IsWithin}
 use Rattle.registry.proofs.LapseSteps.{same-lapse}
 use Rattle.registry.proofs.LapsingLemmas.{all-lapsed, each-as-some, has-concerned, objects_of, some-lapsed}
@@ -249,17 +249,25 @@ greets p moment date before after is = record {
 
 module _ {X : Type 0} (p : PolicyRules) (find : Registry → X) (what : Extent) (moment clock : ℕ)
     (before mid : Registry) (is : IsPassed p what moment before mid clock) where
-  pub looked-up : find (now p mid) ≡ find mid → IsLookUp p find moment before mid (find mid)
+  pub looked-up : find (now p mid) ≡ find mid
+      → IsLookUp p find (lapsing p what) moment before mid (find mid)
   looked-up stands = record {
     told = sym stands ∙ ap find is.future;
     left = is.future ∙ sym (now-lapsed p moment before);
+    waits = is.waits;
   }
 
-  -- where the clock was moved before: both moments are the clock's
-  pub then-looked-up : (after : Registry) (found : X) → IsLookUp p find clock mid after found
-      → IsLookUp p find moment before after found
-  then-looked-up after found step =
-      let late : max clock mid.clock ≡ mid.clock = omega (arith, is.told, is.clock) in
-      let same : lapsed p clock mid ≡ lapsed p moment before = ap (λ (u : ℕ). lapse p u mid) late
-      ∙ is.future in
-      record { told = step.told ∙ ap find same; left = step.left ∙ ap (now p) same }
+-- where the clock was moved before: both moments are the clock's
+pub then-looked-up : {X : Type 0} (p : PolicyRules) (find : Registry → X)
+    (lapses : ℕ → Registry → Registry) (moment clock : ℕ) (before mid : Registry)
+    → IsPassed p nothing moment before mid clock → (after : Registry) (found : X)
+    → IsLookUp p find lapses clock mid after found → IsLookUp p find lapses moment before after found
+then-looked-up p find lapses moment clock before mid is after found step =
+    let late : max clock mid.clock ≡ mid.clock = omega (arith, is.told, is.clock) in
+    let same : lapsed p clock mid ≡ lapsed p moment before = ap (λ (u : ℕ). lapse p u mid) late
+    ∙ is.future in
+    record {
+      told = step.told ∙ ap find same;
+      left = step.left ∙ ap (now p) same;
+      waits = step.waits ∙ (λ i. lapses ((late ∙ is.clock) i) (at ((late ∙ is.clock) i) (is.waits i)));
+    }

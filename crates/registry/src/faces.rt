@@ -3,9 +3,9 @@
 ghost use Rattle.std.specs.Prelude.{◌≡◌, true, map, Some};
 ghost use Rattle.concerns.specs.Names.{named_by};
 ghost use Rattle.objects.specs.declared.roid.ObjectKind.TheVariants as kinds;
-ghost use Rattle.registry.specs.Faces.{IsLookUp};
+ghost use Rattle.registry.specs.Faces.{IsLookUp, balance_command, lapsing_at, lapsing_each};
 ghost use Rattle.registry.specs.inner.FaceLaws as laws;
-ghost use Rattle.registry.specs.inner.Passing.{about, balance_command, concerning, everything};
+ghost use Rattle.registry.specs.inner.Passing.{about, concerning, everything, lapsing};
 ghost use Rattle.registry.specs.inner.Steps.{Works};
 ghost use Rattle.model.specs.Registry.{account_of};
 ghost use Rattle.books.specs.Faces.{contact_face_at, domain_face_at, domain_names};
@@ -200,7 +200,8 @@ pub(crate) struct LookUpWork<'l, L> {
 impl<L: LookUp> Work for LookUpWork<'_, L> {
     type Answer = L::Found;
 
-    ghost step = { λ it p. IsLookUp p (L.finds it.what.now p) it.moment };
+    ghost step = { λ it p. IsLookUp p (L.finds it.what.now p) (lapsing p (L.awaits it.what.now))
+        it.moment };
 
     fn work<B: Book>(
         &self,
@@ -223,7 +224,8 @@ pub(crate) struct DomainsWork<'n> {
 impl Work for DomainsWork<'_> {
     type Answer = Seq<Option<DomainFace>>;
 
-    ghost step = { λ it p. IsLookUp p (λ s. map (domain_face_at p s) it.names.now) it.moment };
+    ghost step = { λ it p. IsLookUp p (λ s. map (domain_face_at p s) it.names.now)
+        (lapsing_each p kinds.Domain it.names.now) it.moment };
 
     fn work<B: Book>(
         &self,
@@ -249,7 +251,8 @@ fn domains_at<B: Book>(
     requires clock { (B.state book.old).is_clean ≡ true
         → (B.state book.old).content.registry.clock ≡ moment }
     ensures { Works result (IsLookUp policy.now (λ s. map (domain_face_at policy.now s) names.now)
-        moment) (B.state book.old) (B.state book.new) }
+        (lapsing_each policy.now kinds.Domain names.now) moment)
+        (B.state book.old) (B.state book.new) }
 {
     let mut faces = Seq::new(alloc);
     for name in names {
@@ -271,7 +274,8 @@ fn domain_at<B: Book>(
     requires opened { (B.state book.old).is_open ≡ true }
     requires clock { (B.state book.old).is_clean ≡ true
         → (B.state book.old).content.registry.clock ≡ moment }
-    ensures { Works result (IsLookUp policy.now (λ s. domain_face_at policy.now s name.now) moment)
+    ensures { Works result (IsLookUp policy.now (λ s. domain_face_at policy.now s name.now)
+        (lapsing_at policy.now kinds.Domain name.now) moment)
         (B.state book.old) (B.state book.new) }
 {
     catch_up(

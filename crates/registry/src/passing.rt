@@ -1,6 +1,7 @@
 //! How time passes in an open transaction: what somebody asks for lapses, and all else that is due
 //! stays behind the clock until it is asked for or settled.
 ghost use Rattle.std.specs.Prelude.{◌≡◌, true};
+ghost use Rattle.registry.specs.Faces.{balance_command};
 ghost use Rattle.registry.specs.Lapsing.{with_dues_lapsed};
 ghost use Rattle.registry.specs.inner.Passing as spec;
 ghost use Rattle.registry.specs.inner.Passing.{IsPassed, extent_of};
@@ -95,7 +96,7 @@ fn due_in<B: Book>(
 
 /// The question for the balance.
 fn balance_command() -> Command
-    ensures { result ≡ spec.balance_command }
+    ensures { result ≡ balance_command }
 {
     Command::Asked {
         cl_trid: None,

@@ -13,6 +13,9 @@ ghost use Rattle.registry.specs.Execution.{Fails, Greets, Isolates, OrderSteps, 
 ghost use Rattle.registry.specs.Execution.{last_call};
 ghost use Rattle.registry.specs.Execution.{IsGreetingStep, IsOrderStep, IsSettlement, IsStep};
 ghost use Rattle.registry.specs.Faces.{IsLookUp, LooksUp};
+ghost use Rattle.registry.specs.Faces.{lapsing_all, lapsing_at, lapsing_each, lapsing_of};
+ghost use Rattle.registry.specs.inner.Passing.{lapsing};
+ghost use Rattle.objects.specs.declared.roid.ObjectKind.TheVariants as kinds;
 ghost use Rattle.registry.specs.Opening.{KeepsLengths, OpensAsItWas};
 ghost use Rattle.registry.specs.Sound.{BeginAfter-prop};
 ghost use Rattle.model.specs.Registry.{account_of};
@@ -215,13 +218,15 @@ impl<B: Book + Drop> Registry<B> {
         moment: Moment,
     ) -> Result<Option<DomainFace>, Fault>
         ensures step { IfOk result (λ found. LooksUp self.old.policy
-            (λ s. domain_face_at self.old.policy s name.now) moment found (B.state self.old.book)
-            (B.state self.new.book)) }
+            (λ s. domain_face_at self.old.policy s name.now)
+            (lapsing_at self.old.policy kinds.Domain name.now) moment found
+            (B.state self.old.book) (B.state self.new.book)) }
         ensures fault { IfErr result (λ fault. Fails fault (B.state self.old.book)
             (B.state self.new.book)) }
         ensures keeps { LooksUpKeeping self.old.policy moment
             (Makes (IsLookUp self.old.policy (λ s. domain_face_at self.old.policy s name.now)
-            moment)) result self.new.policy (B.state self.old.book) (B.state self.new.book) }
+            (lapsing_at self.old.policy kinds.Domain name.now) moment)) result
+            self.new.policy (B.state self.old.book) (B.state self.new.book) }
         ensures late { (result ≡ Err Fault.Moment) ↔ (last_call < moment) }
     {
         self.look_up(&DomainAt(name.text()), moment)
@@ -230,13 +235,15 @@ impl<B: Book + Drop> Registry<B> {
     /// The same of the host under a name.
     pub fn host_face(&mut self, name: &HostName, moment: Moment) -> Result<Option<HostFace>, Fault>
         ensures step { IfOk result (λ found. LooksUp self.old.policy
-            (λ s. host_face_at self.old.policy s name.now) moment found (B.state self.old.book)
-            (B.state self.new.book)) }
+            (λ s. host_face_at self.old.policy s name.now)
+            (lapsing_at self.old.policy kinds.Host name.now) moment found
+            (B.state self.old.book) (B.state self.new.book)) }
         ensures fault { IfErr result (λ fault. Fails fault (B.state self.old.book)
             (B.state self.new.book)) }
         ensures keeps { LooksUpKeeping self.old.policy moment
-            (Makes (IsLookUp self.old.policy (λ s. host_face_at self.old.policy s name.now) moment))
-            result self.new.policy (B.state self.old.book) (B.state self.new.book) }
+            (Makes (IsLookUp self.old.policy (λ s. host_face_at self.old.policy s name.now)
+            (lapsing_at self.old.policy kinds.Host name.now) moment)) result
+            self.new.policy (B.state self.old.book) (B.state self.new.book) }
         ensures late { (result ≡ Err Fault.Moment) ↔ (last_call < moment) }
     {
         self.look_up(&HostAt(name.text()), moment)
@@ -249,12 +256,14 @@ impl<B: Book + Drop> Registry<B> {
         moment: Moment,
     ) -> Result<Option<ContactFace>, Fault>
         ensures step { IfOk result (λ found. LooksUp self.old.policy
-            (λ s. contact_face_at s name.now) moment found (B.state self.old.book)
-            (B.state self.new.book)) }
+            (λ s. contact_face_at s name.now)
+            (lapsing_at self.old.policy kinds.Contact name.now) moment found
+            (B.state self.old.book) (B.state self.new.book)) }
         ensures fault { IfErr result (λ fault. Fails fault (B.state self.old.book)
             (B.state self.new.book)) }
         ensures keeps { LooksUpKeeping self.old.policy moment
-            (Makes (IsLookUp self.old.policy (λ s. contact_face_at s name.now) moment)) result
+            (Makes (IsLookUp self.old.policy (λ s. contact_face_at s name.now)
+            (lapsing_at self.old.policy kinds.Contact name.now) moment)) result
             self.new.policy (B.state self.old.book) (B.state self.new.book) }
         ensures late { (result ≡ Err Fault.Moment) ↔ (last_call < moment) }
     {
@@ -263,12 +272,14 @@ impl<B: Book + Drop> Registry<B> {
 
     /// The names of all domains at a moment, in their order.
     pub fn domain_names(&mut self, moment: Moment) -> Result<Seq<Text>, Fault>
-        ensures step { IfOk result (λ found. LooksUp self.old.policy (domain_names) moment found
+        ensures step { IfOk result (λ found. LooksUp self.old.policy domain_names
+            (lapsing_all self.old.policy) moment found
             (B.state self.old.book) (B.state self.new.book)) }
         ensures fault { IfErr result (λ fault. Fails fault (B.state self.old.book)
             (B.state self.new.book)) }
         ensures keeps { LooksUpKeeping self.old.policy moment
-            (Makes (IsLookUp self.old.policy domain_names moment)) result
+            (Makes (IsLookUp self.old.policy domain_names (lapsing_all self.old.policy) moment))
+            result
             self.new.policy (B.state self.old.book) (B.state self.new.book) }
         ensures late { (result ≡ Err Fault.Moment) ↔ (last_call < moment) }
     {
@@ -284,13 +295,15 @@ impl<B: Book + Drop> Registry<B> {
         moment: Moment,
     ) -> Result<Seq<Option<DomainFace>>, Fault>
         ensures step { IfOk result (λ found. LooksUp self.old.policy
-            (λ s. map (domain_face_at self.old.policy s) names.now) moment found
+            (λ s. map (domain_face_at self.old.policy s) names.now)
+            (lapsing_each self.old.policy kinds.Domain names.now) moment found
             (B.state self.old.book) (B.state self.new.book)) }
         ensures fault { IfErr result (λ fault. Fails fault (B.state self.old.book)
             (B.state self.new.book)) }
         ensures keeps { LooksUpKeeping self.old.policy moment
             (Makes (IsLookUp self.old.policy
-            (λ s. map (domain_face_at self.old.policy s) names.now) moment)) result
+            (λ s. map (domain_face_at self.old.policy s) names.now)
+            (lapsing_each self.old.policy kinds.Domain names.now) moment)) result
             self.new.policy (B.state self.old.book) (B.state self.new.book) }
         ensures late { (result ≡ Err Fault.Moment) ↔ (last_call < moment) }
     {
@@ -307,12 +320,14 @@ impl<B: Book + Drop> Registry<B> {
         moment: Moment,
     ) -> Result<Option<Seq<Text>>, Fault>
         ensures step { IfOk result (λ found. LooksUp self.old.policy
-            (λ s. host_addresses_at s name.now) moment found (B.state self.old.book)
-            (B.state self.new.book)) }
+            (λ s. host_addresses_at s name.now)
+            (lapsing_at self.old.policy kinds.Host name.now) moment found
+            (B.state self.old.book) (B.state self.new.book)) }
         ensures fault { IfErr result (λ fault. Fails fault (B.state self.old.book)
             (B.state self.new.book)) }
         ensures keeps { LooksUpKeeping self.old.policy moment
-            (Makes (IsLookUp self.old.policy (λ s. host_addresses_at s name.now) moment)) result
+            (Makes (IsLookUp self.old.policy (λ s. host_addresses_at s name.now)
+            (lapsing_at self.old.policy kinds.Host name.now) moment)) result
             self.new.policy (B.state self.old.book) (B.state self.new.book) }
         ensures late { (result ≡ Err Fault.Moment) ↔ (last_call < moment) }
     {
@@ -324,12 +339,13 @@ impl<B: Book + Drop> Registry<B> {
     /// all that fell due by then are among them.
     pub fn lines(&mut self, registrar: RegistrarNo, moment: Moment) -> Result<Lines, Fault>
         ensures step { IfOk result (λ found. LooksUp self.old.policy
-            (λ s. (account_of registrar s).lines) moment found (B.state self.old.book)
-            (B.state self.new.book)) }
+            (λ s. (account_of registrar s).lines) (lapsing_of self.old.policy registrar)
+            moment found (B.state self.old.book) (B.state self.new.book)) }
         ensures fault { IfErr result (λ fault. Fails fault (B.state self.old.book)
             (B.state self.new.book)) }
         ensures keeps { LooksUpKeeping self.old.policy moment
-            (Makes (IsLookUp self.old.policy (λ s. (account_of registrar s).lines) moment)) result
+            (Makes (IsLookUp self.old.policy (λ s. (account_of registrar s).lines)
+            (lapsing_of self.old.policy registrar) moment)) result
             self.new.policy (B.state self.old.book) (B.state self.new.book) }
         ensures late { (result ≡ Err Fault.Moment) ↔ (last_call < moment) }
     {
@@ -340,12 +356,13 @@ impl<B: Book + Drop> Registry<B> {
     #[tactic(auto, using(crate::proofs::CallsKept::kept_late))]
     fn look_up<L: LookUp>(&mut self, what: &L, moment: Moment) -> Result<L::Found, Fault>
         ensures step { IfOk result (λ found. LooksUp self.old.policy
-            (L.finds what.now self.old.policy) moment found (B.state self.old.book)
-            (B.state self.new.book)) }
+            (L.finds what.now self.old.policy) (lapsing self.old.policy (L.awaits what.now)) moment
+            found (B.state self.old.book) (B.state self.new.book)) }
         ensures fault { IfErr result (λ fault. Fails fault (B.state self.old.book)
             (B.state self.new.book)) }
         ensures keeps { LooksUpKeeping self.old.policy moment
-            (Makes (IsLookUp self.old.policy (L.finds what.now self.old.policy) moment)) result
+            (Makes (IsLookUp self.old.policy (L.finds what.now self.old.policy)
+            (lapsing self.old.policy (L.awaits what.now)) moment)) result
             self.new.policy (B.state self.old.book) (B.state self.new.book) }
         ensures late { (result ≡ Err Fault.Moment) ↔ (last_call < moment) }
     {

@@ -71,8 +71,8 @@ left_of policy moment state old new (inl same) =
 left_of policy moment state old new (inr left) = left
 
 -- what is found is what the source shows then
-pub shown_by : {X : Type 0} (p q : PolicyRules) (moment : ℕ) (find : PolicyRules → Registry → X) (of : Faces → X) → ((p : PolicyRules) (s : Registry) → of (faces_of p s) ≡ find p s) → (result : Result X Fault) (old new : BookState) → q ≡ p
-    → IfOk result (λ found. LooksUp p (find p) moment found old new) → OnOk result (moment ≤ last_call)
+pub shown_by : {X : Type 0} (p q : PolicyRules) (moment : ℕ) (find : PolicyRules → Registry → X) (of : Faces → X) → ((p : PolicyRules) (s : Registry) → of (faces_of p s) ≡ find p s) → (result : Result X Fault) (old new : BookState) {lapses : ℕ → Registry → Registry} → q ≡ p
+    → IfOk result (λ found. LooksUp p (find p) lapses moment found old new) → OnOk result (moment ≤ last_call)
     → IfOk result (λ found. (faces : Faces) → (new.is_clean ≡ true) × MayShow q moment new faces → found ≡ of faces)
 shown_by p q moment find of is (Ok found) old new same step early = λ faces shown.
     let looked = step shown.0 in

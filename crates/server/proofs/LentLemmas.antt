@@ -67,8 +67,8 @@ shown_then p q moment later old new left clean = (
 -- ---- what they find
 
 -- what is found in a registry is what its faces show
-pub found_there : {X : Type 0} (p q : PolicyRules) (moment : ℕ) (find : Registry → X) (of : Faces → X) → ((s : Registry) → of (zone_faces p s) ≡ find s) → (old new : BookState) (found : X) → q ≡ p
-    → LooksUp p find moment found old new → (faces : Faces) → Shows q moment new faces → found ≡ of faces
+pub found_there : {X : Type 0} (p q : PolicyRules) (moment : ℕ) (find : Registry → X) (of : Faces → X) → ((s : Registry) → of (zone_faces p s) ≡ find s) → (old new : BookState) (found : X) {lapses : ℕ → Registry → Registry} → q ≡ p
+    → LooksUp p find lapses moment found old new → (faces : Faces) → Shows q moment new faces → found ≡ of faces
 found_there p q moment find of is old new found same step faces shown =
     let looked = step shown.0 in
     looked.told

@@ -20,7 +20,7 @@ use Rattle.concerns.specs.Concerns.{IsSettledIn, concerned}
 use Rattle.concerns.specs.Names.{named_by, named_of}
 use Rattle.concerns.proofs.ConcernLemmas.{in-filter_map, in-itself}
 use Rattle.concerns.proofs.FactsLemmas.{account-now, contact-at, contact-linked, domain-at, graces-now, host-linked}
-use Rattle.registry.specs.inner.Passing.{balance_command}
+use Rattle.registry.specs.Faces.{balance_command}
 use Rattle.books.specs.Faces.{contact_face_at, domain_face, domain_face_at, domain_names, host_addresses_at, host_face_at}
 use Rattle.rules.specs.ResponseData.{host_info, with_shown_link}
 

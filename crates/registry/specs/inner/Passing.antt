@@ -11,13 +11,12 @@ use Rattle.model.specs.Objects.{object_at}
 use Rattle.model.specs.Registry.{Registry}
 use Rattle.objects.specs.declared.roid.ObjectKind.{ObjectKind}
 use Rattle.policy.specs.Rules.{PolicyRules}
-use Rattle.protocol.specs.declared.command.Command.{Command}
-use Rattle.protocol.specs.declared.command.Command.TheVariants.{Asked}
-use Rattle.protocol.specs.declared.command.Request.TheVariants.{Balance}
 use Rattle.protocol.specs.declared.order.StatusOrder.{StatusOrder}
 use Rattle.decisions.specs.declared.order.OrderDecision.{OrderDecision}
 use Rattle.decisions.specs.Orders.{decided_order}
 use Rattle.registry.specs.Execution.{with_lapsed}
+use Rattle.registry.specs.Faces.{balance_command}
+use Rattle.registry.specs.Lapsing.{dues_lapsed}
 use Rattle.registry.specs.declared.passing.Scope.{Scope}
 use Rattle.registry.specs.declared.passing.Scope.TheVariants as scopes
 use Rattle.rules.specs.Orders.{order_code}
@@ -27,10 +26,6 @@ pub data Extent : Type 0 where
   nothing : Extent
   concerning : Option ℕ → Names → Extent
   everything : Extent
-
--- a registrar's question for its balance, which concerns what bears on its account
-abbrev pub balance_command : Command
-balance_command = Asked None Balance
 
 -- what an info of an object concerns
 abbrev pub about : ObjectKind → List ℕ → Extent
@@ -54,6 +49,10 @@ abbrev pub due_in : PolicyRules → Extent → ℕ → Registry → List Due
 due_in p nothing t s = []
 due_in p (concerning r g) t s = due_for p r g t s
 due_in p everything t s = due_by p t s
+
+-- the registry once it has lapsed
+abbrev pub lapsing : PolicyRules → Extent → ℕ → Registry → Registry
+lapsing p what t s = dues_lapsed p t (due_in p what t s) s
 
 -- nothing of it is due
 abbrev pub IsSettledAs : PolicyRules → Extent → Registry → Type 0

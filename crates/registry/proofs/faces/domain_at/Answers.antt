@@ -5,7 +5,7 @@ use Rattle.books.specs.Faces.{domain_face_at}
 use Rattle.registry.specs.Faces.{IsLookUp}
 use Rattle.registry.specs.Lapsing.{with_dues_lapsed}
 use Rattle.registry.specs.inner.FaceLaws.{domain-face-now}
-use Rattle.registry.specs.inner.Passing.{about, due_in}
+use Rattle.registry.specs.inner.Passing.{about, due_in, lapsing}
 use Rattle.registry.proofs.PassingSteps.{catches-up, looked-up}
 use Rattle.registry.proofs.StepLemmas.{finds-then, written}
 use Rattle.registry.proofs.faces.domain_at.Goals as goal
@@ -20,7 +20,7 @@ returns g c =
     let lapses = c.in_ok-catch_up.ensures in
     let what = about kinds.Domain name in
     let find = λ (s : Registry). domain_face_at p s name in
-    finds-then c.domain_face.result (find mid.content.registry) (IsLookUp p find moment) old mid
+    finds-then c.domain_face.result (find mid.content.registry) (IsLookUp p find (lapsing p what) moment) old mid
     (g.B.Book.state c.domain_face.new.self) c.requires.opened
     (written old mid (with_dues_lapsed p moment (due_in p what moment old.content.registry)
     old.content) refl lapses.0 lapses.1)

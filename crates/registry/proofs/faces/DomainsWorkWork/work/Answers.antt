@@ -1,7 +1,7 @@
 use Rattle.std.proofs.Common.{◌∙◌, map, sym}
 use Rattle.model.specs.Registry.{Registry}
-use Rattle.registry.specs.Faces.{IsLookUp}
-use Rattle.registry.specs.inner.Passing.{nothing}
+use Rattle.objects.specs.declared.roid.ObjectKind.TheVariants as kinds
+use Rattle.registry.specs.Faces.{IsLookUp, lapsing_each}
 use Rattle.registry.proofs.PassingSteps.{then-looked-up}
 use Rattle.registry.proofs.StepLemmas.{works-then}
 use Rattle.books.specs.Faces.{domain_face_at}
@@ -18,7 +18,9 @@ returns g c =
     let old = g.B.Book.state c.args.book.now in
     let mid = g.B.Book.state c.pass.new.book in
     let find = λ (s : Registry). map (domain_face_at p s) c.args.self.now.names.now in
-    works-then c.domains_at.result (IsLookUp p find c.in_ok-now.now) (IsLookUp p find moment) old
+    let lapses = lapsing_each p kinds.Domain c.args.self.now.names.now in
+    works-then c.domains_at.result (IsLookUp p find lapses c.in_ok-now.now)
+    (IsLookUp p find lapses moment) old
     mid (g.B.Book.state c.domains_at.new.book) c.requires c.in_ok-now.ensures.0
-    (λ clean. then-looked-up p find nothing moment c.in_ok-now.now old.content.registry
+    (λ clean. then-looked-up p find lapses moment c.in_ok-now.now old.content.registry
     mid.content.registry (c.in_ok-now.ensures.1 clean)) c.domains_at.ensures

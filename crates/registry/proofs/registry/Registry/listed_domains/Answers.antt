@@ -2,7 +2,8 @@ use Rattle.std.specs.Prelude.{map}
 use Rattle.model.specs.Lapse.{lapsed}
 use Rattle.isolation.specs.Runs.{look_up, shown}
 use Rattle.registry.specs.Crashes.{Makes}
-use Rattle.registry.specs.Faces.{IsLookUp}
+use Rattle.objects.specs.declared.roid.ObjectKind.TheVariants as kinds
+use Rattle.registry.specs.Faces.{IsLookUp, lapsing_each}
 use Rattle.registry.proofs.Answering.{look_up_answered}
 use Rattle.registry.proofs.CallLemmas.{taken}
 use Rattle.registry.proofs.CallsKept.{call_kept}
@@ -14,5 +15,5 @@ returns-clause-keeps g c =
     let old = g.B.Book.state c.args.self.now.book in
     let new = g.B.Book.state c.transact.new.self.book in
     let p = c.args.self.now.policy in
-    call_kept p c.args.self.now.sound c.args.moment (taken c.is_late.result c.args.moment c.is_late.ensures c.if-is_late.false) look_up tt (λ found. shown (lapsed p c.args.moment old.content.registry)) (Makes (IsLookUp p (λ s. map (domain_face_at p s) c.args.names.now) c.args.moment))
+    call_kept p c.args.self.now.sound c.args.moment (taken c.is_late.result c.args.moment c.is_late.ensures c.if-is_late.false) look_up tt (λ found. shown (lapsed p c.args.moment old.content.registry)) (Makes (IsLookUp p (λ s. map (domain_face_at p s) c.args.names.now) (lapsing_each p kinds.Domain c.args.names.now) c.args.moment))
     c.transact.result c.transact.new.self.policy old new c.args.self.now.kept c.transact.ensures.keeps (look_up_answered _ p c.args.moment old.content.registry new.content.registry c.transact.result _ c.transact.ensures.step)
