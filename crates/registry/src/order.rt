@@ -61,13 +61,8 @@ fn set_statuses_at<B: Book>(
         (B.state book.old) (B.state book.new) }
 {
     let name = or_rollback(book, order.object_name(alloc, policy.zone()))?;
-    pass(
-        book,
-        alloc,
-        &Scope::Named(order.kind, &name),
-        moment,
-        policy,
-    )?;
+    let scope = Scope::Named(order.kind, &name);
+    pass(book, alloc, &scope, moment, policy)?;
     set_statuses(book, alloc, order, &name, policy)
 }
 
