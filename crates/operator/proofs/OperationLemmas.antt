@@ -34,14 +34,14 @@ looked p moment x told makes (Err fault) after old new greets fails keeps =
     }
 
 -- a look-up neither
-pub passes_by : {X : Type 0} (p : PolicyRules) (moment : ℕ) (find : Registry → X) (makes : Stored → Stored → Type 0) (result : Result X Fault) (after : PolicyRules) (old new : BookState) → IfOk result (λ found. LooksUp p find moment found old new)
+pub passes_by : {X : Type 0} (lapses : ℕ → Registry → Registry) (p : PolicyRules) (moment : ℕ) (find : Registry → X) (makes : Stored → Stored → Type 0) (result : Result X Fault) (after : PolicyRules) (old new : BookState) → IfOk result (λ found. LooksUp p find lapses moment found old new)
     → LooksUpKeeping p moment makes result after old new → IfErr result (λ fault. Fails fault old new) → Passes p moment old new
-passes_by p moment find makes (Ok found) after old new step keeps fails = record {
+passes_by lapses p moment find makes (Ok found) after old new step keeps fails = record {
   registry = λ clean. inr (step clean).left;
   terms = keeps.answered.terms;
   follows = keeps.follows;
 }
-passes_by p moment find makes (Err fault) after old new step keeps fails =
+passes_by lapses p moment find makes (Err fault) after old new step keeps fails =
     let kept : IsUnchanged old new = unchanged fault old new fails in
     record {
       registry = λ clean. inl (ap (λ (held : Stored). held.registry) (kept.content clean));

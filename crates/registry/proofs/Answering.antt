@@ -35,7 +35,7 @@ settlement_answered clean p moment before after (Ok done) at_most step = λ take
 }
 settlement_answered clean p moment before after (Err e) at_most step = tt
 
-pub look_up_answered : {E X : Type 0} (clean : Type 0) (p : PolicyRules) (moment : ℕ) (before after : Registry) (result : Result X E) (find : Registry → X) {lapses : ℕ → Registry → Registry}
+pub look_up_answered : {E X : Type 0} (lapses : ℕ → Registry → Registry) (clean : Type 0) (p : PolicyRules) (moment : ℕ) (before after : Registry) (result : Result X E) (find : Registry → X)
     → IfOk result (λ found. clean → IsLookUp p find lapses moment before after found) → IfOk result (λ found. clean → IsCall p moment look_up before after (shown (lapsed p moment before)))
-look_up_answered clean p moment before after (Ok found) find step = λ taken. record { answered = refl; left = (step taken).left }
-look_up_answered clean p moment before after (Err e) find step = tt
+look_up_answered lapses clean p moment before after (Ok found) find step = λ taken. record { answered = refl; left = (step taken).left }
+look_up_answered lapses clean p moment before after (Err e) find step = tt

@@ -86,9 +86,10 @@ GreetingsAreEvents =
 
 abbrev pub LookUpsAreEvents : Type 0 → Type 0
 LookUpsAreEvents X =
-    (p : PolicyRules) (find : Registry → X) (moment : ℕ) (result : Result X Fault) (old new : BookState)
-    → IfOk result (λ found. LooksUp p find moment found old new)
-    → IsCarriedOut p result (Makes (IsLookUp p find moment)) old new
+    (p : PolicyRules) (find : Registry → X) (lapsing : ℕ → Registry → Registry) (moment : ℕ)
+    (result : Result X Fault) (old new : BookState)
+    → IfOk result (λ found. LooksUp p find lapsing moment found old new)
+    → IsCarriedOut p result (Makes (IsLookUp p find lapsing moment)) old new
     → Happens (event_of result (asking p moment look_up)) old new
 
 abbrev pub SettlementsAreEvents : Type 0

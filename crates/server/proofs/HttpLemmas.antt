@@ -39,14 +39,14 @@ unchanged faults.Memory old new fails = fails.0
 unchanged faults.Store old new fails = fails.0
 unchanged faults.Moment old new fails = fails.0
 
-pub passes_by : {X : Type 0} (p : PolicyRules) (moment : ℕ) (find : Registry → X) (makes : Stored → Stored → Type 0) (result : Result X Fault) (after : PolicyRules) (old new : BookState) → IfOk result (λ found. LooksUp p find moment found old new)
+pub passes_by : {X : Type 0} (lapses : ℕ → Registry → Registry) (p : PolicyRules) (moment : ℕ) (find : Registry → X) (makes : Stored → Stored → Type 0) (result : Result X Fault) (after : PolicyRules) (old new : BookState) → IfOk result (λ found. LooksUp p find lapses moment found old new)
     → LooksUpKeeping p moment makes result after old new → IfErr result (λ fault. Fails fault old new) → Passes p moment old new
-passes_by p moment find makes (Ok found) after old new step keeps fails = record {
+passes_by lapses p moment find makes (Ok found) after old new step keeps fails = record {
   registry = λ clean. inr (step clean).left;
   terms = keeps.answered.terms;
   follows = keeps.follows;
 }
-passes_by p moment find makes (Err fault) after old new step keeps fails =
+passes_by lapses p moment find makes (Err fault) after old new step keeps fails =
     let kept : IsUnchanged old new = unchanged fault old new fails in
     record {
       registry = λ clean. inl (ap (λ (held : Stored). held.registry) (kept.content clean));
@@ -71,17 +71,17 @@ left_of policy moment state old new (inl same) =
 left_of policy moment state old new (inr left) = left
 
 -- what is found is what the source shows then
-pub shown_by : {X : Type 0} (p q : PolicyRules) (moment : ℕ) (find : PolicyRules → Registry → X) (of : Faces → X) → ((p : PolicyRules) (s : Registry) → of (faces_of p s) ≡ find p s) → (result : Result X Fault) (old new : BookState) {lapses : ℕ → Registry → Registry} → q ≡ p
+pub shown_by : {X : Type 0} (lapses : ℕ → Registry → Registry) (p q : PolicyRules) (moment : ℕ) (find : PolicyRules → Registry → X) (of : Faces → X) → ((p : PolicyRules) (s : Registry) → of (faces_of p s) ≡ find p s) → (result : Result X Fault) (old new : BookState) → q ≡ p
     → IfOk result (λ found. LooksUp p (find p) lapses moment found old new) → OnOk result (moment ≤ last_call)
     → IfOk result (λ found. (faces : Faces) → (new.is_clean ≡ true) × MayShow q moment new faces → found ≡ of faces)
-shown_by p q moment find of is (Ok found) old new same step early = λ faces shown.
+shown_by lapses p q moment find of is (Ok found) old new same step early = λ faces shown.
     let looked = step shown.0 in
     looked.told
     ∙ ap (find p) (sym (same_then p moment old.content.registry new.content.registry looked.left))
     ∙ ap (λ (r : PolicyRules). find r (lapsed r moment new.content.registry)) (sym same)
     ∙ sym (is q (lapsed q moment new.content.registry))
     ∙ ap of (sym (shown.1 early))
-shown_by p q moment find of is (Err fault) old new same step early = tt
+shown_by lapses p q moment find of is (Err fault) old new same step early = tt
 
 -- an answer by what the source shows then is one by the faces of the moment
 pub answer_then : (p q : PolicyRules) (moment later : ℕ) (old new : BookState) (head bytes : List ℕ) → q ≡ p → later ≡ moment → Passes p moment old new

@@ -67,9 +67,9 @@ shown_then p q moment later old new left clean = (
 -- ---- what they find
 
 -- what is found in a registry is what its faces show
-pub found_there : {X : Type 0} (p q : PolicyRules) (moment : ℕ) (find : Registry → X) (of : Faces → X) → ((s : Registry) → of (zone_faces p s) ≡ find s) → (old new : BookState) (found : X) {lapses : ℕ → Registry → Registry} → q ≡ p
+pub found_there : {X : Type 0} (lapses : ℕ → Registry → Registry) (p q : PolicyRules) (moment : ℕ) (find : Registry → X) (of : Faces → X) → ((s : Registry) → of (zone_faces p s) ≡ find s) → (old new : BookState) (found : X) → q ≡ p
     → LooksUp p find lapses moment found old new → (faces : Faces) → Shows q moment new faces → found ≡ of faces
-found_there p q moment find of is old new found same step faces shown =
+found_there lapses p q moment find of is old new found same step faces shown =
     let looked = step shown.0 in
     looked.told
     ∙ ap find (sym (same_then p moment old.content.registry new.content.registry looked.left))

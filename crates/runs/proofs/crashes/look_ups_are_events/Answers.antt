@@ -8,7 +8,7 @@ use Rattle.runs.proofs.CrashLemmas.{carried-out, stepped}
 use Rattle.runs.proofs.crashes.look_ups_are_events.Goals as goal
 
 pub returns : goal.returns
-returns g c = λ p find moment result old new step done.
-    carried-out p (asking p moment look_up) (Makes (IsLookUp p find moment)) result old new
+returns g c = λ p find lapses moment result old new step done.
+    carried-out p (asking p moment look_up) (Makes (IsLookUp p find lapses moment)) result old new
     (λ before after under it. (under, ((shown (lapsed p moment before.registry), record { answered = refl; left = it.0.1.left }), it.1)))
-    (stepped (IsLookUp p find moment) result old new step done.terms) done
+    (stepped (IsLookUp p find lapses moment) result old new step done.terms) done
