@@ -4,6 +4,7 @@ use crate::bars::Bars;
 use crate::exchange::{Exchange, Kind};
 use crate::moments::{sums_of, texts_of};
 use crate::pieces::{Narrow, Pieces, Way};
+use accounts::Lines;
 use anyhow::{Result, bail};
 use books::Book;
 use eppwire::Connection;
@@ -12,6 +13,7 @@ use rdap::Routes;
 use registry::Registry;
 use script::{Exit, deposit_on, order_on, run_on};
 use server::{ConnectionEnd, HttpEnd, serve_one, zone_on};
+use statements::{Bounds, account_asked, bounds_asked, statement};
 use std::alloc::Global;
 use std::str;
 
@@ -123,6 +125,7 @@ impl<'a> Wire<'a> {
             Kind::Zone => self.zone(exchange, registry),
             Kind::Deposit => self.deposit(exchange, registry),
             Kind::Order => self.order(exchange, registry),
+            Kind::Statement => self.account(exchange, registry),
             _ => self.script(exchange, way, registry),
         }
     }
@@ -179,6 +182,24 @@ impl<'a> Wire<'a> {
         }
     }
 
+    fn account<B: Book + Drop>(
+        &mut self,
+        exchange: &Exchange,
+        registry: &mut Registry<B>,
+    ) -> Result<String> {
+        let asked = exchange.sent.as_slice();
+        let Some(registrar) = account_asked(registry.policy(), asked) else {
+            bail!("a statement of nobody's account");
+        };
+        let Some(bounds) = bounds_asked(asked) else {
+            bail!("a statement within no bounds");
+        };
+        match registry.lines(registrar, exchange.moment()) {
+            Ok(lines) => self.told(stated(self.alloc, &lines, bounds)),
+            Err(fault) => Ok(format!(in self.alloc; "{fault}")?),
+        }
+    }
+
     fn exit_text(&self, exit: &Exit) -> Result<String> {
         match exit {
             Exit::Done => self.word("done"),
@@ -189,6 +210,12 @@ impl<'a> Wire<'a> {
     fn word(&self, word: &str) -> Result<String> {
         Ok(String::from_str(self.alloc, word)?)
     }
+}
+
+/// The statement of these lines.
+fn stated(alloc: Global, lines: &Lines, bounds: Bounds) -> Result<Vec<u8>> {
+    let text = statement(alloc, lines, bounds)?;
+    Ok(Vec::from_slice(alloc, text.as_bytes())?)
 }
 
 fn connection_word(end: ConnectionEnd) -> &'static str {

@@ -26,6 +26,8 @@ pub enum Kind {
     Deposit,
     /// An order is given alone.
     Order,
+    /// The statement of an account: the registrar, and bounds as a target has them.
+    Statement,
     /// Each line is a moment and years.
     Sums,
     /// Each line is a moment, or seconds.
@@ -43,6 +45,7 @@ impl Kind {
             b"zone" => Some(Kind::Zone),
             b"deposit" => Some(Kind::Deposit),
             b"order" => Some(Kind::Order),
+            b"statement" => Some(Kind::Statement),
             b"sums" => Some(Kind::Sums),
             b"moments" => Some(Kind::Moments),
             _ => None,
