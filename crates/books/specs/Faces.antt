@@ -1,9 +1,6 @@
 -- What everyone may know of the objects of a registry, whoever asks.
 use Rattle.std.specs.Prelude.{ℕ, Bool, false, List, Option, option_map}
-use Rattle.std.specs.Cmp.Lexicographic.{slice_cmp}
-use Rattle.std.specs.FinMap.{FinMap, get, keys}
-use Rattle.std.specs.Ordering.{nat_cmp}
-use Rattle.basis.specs.Maps.{map_values}
+use Rattle.std.specs.FinMap.{get}
 use Rattle.facts.specs.declared.facts.HostFacts.{HostFacts}
 use Rattle.facts.specs.Facts.{host_sponsor, is_linked_contact, is_linked_host}
 use Rattle.model.specs.Registry.{Registry}
@@ -53,19 +50,3 @@ contact_face_at s name = option_map (contact_face s name) (get s.contacts name)
 
 abbrev pub host_face_at : PolicyRules → Registry → List ℕ → Option HostFace
 host_face_at p s name = option_map (host_face p s name) (get s.hosts name)
-
--- ---- all faces
-
-abbrev pub domain_faces : PolicyRules → Registry → FinMap (slice_cmp nat_cmp) DomainFace
-domain_faces p s = map_values (λ name. domain_face p s) s.domains
-
-abbrev pub host_faces : PolicyRules → Registry → FinMap (slice_cmp nat_cmp) HostFace
-host_faces p s = map_values (host_face p s) s.hosts
-
--- ---- what a zone is made of, piece by piece
-
-abbrev pub domain_names : Registry → List (List ℕ)
-domain_names s = keys s.domains
-
-abbrev pub host_addresses_at : Registry → List ℕ → Option (List (List ℕ))
-host_addresses_at s name = option_map (λ h. h.addresses) (get s.hosts name)

@@ -6,10 +6,11 @@ ghost use Rattle.books.specs.Book.{with_changes, with_terms};
 ghost use Rattle.concerns.specs.Names.{named_by, named_of};
 ghost use Rattle.model.specs.DueBy.{due_by};
 ghost use Rattle.concerns.specs.DueFor.{due_for};
-ghost use Rattle.books.specs.Faces.{contact_face_at, domain_face_at, domain_names, host_addresses_at, host_face_at};
+ghost use Rattle.books.specs.Faces.{contact_face_at, domain_face_at, host_face_at};
 ghost use Rattle.facts.specs.Facts.{facts};
 ghost use Rattle.model.specs.Objects.{object_at};
 ghost use Rattle.model.specs.Registry.{account_of};
+ghost use Rattle.model.specs.Zone.{zone_data};
 
 use accounts::Lines;
 use basis::list::Seq;
@@ -20,7 +21,7 @@ use decisions::Change;
 use facts::Facts;
 use lifecycle::Due;
 use model::Object;
-use objects::{ContactFace, DomainFace, HostFace, ObjectKind};
+use objects::{ContactFace, DomainFace, HostFace, ObjectKind, ZoneData};
 use policy::{Policy, Terms};
 use protocol::Command;
 use states::{BookFault, Ready};
@@ -90,14 +91,9 @@ pub trait Book {
         ensures { BookFindsIn result (λ s. contact_face_at s name.now)
             (state self.old) (state self.new) };
 
-    /// The names of all domains, in their order.
-    fn domain_names(&mut self) -> Result<Seq<Text>, BookFault>
-        ensures { BookFindsIn result domain_names (state self.old) (state self.new) };
-
-    /// The addresses of the host under a name.
-    fn host_addresses(&mut self, name: &Text) -> Result<Option<Seq<Text>>, BookFault>
-        ensures { BookFindsIn result (λ s. host_addresses_at s name.now)
-            (state self.old) (state self.new) };
+    /// What a zone has: every domain is read for it.
+    fn zone_data(&mut self, policy: &Policy) -> Result<ZoneData, BookFault>
+        ensures { BookFindsIn result (zone_data policy.now.zone) (state self.old) (state self.new) };
 
     /// The lines of a registrar's account: none where it was never opened.
     fn lines(&mut self, registrar: RegistrarNo) -> Result<Lines, BookFault>

@@ -6,6 +6,7 @@ ghost use Rattle.books.specs.Kept.{GaveUp, stands, state_of};
 
 use crate::book::Book;
 use crate::records::Records;
+use crate::zone::zone_data;
 use crate::{applying, concerning, faces, finding};
 use accounts::Lines;
 use basis::list::Seq;
@@ -16,7 +17,7 @@ use decisions::Change;
 use facts::Facts;
 use lifecycle::Due;
 use model::Object;
-use objects::{ContactFace, DomainFace, HostFace, ObjectKind};
+use objects::{ContactFace, DomainFace, HostFace, ObjectKind, ZoneData};
 use policy::{Policy, Terms};
 use protocol::Command;
 use states::{BookFault, Ready};
@@ -167,16 +168,9 @@ impl<R: Records> Book for Kept<R> {
         }
     }
 
-    fn domain_names(&mut self) -> Result<Seq<Text>, BookFault> {
-        match self.records.domain_names() {
-            Ok(names) => Ok(names),
-            Err(fault) => Err(self.rollback_and_count(fault)),
-        }
-    }
-
-    fn host_addresses(&mut self, name: &Text) -> Result<Option<Seq<Text>>, BookFault> {
-        match self.records.host_addresses(name) {
-            Ok(addresses) => Ok(addresses),
+    fn zone_data(&mut self, policy: &Policy) -> Result<ZoneData, BookFault> {
+        match zone_data(&mut self.records, policy.zone()) {
+            Ok(zone) => Ok(zone),
             Err(fault) => Err(self.rollback_and_count(fault)),
         }
     }

@@ -11,6 +11,7 @@ mod kept;
 mod once;
 mod posting;
 mod records;
+mod zone;
 
 pub use book::Book;
 pub use kept::Kept;

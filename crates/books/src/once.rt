@@ -12,7 +12,7 @@ use decisions::Change;
 use facts::Facts;
 use lifecycle::Due;
 use model::Object;
-use objects::{ContactFace, DomainFace, HostFace, ObjectKind};
+use objects::{ContactFace, DomainFace, HostFace, ObjectKind, ZoneData};
 use policy::{Policy, Terms};
 use protocol::Command;
 use states::{BookFault, Ready};
@@ -179,18 +179,11 @@ impl<B: Book> Book for OnceBook<B> {
         self.inner.contact_face(name)
     }
 
-    fn domain_names(&mut self) -> Result<Seq<Text>, BookFault> {
+    fn zone_data(&mut self, policy: &Policy) -> Result<ZoneData, BookFault> {
         if self.is_next() {
             return self.rollback_and_count();
         }
-        self.inner.domain_names()
-    }
-
-    fn host_addresses(&mut self, name: &Text) -> Result<Option<Seq<Text>>, BookFault> {
-        if self.is_next() {
-            return self.rollback_and_count();
-        }
-        self.inner.host_addresses(name)
+        self.inner.zone_data(policy)
     }
 
     fn lines(&mut self, registrar: RegistrarNo) -> Result<Lines, BookFault> {

@@ -7,7 +7,7 @@ ghost use Rattle.facts.specs.Facts as facts;
 ghost use Rattle.model.specs.Registry.{account_of};
 ghost use Rattle.books.specs.Book.{with_terms};
 ghost use Rattle.model.specs.DueBy.{due_by};
-ghost use Rattle.books.specs.Faces.{domain_names, host_addresses_at};
+ghost use Rattle.model.specs.Zone.{delegations, host_addresses_at};
 ghost use Rattle.accounts.specs.Counters.{counters_of};
 ghost use Rattle.books.specs.Lookups.{has_contact, has_host, superordinate_at};
 ghost use Rattle.books.specs.Records.{AreSwaps, FindsIn, FindsSomeIn, IsDueNear, MakesOf};
@@ -22,7 +22,7 @@ use calendar::Moment;
 use concerns::Names;
 use facts::{HOLDING_LIMIT, Superordinate};
 use lifecycle::Due;
-use objects::{Contact, Domain, Host, Roid};
+use objects::{Contact, Delegation, Domain, Host, Roid};
 use policy::{Policy, Terms};
 use states::{BookFault, Ready};
 use std::alloc::Global;
@@ -133,9 +133,9 @@ pub trait Records {
         ensures { FindsIn result (λ s. host_addresses_at s name.now)
             (kept self.old) (kept self.new) };
 
-    /// The names of all domains, in their order.
-    fn domain_names(&mut self) -> Result<Seq<Text>, BookFault>
-        ensures { FindsIn result domain_names (kept self.old) (kept self.new) };
+    /// What a zone has of each domain, in the order of their names. Every domain is read for it.
+    fn delegations(&mut self) -> Result<Seq<Delegation>, BookFault>
+        ensures { FindsIn result delegations (kept self.old) (kept self.new) };
 
     /// Whether a domain names the contact.
     fn is_linked_contact(&mut self, name: &Text) -> Result<bool, BookFault>

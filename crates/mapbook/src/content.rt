@@ -3,7 +3,7 @@ ghost use Rattle.std.specs.Prelude.{◌≡◌, nat_le, option_map, IfOk};
 ghost use Rattle.std.specs.FinMap as finmap;
 ghost use Rattle.facts.specs.Facts as facts;
 ghost use Rattle.decisions.specs.Changes as changes;
-ghost use Rattle.books.specs.Faces as faces;
+ghost use Rattle.model.specs.Zone as zone;
 ghost use Rattle.mapbook.specs.Plain.{registry_in};
 ghost use Rattle.mapbook.specs.Renaming.{domains_naming};
 
@@ -15,7 +15,7 @@ use basis::registrar::RegistrarNo;
 use basis::text::Text;
 use calendar::Moment;
 use facts::{HOLDING_LIMIT, Superordinate};
-use objects::{Contact, Domain, Host, is_below};
+use objects::{Contact, Delegation, Domain, Host, is_below};
 use policy::Terms;
 use std::alloc::{AllocError, Global};
 
@@ -119,20 +119,20 @@ impl Content {
         Ok(names)
     }
 
-    /// The names of all domains, in their order.
-    pub fn domain_names(&self) -> Result<Seq<Text>, AllocError>
-        ensures { IfOk result (λ names. names ≡ faces.domain_names (registry_in self.now)) }
+    /// What a zone has of each domain, in the order of their names.
+    pub fn delegations(&self) -> Result<Seq<Delegation>, AllocError>
+        ensures { IfOk result (λ list. list ≡ zone.delegations (registry_in self.now)) }
     {
-        let mut names = Seq::new(self.alloc);
-        for name in self.domains.keys() {
-            names.push(name.clone()?)?;
+        let mut list = Seq::new(self.alloc);
+        for domain in self.domains.values() {
+            list.push(domain.delegation(self.alloc)?)?;
         }
-        Ok(names)
+        Ok(list)
     }
 
     pub fn host_addresses(&self, name: &Text) -> Result<Option<Seq<Text>>, AllocError>
         ensures { IfOk result (λ addresses. addresses
-            ≡ faces.host_addresses_at (registry_in self.now) name.now) }
+            ≡ zone.host_addresses_at (registry_in self.now) name.now) }
     {
         match self.hosts.get(name) {
             None => Ok(None),

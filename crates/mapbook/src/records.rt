@@ -13,7 +13,7 @@ use calendar::Moment;
 use concerns::Names;
 use facts::Superordinate;
 use lifecycle::Due;
-use objects::{Contact, Domain, Host, Roid};
+use objects::{Contact, Delegation, Domain, Host, Roid};
 use policy::{Policy, Terms};
 use states::{BookFault, Ready};
 use std::alloc::Global;
@@ -137,9 +137,9 @@ impl Records for Plain {
         Ok(self.content.host_addresses(name)?)
     }
 
-    fn domain_names(&mut self) -> Result<Seq<Text>, BookFault> {
+    fn delegations(&mut self) -> Result<Seq<Delegation>, BookFault> {
         self.settle()?;
-        Ok(self.content.domain_names()?)
+        Ok(self.content.delegations()?)
     }
 
     fn is_linked_contact(&mut self, name: &Text) -> Result<bool, BookFault> {

@@ -10,3 +10,4 @@ pub mod Standards
 pub mod Money
 pub mod MoneyLaws
 pub mod DueBy
+pub mod Zone

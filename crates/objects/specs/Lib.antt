@@ -3,6 +3,7 @@ pub mod Transfers
 pub mod Links
 pub mod Graces
 pub mod Domains
+pub mod Delegations
 pub mod Contacts
 pub mod Hosts
 pub mod Sight

@@ -1,5 +1,5 @@
 //! The objects of a registry: domains (RFC 5731), hosts (RFC 5732) and contacts (RFC 5733), with their
-//! statuses and transfers, and the part of them that a registrar sees.
+//! statuses and transfers, and the part of them that a registrar sees or a zone has.
 //!
 //! In contracts each struct and enum is its own type: a definition about a `Domain` is about this
 //! record.
@@ -14,6 +14,7 @@ mod roid;
 mod sight;
 mod status;
 mod transfer;
+mod zone;
 
 pub use contact::{Contact, ContactFace, Postal, shown_contact};
 pub use domain::{Deletion, Domain, DomainFace, FullDomain, Links};
@@ -24,3 +25,4 @@ pub use roid::{ObjectKind, Roid};
 pub use sight::Seen;
 pub use status::{Rgp, Status, amended_statuses, has_status, with_linked};
 pub use transfer::{Transfer, TransferState};
+pub use zone::{Delegation, Glue, ZoneData};

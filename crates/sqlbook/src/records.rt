@@ -17,7 +17,7 @@ use calendar::Moment;
 use concerns::Names;
 use facts::{HOLDING_LIMIT, Superordinate};
 use lifecycle::Due;
-use objects::{Contact, Domain, Host, Roid};
+use objects::{Contact, Delegation, Domain, Host, Roid};
 use policy::{Policy, Terms};
 use sqlite::Alter;
 use sqltables::RowStore;
@@ -185,8 +185,8 @@ impl<S: Alter, O: Provenance<S>> Records for SqlRecords<S, O> {
         rollback_on_fault::<S, O, _>(&mut self.store, said)
     }
 
-    fn domain_names(&mut self) -> Result<Seq<Text>, BookFault> {
-        let said = sqldomains::domain_names(&mut self.store, self.alloc);
+    fn delegations(&mut self) -> Result<Seq<Delegation>, BookFault> {
+        let said = sqldomains::delegations(&mut self.store, self.alloc);
         rollback_on_fault::<S, O, _>(&mut self.store, said)
     }
 

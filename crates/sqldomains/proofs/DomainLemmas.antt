@@ -90,7 +90,7 @@ module _ (xs ys : Content) (id : ℤ) (kept : AreOtherPartsKept id xs ys) where
   }
 
 -- no row has the name
-nobody : (name : List ℕ) (rows : List table.Domain) → filter (table.domain_with_name name) rows ≡ [] → (r : table.Domain) → Has rows r → r.name ≡ name → ⊥
+pub nobody : (name : List ℕ) (rows : List table.Domain) → filter (table.domain_with_name name) rows ≡ [] → (r : table.Domain) → Has rows r → r.name ≡ name → ⊥
 nobody name rows none r there is = subst (λ l. Has l r) none (filter-has (table.domain_with_name name) rows r there (bytes_same r.name name is))
 
 -- ---- dropped

@@ -4,8 +4,10 @@ pub mod LinkedLemmas
 pub mod AnswerLemmas
 pub mod LinkRowLemmas
 pub mod DomainLemmas
+pub mod NewRowLemmas
 pub mod FrameLemmas
 pub mod NameOrderLemmas
+pub mod DelegationLemmas
 pub mod BelowLemmas
 pub mod SponsorLemmas
 pub mod LeadingLemmas

@@ -27,7 +27,7 @@ use Rattle.sqlrows.specs.Read.{first_read, or_else}
 use Rattle.sqlobjects.specs.Objects.{last_transfer}
 use Rattle.sqlobjects.proofs.PutLemmas.{bytes_is, has-filter, only_named}
 use Rattle.sqldomains.specs.Domains.{domain_of, domains_of, links_of}
-use Rattle.sqldomains.specs.inner.Names.{NameSet, domain_names, name_in, with_one, with_read}
+use Rattle.sqldomains.specs.inner.Names.{NameSet, with_one, with_read}
 use Rattle.sqldomains.proofs.FoundLemmas.{domain-named}
 use Rattle.sqldomains.proofs.LinkedLemmas.{first-has}
 
@@ -181,27 +181,3 @@ row-under xs n d e =
     let it = first-has (domain_of xs) (filter (table.domain_with_name n) xs.domains) d (domain-named xs n ∙ e) in
     let there = has-filter (table.domain_with_name n) xs.domains it.0 it.1 in
     (it.0, there.0, it.2, bytes_is it.0.name n there.1)
-
-given-name : (o : Option Domain) (n : List ℕ) → option_map (λ (d : Domain). d.name) o ≡ Some n → (d : Domain) × (o ≡ Some d) × (d.name ≡ n)
-given-name None n e = cc
-given-name (Some d) n e = (d, refl, same_some d.name n e)
-
-all-pass : {A : Type 0} (es : List A) → filter (λ e. true) es ≡ es
-all-pass [] = refl
-all-pass (e ∷ es) = ap (λ l. e ∷ l) (all-pass es)
-
-pub names-listed : (xs : Content) (names : NameSet) → IsWhole xs → with_read (name_in xs) empty xs.domains ≡ Some names → keys names ≡ domain_names xs
-names-listed xs names whole e =
-    by-rows (name_in xs) xs.domains names (domains_of xs) (λ e. true) e
-    (λ row there n is.
-    let d = given-name (domain_of xs row) n is in
-    (d.0, ap (get (domains_of xs)) (sym d.2 ∙ name-read xs row d.0 d.1) ∙ stands-there xs row d.0 whole there d.1, refl))
-    (λ n d is passes.
-    let row = row-under xs n d is in (
-      row.0,
-      row.1,
-      λ k reads.
-          let other = given-name (domain_of xs row.0) k reads in
-          sym other.2 ∙ name-read xs row.0 other.0 other.1 ∙ row.3,
-    ))
-    ∙ ap (map (λ (e : List ℕ × Domain). e.0)) (all-pass (entries (domains_of xs)))

@@ -1,16 +1,22 @@
 //! Domains put under their names and dropped.
-ghost use Rattle.std.specs.Prelude.{◌≡◌, true, Some, None};
+ghost use Rattle.std.specs.Prelude.{◌≡◌, true, [], filter, Some, None};
 ghost use Rattle.sqlrows.specs.Meanings.{Changes};
 ghost use Rattle.states.specs.States.{FindsSome};
 ghost use Rattle.sqlobjects.specs.Changes.{contact_name};
+ghost use Rattle.sqlobjects.specs.declared.transfers.Transferable.TheVariants as transferable;
+ghost use Rattle.sqlobjects.specs.inner.Stages.{domains, rows_named};
+ghost use Rattle.sqlobjects.specs.inner.Transfers.{IsTransferPut};
+ghost use Rattle.sqlrows.specs.Read.{rows_of};
+ghost use Rattle.sqltables.specs.Transfer.{transfer_with_domain};
 ghost use Rattle.sqldomains.specs.inner.Changes.{IsDomainPut};
+ghost use Rattle.sqldomains.specs.inner.Stages.{ArePartsPut, HasNoParts};
 
 use crate::domain_rows::{DerivedColumns, place, remove_found};
 use crate::link_rows::{contact_number, put_links};
 use crate::names;
 use basis::text::Text;
 use calendar::Moment;
-use objects::Domain;
+use objects::{Domain, Transfer};
 use sqlcolumns::is_domain;
 use sqlite::Alter;
 use sqlobjects::{Transferable, put_transfer, row_named};
@@ -33,36 +39,41 @@ pub fn put_domain<S: Alter>(
     if domain.name.as_str() != name.as_str() {
         return Err(BookFault::Store);
     }
-    put(store, alloc, domain, due)
+    let found = row_named(store, &domain.name)?;
+    put_over(store, alloc, found, domain, due)
 }
 
-/// The domain is under its name.
-fn put<S: Alter>(
+/// The domain is under its name, of which this row was found.
+fn put_over<S: Alter>(
     store: &mut RowStore<S>,
     alloc: Global,
+    found: Option<DomainRow>,
     domain: &Domain,
     due: Moment,
 ) -> Result<(), BookFault>
     requires { store.old.is_open ≡ true }
-    ensures { Changes result (IsDomainPut domain.now.name (Some domain.now) (Some due)) store.old
-        store.new }
+    ensures { Changes result (λ old new. rows_named domains domain.now.name old ≡ rows_of found
+        → IsDomainPut domain.now.name (Some domain.now) (Some due) old new) store.old store.new }
 {
-    let registrant = registrant_number(store, domain)?;
+    let registrant = registrant_number(store, &found, domain)?;
     let beside = DerivedColumns { registrant, due };
-    put_beside(store, alloc, &beside, domain)
+    put_beside(store, alloc, &beside, found, domain)
 }
 
-/// The number of the domain's registrant. It is looked for by its name only where the row
-/// under the domain's name has another one's.
-fn registrant_number<S: Alter>(store: &mut RowStore<S>, domain: &Domain) -> Result<i64, BookFault>
+/// The number of the domain's registrant. It is looked for by its name only where the row that was
+/// found has another one's.
+fn registrant_number<S: Alter>(
+    store: &mut RowStore<S>,
+    found: &Option<DomainRow>,
+    domain: &Domain,
+) -> Result<i64, BookFault>
     ensures { FindsSome result (λ id. contact_name store.old.content id
         ≡ Some domain.now.links.registrant) store.old store.new }
 {
-    let found: Option<DomainRow> = row_named(store, &domain.name)?;
-    let Some(row) = found else {
-        return contact_number(store, &domain.links.registrant);
-    };
-    number_or(store, row.registrant, &domain.links.registrant)
+    match found {
+        None => contact_number(store, &domain.links.registrant),
+        Some(row) => number_or(store, row.registrant, &domain.links.registrant),
+    }
 }
 
 /// The number of the contact of this name: this one, if it is.
@@ -84,23 +95,61 @@ fn put_beside<S: Alter>(
     store: &mut RowStore<S>,
     alloc: Global,
     beside: &DerivedColumns,
+    found: Option<DomainRow>,
     domain: &Domain,
 ) -> Result<(), BookFault>
     requires { store.old.is_open ≡ true }
-    ensures { Changes result (λ old new. contact_name old beside.now.registrant
-        ≡ Some domain.now.links.registrant
+    ensures { Changes result (λ old new. rows_named domains domain.now.name old ≡ rows_of found
+        → contact_name old beside.now.registrant ≡ Some domain.now.links.registrant
         → IsDomainPut domain.now.name (Some domain.now) (Some beside.now.due) old new) store.old
         store.new }
 {
     if !is_domain(domain) {
         return Err(BookFault::Store);
     }
+    let is_new = found.is_none();
     store.whole();
-    let row = place(store, alloc, beside, domain)?;
-    put_links(store, alloc, &row, &domain.links)?;
-    put_transfer(store, Transferable::of_domain(&row), &domain.transfer)?;
+    let row = place(store, alloc, beside, found, domain)?;
+    store.whole();
+    put_parts(store, alloc, &row, domain, is_new)?;
     store.whole();
     Ok(())
+}
+
+/// The domain in this row has its links and its transfer. To a new row nothing leads, so nothing is
+/// looked for.
+fn put_parts<S: Alter>(
+    store: &mut RowStore<S>,
+    alloc: Global,
+    row: &DomainRow,
+    domain: &Domain,
+    is_new: bool,
+) -> Result<(), BookFault>
+    requires { store.old.is_open ≡ true }
+    ensures { Changes result (λ old new. (is_new ≡ true → HasNoParts row.now.id old)
+        → ArePartsPut row.now.id row.now.due domain.now old new) store.old store.new }
+{
+    put_links(store, alloc, row, &domain.links, is_new)?;
+    put_last_transfer(store, row, &domain.transfer, is_new)?;
+    Ok(())
+}
+
+/// The domain in this row has this as its last transfer.
+fn put_last_transfer<S: Alter>(
+    store: &mut RowStore<S>,
+    row: &DomainRow,
+    transfer: &Option<Transfer>,
+    is_new: bool,
+) -> Result<(), BookFault>
+    requires { store.old.is_open ≡ true }
+    ensures { Changes result (λ old new.
+        (is_new ≡ true → filter (transfer_with_domain row.now.id) old.transfers ≡ [])
+        → IsTransferPut (transferable.Domain row.now.id) transfer.now old new) store.old store.new }
+{
+    match transfer {
+        None if is_new => Ok(()),
+        _ => put_transfer(store, Transferable::of_domain(row), transfer),
+    }
 }
 
 /// No domain is under this name.

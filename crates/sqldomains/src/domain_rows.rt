@@ -2,7 +2,8 @@
 ghost use Rattle.std.specs.Prelude.{◌≡◌, true, pos, Some, IfOk};
 ghost use Rattle.sqltables.specs.inner.Whole.{IsWhole};
 ghost use Rattle.sqlrows.specs.Meanings.{Changes};
-ghost use Rattle.sqlobjects.specs.inner.Stages.{ChangesGiving};
+ghost use Rattle.sqlobjects.specs.inner.Stages.{ChangesGiving, domains, rows_named};
+ghost use Rattle.sqlrows.specs.Read.{rows_of};
 ghost use Rattle.sqldomains.specs.inner.Stages.{IsDomainDropped, IsDomainPlaced, IsDomainRemoved, row_beside};
 
 use crate::link_rows::clear_links;
@@ -11,7 +12,7 @@ use calendar::Moment;
 use objects::Domain;
 use sqlcolumns::domain_row;
 use sqlite::Alter;
-use sqlobjects::{Transferable, clear_transfer, place_row, row_named};
+use sqlobjects::{Transferable, clear_transfer, place_row};
 use sqlrows::or_fault;
 use sqltables::{DomainRow, RowStore};
 use states::BookFault;
@@ -53,19 +54,20 @@ pub(crate) fn remove_found<S: Alter>(
     }
 }
 
-/// Puts a domain, but for its links and its transfer, into the row of its name, or else into a new one, which is
-/// given back.
+/// Puts a domain, but for its links and its transfer, into the row that was found under its name, or else
+/// into a new one, which is given back.
 pub(crate) fn place<S: Alter>(
     store: &mut RowStore<S>,
     alloc: Global,
     beside: &DerivedColumns,
+    found: Option<DomainRow>,
     domain: &Domain,
 ) -> Result<DomainRow, BookFault>
     requires { store.old.is_open ≡ true }
     ensures { ChangesGiving result (λ row old new. IsWhole old
+        → rows_named domains domain.now.name old ≡ rows_of found
         → IsDomainPlaced domain.now beside.now row old new) store.old store.new }
 {
-    let found = row_named(store, &domain.name)?;
     let row = row_of(alloc, beside, domain)?;
     place_row(store, found, row)
 }

@@ -13,9 +13,10 @@ mod links;
 mod names;
 mod names_in_order;
 mod placing;
+mod zone_rows;
 
 pub use below::hosts_below;
 pub use domain_changes::{drop_domain, put_domain};
 pub use domains::{domain, domain_of};
 pub use linked::{is_linked_contact, is_linked_host};
-pub use names_in_order::domain_names;
+pub use zone_rows::delegations;

@@ -1,10 +1,11 @@
 //! The rows that lead from a domain to what it names.
-ghost use Rattle.std.specs.Prelude.{◌≡◌, true, ◌∷◌, [], Some};
+ghost use Rattle.std.specs.Prelude.{◌≡◌, true, ◌∷◌, [], filter, Some};
 ghost use Rattle.states.specs.States.{FindsSome};
 ghost use Rattle.sqlrows.specs.Meanings.{Changes};
 ghost use Rattle.sqlobjects.specs.Changes as changes;
 ghost use Rattle.sqldomains.specs.declared.comparison.LinkComparison.TheVariants as comparisons;
-ghost use Rattle.sqldomains.specs.inner.Stages.{AreDuesSet, AreLinksCleared, AreLinksPut, AreLinksPutOver, AreNamesAdded, IsContactLinkTo, IsHostLinkTo, IsLinkTo};
+ghost use Rattle.sqltables.specs.Link.{link_with_domain};
+ghost use Rattle.sqldomains.specs.inner.Stages.{AreCompared, AreDuesSet, AreLinksCleared, AreLinksPut, AreLinksPutOver, AreNamesAdded, IsContactLinkTo, IsHostLinkTo, IsLinkTo};
 
 use crate::comparison::{LinkComparison, compare_links};
 use crate::linked::{number_of_contact, number_of_host};
@@ -19,7 +20,8 @@ use sqltables::{DomainRow, LinkRow, RowStore};
 use states::BookFault;
 use std::alloc::Global;
 
-/// The domain that lies in this row names this, in place of what it named. Its registrant is in its row.
+/// The domain that lies in this row, which may be new, names this, in place of what it named. Its
+/// registrant is in its row.
 /// Hosts in another order than that of their names wouldn't be read back and are refused. Rows that
 /// lead to this already stay, and get the moment when the domain is due.
 pub(crate) fn put_links<S: Alter>(
@@ -27,14 +29,36 @@ pub(crate) fn put_links<S: Alter>(
     alloc: Global,
     domain: &DomainRow,
     links: &Links,
+    is_new: bool,
 ) -> Result<(), BookFault>
     requires { store.old.is_open ≡ true }
-    ensures { Changes result (AreLinksPut domain.now.id domain.now.due links.now) store.old
-        store.new }
+    ensures { Changes result (λ old new.
+        (is_new ≡ true → filter (link_with_domain domain.now.id) old.links ≡ [])
+        → AreLinksPut domain.now.id domain.now.due links.now old new) store.old store.new }
 {
     check_places(alloc, links.hosts.as_slice())?;
-    let there = compare_links(store, alloc, domain, links)?;
+    let there = compare_or_absent(store, alloc, domain, links, is_new)?;
     put_over(store, domain, links, there)
+}
+
+/// How the rows that lead from the domain compare with this: from a new row none leads.
+fn compare_or_absent<S: Alter>(
+    store: &mut RowStore<S>,
+    alloc: Global,
+    domain: &DomainRow,
+    links: &Links,
+    is_new: bool,
+) -> Result<LinkComparison, BookFault>
+    ensures { FindsSome result (λ there.
+        (is_new ≡ true → filter (link_with_domain domain.now.id) store.old.content.links ≡ [])
+        → AreCompared store.old.content domain.now.due links.now
+        (filter (link_with_domain domain.now.id) store.old.content.links) there) store.old
+        store.new }
+{
+    if is_new {
+        return Ok(LinkComparison::Absent);
+    }
+    compare_links(store, alloc, domain, links)
 }
 
 /// The same, given how the rows that lead from the domain compare.

@@ -1,2 +1,1 @@
-pub mod WalkLemmas
 pub mod WriteLemmas

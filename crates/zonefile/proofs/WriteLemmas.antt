@@ -1,17 +1,14 @@
 -- What the writes of a text's parts join to.
 use Rattle.std.proofs.Common.{◌≡◌, ℕ, Option, List, [], ◌∷◌, ◌++◌, refl, subst, sym, ap, ◌∙◌, append_assoc}
 use Rattle.std.proofs.KnownBytes.{Appends-trans, Appends-nil}
-use Rattle.std.proofs.lemmas.Grind.{flat_map-append}
 use Rattle.std.proofs.lemmas.List.{append-nil}
-use Rattle.std.specs.Prelude.{fold}
-use Rattle.std.specs.FinMap.{empty, keys, values}
 use Rattle.std.specs.Io.KnownBytes.{Appends}
 use Rattle.std.specs.List.{flat_map}
+use Rattle.objects.specs.declared.zone.ZoneData.{ZoneData}
 use Rattle.policy.specs.Rules.{PolicyRules}
 use Rattle.streams.proofs.MoveLemmas.{began, went_on}
 use Rattle.zonefile.specs.Lines.{soa_line}
-use Rattle.zonefile.proofs.WalkLemmas.{by_names}
-use Rattle.zonefile.specs.ZoneText.{AppendsBeginning, Faces, HostNames, delegation_at, delegation_of, delegations, glue, glue_at, glue_names, own_hosts, own_hosts_at, with_name, zone_text}
+use Rattle.zonefile.specs.ZoneText.{AppendsBeginning, delegation_text, glue_text, zone_text}
 
 -- what was written, and the rest of the text
 pub record Written (old now : Option (List ℕ)) (rest text : List ℕ) : Type 0 where
@@ -57,49 +54,40 @@ module _ {X : Type 0} (f : X → List ℕ) (old now new : Option (List ℕ)) (it
   pub stopped_at : AppendsBeginning now new (f item) → AppendsBeginning old new text
   stopped_at more = stopped_in old now new (f item) (flat_map f rest) text before more
 
--- the same of several items at once
-module _ {X : Type 0} (f : X → List ℕ) (old now new : Option (List ℕ)) (items part rest : List X) (text : List ℕ) (next : items ≡ part ++ rest) (w : Written old now (flat_map f items) text) where
-  before_part : Written old now (flat_map f part ++ flat_map f rest) text
-  before_part = subst (λ (left : List ℕ). Written old now left text) (ap (flat_map f) next ∙ flat_map-append f part rest) w
-
-  pub some_more : Appends now new (flat_map f part) → Written old new (flat_map f rest) text
-  some_more more = more_written old now new (flat_map f part) (flat_map f rest) text before_part more
-
-  pub stopped_among : AppendsBeginning now new (flat_map f part) → AppendsBeginning old new text
-  stopped_among more = stopped_in old now new (flat_map f part) (flat_map f rest) text before_part more
-
 -- ---- the parts of a zone
 
-module _ (p : PolicyRules) (serial : ℕ) (faces : Faces) where
+module _ (p : PolicyRules) (serial : ℕ) (zone : ZoneData) where
   abbrev pub text : List ℕ
-  text = zone_text p serial faces.hosts faces.domains
+  text = zone_text p serial zone
+
+  abbrev pub delegations_part : List ℕ
+  delegations_part = flat_map (delegation_text p.soa.ttl) zone.delegations
 
   abbrev pub glue_part : List ℕ
-  glue_part = glue p.soa.ttl (glue_names p.zone (values faces.domains)) faces.hosts
+  glue_part = flat_map (glue_text p.soa.ttl) zone.glue
 
-  abbrev pub later_parts : List ℕ
-  later_parts = delegations p.soa.ttl faces.domains ++ (glue_part ++ [])
-
-  parts : soa_line p.zone.label p.soa serial ++ later_parts ≡ text
+  parts : soa_line p.zone.label p.soa serial ++ (delegations_part ++ (glue_part ++ [])) ≡ text
   unfolding zone_text
   parts = refl
 
-  module _ (q : PolicyRules) (same : q ≡ p) where
-    nothing : (old : Option (List ℕ)) → Written old old (soa_line q.zone.label q.soa serial ++ later_parts) text
-    nothing old = record { front = []; wrote = Appends-nil old; joins = ap (λ (r : PolicyRules). soa_line r.zone.label r.soa serial ++ later_parts) same ∙ parts }
+  nothing : (old : Option (List ℕ)) → Written old old (soa_line p.zone.label p.soa serial ++ (delegations_part ++ (glue_part ++ []))) text
+  nothing old = record { front = []; wrote = Appends-nil old; joins = parts }
 
-    pub soa_written : (old new : Option (List ℕ)) → Appends old new (soa_line q.zone.label q.soa serial) → Written old new later_parts text
-    soa_written old new wrote = more_written old old new (soa_line q.zone.label q.soa serial) later_parts text (nothing old) wrote
+  pub soa_written : (old new : Option (List ℕ)) → Appends old new (soa_line p.zone.label p.soa serial) → Written old new (delegations_part ++ (glue_part ++ [])) text
+  soa_written old new wrote = more_written old old new (soa_line p.zone.label p.soa serial) _ text (nothing old) wrote
 
-    pub soa_begun : (old new : Option (List ℕ)) → AppendsBeginning old new (soa_line q.zone.label q.soa serial) → AppendsBeginning old new text
-    soa_begun old new began = stopped_in old old new (soa_line q.zone.label q.soa serial) later_parts text (nothing old) began
+  pub soa_begun : (old new : Option (List ℕ)) → AppendsBeginning old new (soa_line p.zone.label p.soa serial) → AppendsBeginning old new text
+  soa_begun old new began = stopped_in old old new (soa_line p.zone.label p.soa serial) _ text (nothing old) began
 
-  module _ (ttl : ℕ) (names : List (List ℕ)) (kept : ttl ≡ p.soa.ttl) (all : names ≡ keys faces.domains) where
-    pub domains_are : flat_map (delegation_at ttl faces.domains) names ≡ delegations p.soa.ttl faces.domains
-    domains_are = (λ i. flat_map (delegation_at (kept i) faces.domains) (all i)) ∙ by_names (delegation_of p.soa.ttl) faces.domains
+  -- the start of authority, and then the name servers
+  pub delegations_written : (old now new : Option (List ℕ)) → Appends old now (soa_line p.zone.label p.soa serial) → Appends now new delegations_part → Written old new (glue_part ++ []) text
+  delegations_written old now new soa wrote = more_written old now new delegations_part _ text (soa_written old now soa) wrote
 
-    pub glue_is : (q : PolicyRules) → q ≡ p → (own : HostNames) → own ≡ fold with_name empty (flat_map (own_hosts_at q.zone faces.domains) names) → flat_map (glue_at ttl faces.hosts) (keys own) ≡ glue_part
-    glue_is q same own is =
-        (λ i. flat_map (glue_at (kept i) faces.hosts) (keys (is i)))
-        ∙ (λ i. flat_map (glue_at p.soa.ttl faces.hosts) (keys (fold with_name empty (flat_map (own_hosts_at (same i).zone faces.domains) (all i)))))
-        ∙ ap (λ (hosts : List (List ℕ)). flat_map (glue_at p.soa.ttl faces.hosts) (keys (fold with_name empty hosts))) (by_names (own_hosts p.zone) faces.domains)
+  pub delegations_begun : (old now new : Option (List ℕ)) → Appends old now (soa_line p.zone.label p.soa serial) → AppendsBeginning now new delegations_part → AppendsBeginning old new text
+  delegations_begun old now new soa began = stopped_in old now new delegations_part _ text (soa_written old now soa) began
+
+  pub all_written : (old now then new : Option (List ℕ)) → Appends old now (soa_line p.zone.label p.soa serial) → Appends now then delegations_part → Appends then new glue_part → Appends old new text
+  all_written old now then new soa delegations wrote = finished old new text (more_written old then new glue_part [] text (delegations_written old now then soa delegations) wrote)
+
+  pub glue_begun : (old now then new : Option (List ℕ)) → Appends old now (soa_line p.zone.label p.soa serial) → Appends now then delegations_part → AppendsBeginning then new glue_part → AppendsBeginning old new text
+  glue_begun old now then new soa delegations began = stopped_in old then new glue_part [] text (delegations_written old now then soa delegations) began

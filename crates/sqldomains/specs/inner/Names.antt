@@ -1,20 +1,14 @@
--- Names of domains and hosts, in the order of their bytes.
+-- Names of hosts, in the order of their bytes.
 use Rattle.std.specs.Prelude.{ℕ, ◌==◌, nat_lt, Bool, count_by, List, [], ◌∷◌, filter, Option, Some, None, if◌then◌else◌, is_some, option_map}
 use Rattle.std.specs.Cmp.Lexicographic.{slice_cmp}
 use Rattle.std.specs.FinMap.{FinMap, get, insert, keys}
 use Rattle.std.specs.Ordering.{nat_cmp}
-use Rattle.objects.specs.declared.domain.Domain.{Domain}
 use Rattle.objects.specs.Hosts.{is_below}
 use Rattle.sqlcolumns.specs.Above.{above}
 use Rattle.sqlcolumns.specs.Steps.{◌>>=◌}
 use Rattle.sqltables.specs.Content.{Content}
-use Rattle.sqltables.specs.Domain as table
 use Rattle.sqltables.specs.Host.{Host, host_with_above}
 use Rattle.sqlobjects.specs.Objects.{hosts_of}
-use Rattle.sqldomains.specs.Domains.{domain_of, domains_of}
-
-abbrev pub domain_names : Content → List (List ℕ)
-domain_names xs = keys (domains_of xs)
 
 -- ---- read row by row
 
@@ -31,10 +25,6 @@ with_read read m [] = Some m
 with_read read m (row ∷ rows) = do
   m ← with_one m (read row)
   with_read read m rows
-
--- the name of the domain of a row, if it reads
-abbrev pub name_in : Content → table.Domain → Option (List ℕ)
-name_in xs row = option_map (λ (d : Domain). d.name) (domain_of xs row)
 
 -- ---- hosts
 

@@ -15,7 +15,9 @@ use Rattle.sqltables.specs.inner.Domain as inner_table
 use Rattle.sqltables.specs.Link.{Link, link_with_domain}
 use Rattle.sqltables.specs.Transfer.{transfer_with_contact, transfer_with_domain}
 use Rattle.sqlobjects.specs.Changes.{contact_name, host_name}
+use Rattle.sqlobjects.specs.declared.transfers.Transferable.TheVariants as transferable
 use Rattle.sqlobjects.specs.inner.Stages.{IsRowPlaced, domains}
+use Rattle.sqlobjects.specs.inner.Transfers.{IsTransferPut}
 use Rattle.sqldomains.specs.declared.domain_rows.DerivedColumns.{DerivedColumns}
 use Rattle.sqldomains.specs.declared.comparison.LinkComparison.{LinkComparison}
 use Rattle.sqldomains.specs.declared.comparison.LinkComparison.TheVariants as comparisons
@@ -123,6 +125,17 @@ row_beside id beside d = domain_row id beside.registrant beside.due d
 abbrev pub IsDomainPlaced : Domain → DerivedColumns → table.Domain → Content → Content → Type 0
 IsDomainPlaced d beside =
     IsRowPlaced domains (λ (row : table.Domain). row_beside row.id beside d ≡ Some row) d.name
+
+-- no link and no transfer is of the domain with this number
+pub record HasNoParts (id : ℤ) (xs : Content) : Type 0 where
+  pub links : filter (link_with_domain id) xs.links ≡ []
+  pub transfers : filter (transfer_with_domain id) xs.transfers ≡ []
+
+-- the domain with this number has its links, and then its transfer
+pub record ArePartsPut (id due : ℤ) (d : Domain) (old new : Content) : Type 0 where
+  pub between : Content
+  pub links : AreLinksPut id due d.links old between
+  pub transfer : IsTransferPut (transferable.Domain id) d.transfer between new
 
 -- the domain with this number, its links and its transfer aren't there any more
 pub record IsDomainRemoved (id : ℤ) (old new : Content) : Type 0 where

@@ -1,7 +1,9 @@
 use Rattle.std.proofs.Common.{◌≡◌, Some, pos}
 use Rattle.sqltables.specs.Domain.{Domain}
 use Rattle.sqltables.specs.inner.Whole.{IsWhole}
-use Rattle.sqlobjects.specs.inner.Stages.{IsPlacedAt, domains}
+use Rattle.sqlrows.specs.Read.{rows_of}
+use Rattle.sqlrows.proofs.StateLemmas.{reads-same}
+use Rattle.sqlobjects.specs.inner.Stages.{IsPlacedAt, domains, rows_named}
 use Rattle.sqlobjects.proofs.NamedRowLemmas.{placed-as}
 use Rattle.sqlobjects.proofs.StepLemmas.{asked-brings}
 use Rattle.sqldomains.specs.inner.Stages.{IsDomainPlaced, row_beside}
@@ -11,13 +13,11 @@ use Rattle.sqldomains.proofs.domain_rows.place.Goals as goal
 pub returns : goal.returns
 returns g c =
     let old = c.args.store.now in
-    let middle = c.row_named.new.store in
     let new = c.place_row.new.store in
     let domain = c.args.domain.now in
     let beside = c.args.beside.now in
-    let found = c.in_ok-found.found in
-    let asked = c.in_ok-found.ensures in
+    let found = c.args.found in
     let row = c.in_ok-row.row in
     let made = written (pos 0) beside domain row c.in_ok-row.ensures in
-    asked-brings c.place_row.result (IsPlacedAt domains found row) (λ row old new. IsWhole old → IsDomainPlaced domain beside row old new) old middle new asked.0 c.place_row.ensures
-    (λ it clean step. placed-as domains (λ (r : Domain). row_beside r.id beside domain ≡ Some r) domain.name found row it old.content new.content made.name made.again (asked.1 clean) step)
+    asked-brings c.place_row.result (IsPlacedAt domains found row) (λ row old new. IsWhole old → rows_named domains domain.name old ≡ rows_of found → IsDomainPlaced domain beside row old new) old old new (reads-same old) c.place_row.ensures
+    (λ it clean step whole there. placed-as domains (λ (r : Domain). row_beside r.id beside domain ≡ Some r) domain.name found row it old.content new.content made.name made.again there step whole)

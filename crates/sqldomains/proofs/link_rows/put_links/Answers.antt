@@ -1,4 +1,5 @@
-use Rattle.std.proofs.Common.{◌≡◌, subst}
+use Rattle.std.proofs.Common.{◌≡◌, true, [], filter, subst}
+use Rattle.sqltables.specs.Link.{link_with_domain}
 use Rattle.sqlobjects.proofs.StepLemmas.{asked-turns}
 use Rattle.sqldomains.specs.Domains.{in_places}
 use Rattle.sqldomains.specs.inner.Stages.{AreLinksPut, AreLinksPutOver}
@@ -9,7 +10,9 @@ returns g c =
     let id = c.args.domain.now.id in
     let due = c.args.domain.now.due in
     let links = c.args.links.now in
+    let is_new = c.args.is_new in
     let so : in_places links.hosts ≡ links.hosts = subst (λ names. in_places names ≡ names) c.as_slice.ensures (c.in_ok-check_places.ensures {u = tt}) in
     let there = c.in_ok-there.there in
     let asked = c.in_ok-there.ensures in
-    asked-turns c.put_over.result (AreLinksPutOver id due links there) (AreLinksPut id due links) c.args.store.now c.compare_links.new.store c.put_over.new.store asked.0 c.put_over.ensures (λ clean step. step so (asked.1 clean))
+    asked-turns c.put_over.result (AreLinksPutOver id due links there) (λ m e. (is_new ≡ true → filter (link_with_domain id) m.links ≡ []) → AreLinksPut id due links m e) c.args.store.now c.compare_or_absent.new.store c.put_over.new.store asked.0 c.put_over.ensures
+    (λ clean step none. step so (asked.1 clean none))

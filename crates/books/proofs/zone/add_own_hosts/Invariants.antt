@@ -1,7 +1,7 @@
 use Rattle.std.proofs.Common.{◌≡◌, filter, drop}
 use Rattle.std.specs.Prelude.{fold}
-use Rattle.zonefile.specs.ZoneText.{is_in_zone, with_name}
-use Rattle.zonefile.proofs.glue.add_hosts_within.Given as goal
+use Rattle.model.specs.Zone.{is_in_zone, with_name}
+use Rattle.books.proofs.zone.add_own_hosts.Given as goal
 
 -- the hosts that are left lead to where all of them do
 abbrev pub invariant-loop-host : goal.invariant-loop-host

@@ -1,0 +1,29 @@
+use Rattle.std.proofs.Common.{◌≡◌, true, [], filter, ap, ◌∙◌}
+use Rattle.sqltables.specs.Content.{Content}
+use Rattle.sqltables.specs.Link.{link_with_domain}
+use Rattle.sqltables.specs.Transfer.{transfer_with_domain}
+use Rattle.sqlrows.proofs.StateLemmas.{then-became}
+use Rattle.sqlobjects.specs.declared.transfers.Transferable.TheVariants as transferable
+use Rattle.sqlobjects.specs.inner.Transfers.{IsTransferPut}
+use Rattle.sqldomains.specs.inner.Stages.{AreLinksPut, ArePartsPut, HasNoParts}
+use Rattle.sqldomains.proofs.domain_changes.put_parts.Goals as goal
+
+pub returns : goal.returns
+returns g c =
+    let old = c.args.store.now in
+    let middle = c.put_links.new.store in
+    let new = c.put_last_transfer.new.store in
+    let d = c.args.domain.now in
+    let row = c.args.row.now in
+    let is_new = c.args.is_new in
+    then-became (λ m e. (is_new ≡ true → filter (link_with_domain row.id) m.links ≡ []) → AreLinksPut row.id row.due d.links m e)
+    (λ m e. (is_new ≡ true → filter (transfer_with_domain row.id) m.transfers ≡ []) → IsTransferPut (transferable.Domain row.id) d.transfer m e)
+    (λ m e. (is_new ≡ true → HasNoParts row.id m) → ArePartsPut row.id row.due d m e) old middle new
+    (c.in_ok-put_links.ensures {u = tt}) (c.in_ok-put_last_transfer.ensures {u = tt})
+    (λ clean links transfer none.
+    let linked = links (λ e. (none e).links) in
+    record {
+      between = middle.content;
+      links = linked;
+      transfer = transfer (λ e. ap (λ (x : Content). filter (transfer_with_domain row.id) x.transfers) linked.others.rest ∙ (none e).transfers);
+    })

@@ -1,0 +1,11 @@
+use Rattle.std.proofs.Common.{◌≡◌, true}
+use Rattle.std.specs.FinMap.{empty}
+use Rattle.states.specs.States.{Reads}
+use Rattle.sqldomains.specs.inner.Delegations as spec
+use Rattle.sqldomains.proofs.zone_rows.with_rows.Given as goal
+
+-- nothing was changed, and the rows that are left give what all of them do
+abbrev pub invariant-loop-row : goal.invariant-loop-row
+invariant-loop-row g l =
+    Reads l.fn.store l.store
+    × (l.store.is_clean ≡ true → spec.with_rows l.fn.store.content l.all l.row-iterator.rest.items ≡ spec.with_rows l.fn.store.content empty l.fn.rows)
