@@ -10,7 +10,7 @@ use Rattle.model.specs.View.{View, view, view_for}
 use Rattle.policy.specs.Rules.{PolicyRules}
 use Rattle.isolation.specs.Alike.{Pair, AreAlike, firsts, seconds}
 use Rattle.isolation.specs.Laws.{none}
-use Rattle.isolation.specs.Runs.{Answer, code, dated, reply, shown, told}
+use Rattle.isolation.specs.Runs.{Answer, code, dated, inspected, reply, shown, told}
 use Rattle.protocol.specs.declared.session.InSession.{InSession}
 use Rattle.protocol.specs.declared.session.InSession.TheVariants.{Hello, Ordinary}
 use Rattle.decisions.specs.Steps.{answer}
@@ -49,7 +49,8 @@ abbrev pub text_of : Answer → List ℕ
 text_of (reply it) = reply_text it
 text_of (code it) = []
 text_of (dated moment) = greeting_text moment
-text_of (shown s) = []
+text_of (shown part) = []
+text_of (inspected s) = []
 
 -- Two lists of calls that differ in nothing but what others than the registrar hide tell it the same texts,
 -- byte for byte, one after another.

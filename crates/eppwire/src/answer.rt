@@ -20,8 +20,11 @@ use std::alloc::{AllocError, Global};
 /// The version of the protocol by which registrars log in.
 const VERSION: &str = "1.0";
 
-/// What a registrar is answered that is logged in.
-pub(crate) fn answer_registrar<B: Book + Drop>(
+/// Answers what a registrar sends that is logged in (RFC 5730, 2.4 and 2.6): hello by the greeting, and a
+/// command by its reply, the last one after a logout. A call that gives up, or a payload for which there is
+/// no memory, is `Failed`, and nothing is changed. A text for which there is no memory is `Lost`, and what
+/// was done stays.
+pub fn answer_registrar<B: Book + Drop>(
     alloc: Global,
     registry: &mut Registry<B>,
     caller: RegistrarNo,

@@ -2,14 +2,16 @@
 //! each of its frames.
 //!
 //! A [`Connection`] is the peer of a session, and [`serve_session`] asks it for each frame. What it
-//! sends a registrar depends on nothing that the registrar may not see. The other parts of the wire have
-//! crates of their own: frames, and commands, orders and replies as JSON.
+//! sends a registrar depends on nothing that the registrar may not see. [`answer_registrar`] answers who is
+//! logged in, on a connection and in a script. The other parts of the wire have crates of their own: frames,
+//! and commands, orders and replies as JSON.
 #![tactic(auto)]
 
 mod answer;
 mod connection;
 mod laws;
 
+pub use answer::answer_registrar;
 pub use connection::Connection;
 pub use eppcommands::{command_of, order_of};
 pub use eppreplies::{greeting_bytes, order_bytes, reply_bytes};

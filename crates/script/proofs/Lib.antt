@@ -1,4 +1,5 @@
 mod LineLemmas
+mod AnswerLemmas
 mod RunLemmas
 mod BeginLemmas
 mod HaltLemmas

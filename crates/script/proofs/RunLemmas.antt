@@ -9,7 +9,6 @@ use Rattle.policy.specs.Rules.{PolicyRules}
 use Rattle.script.specs.declared.exit.Exit.TheVariants as exits
 use Rattle.script.specs.Runs.{Answers, EndsIn, Prints, begun_with, lines_of, printed}
 use Rattle.script.specs.inner.Runs.{TellsLine}
-use Rattle.books.specs.Book.{BookState, Follows}
 use Rattle.model.specs.Registry.{Registry}
 
 -- ---- the lines of an input
@@ -142,11 +141,3 @@ ends_done p lines before after (Some input) (Some rest) old new r e told =
 pub Ends-done : (A : Type 0) (p : PolicyRules) (lines : List (List ℕ)) (before after : Registry) (a b old new : Option (List ℕ))
     → Reads lines a b → IsAtEnd b → (A → AreTold p lines before after old new) → IfSome a (λ input. A → EndsIn p before after input old new exits.Done)
 Ends-done A p lines before after a b old new r e told = under A a _ (λ given. ends_done p lines before after a b old new r e (told given))
-
--- ---- books
-
-pub Follows-refl : (state : BookState) → Follows state state
-Follows-refl state = record { clean = λ clean. clean; counted = omega arith }
-
-pub Follows-trans : (old between new : BookState) → Follows old between → Follows between new → Follows old new
-Follows-trans old between new first next = record { clean = λ clean. first.clean (next.clean clean); counted = omega (arith, first.counted, next.counted) }

@@ -5,30 +5,23 @@ use Rattle.eppcommands.specs.Order.{order_in}
 use Rattle.eppreplies.specs.Answer.{answer_text}
 use Rattle.policy.specs.Rules.{PolicyRules}
 use Rattle.protocol.specs.declared.code.Code.{Code}
-use Rattle.protocol.specs.declared.code.Code.TheVariants.{Completed}
 use Rattle.protocol.specs.declared.order.OperatorRequest.{OperatorRequest}
-use Rattle.protocol.specs.declared.order.OperatorRequest.TheVariants as requests
-use Rattle.registry.specs.Execution.{IsUnchanged, OrderSteps, Settles}
+use Rattle.registry.specs.Execution.{IsUnchanged}
 use Rattle.script.specs.declared.exit.Exit.{Exit}
 use Rattle.script.specs.declared.exit.Exit.TheVariants as exits
-use Rattle.script.specs.Deposits.{EndsUntold, IsCarriedOut}
+use Rattle.script.specs.Deposits.{EndsUntold, IsAnsweredBy, IsCarriedOut}
 use Rattle.books.specs.Book.{BookState}
 
 -- the payload is an order or a settlement of which P holds
 abbrev pub IsOrdered : List ℕ → (OperatorRequest → Type 0) → Type 0
 IsOrdered payload P = (request : OperatorRequest) × (order_in payload ≡ Some request) × P request
 
--- An order takes its step, and the code of its answer is printed; of a settlement it is printed
--- how many objects lapsed.
+-- an order or a settlement takes its step, and its answer is printed
 abbrev pub IsTold : PolicyRules → OperatorRequest → ℕ → Code
     → (old new : BookState) → (before after : Option (List ℕ)) → Type 0
-IsTold p (requests.Order order) moment code old new before after =
-    OrderSteps p order moment code old new
-    × Appends before after (answer_text code None ++ codes "\n")
-IsTold p (requests.Settle at_most) moment code old new before after =
-    (code ≡ Completed)
-    × (done : ℕ) × Settles p moment at_most done old new
-    × Appends before after (answer_text Completed (Some done) ++ codes "\n")
+IsTold p request moment code old new before after =
+    (lapsed : Option ℕ) × IsAnsweredBy p request moment code lapsed old new
+    × Appends before after (answer_text code lapsed ++ codes "\n")
 
 -- the payload wasn't carried out: it is of another form, or there was no memory to read it
 abbrev pub IsNoOrder : List ℕ → (old new : BookState)

@@ -7,6 +7,7 @@ use Rattle.eppcommands.specs.Order.{order_in}
 use Rattle.eppreplies.specs.Answer.{answer_text}
 use Rattle.eppreplies.specs.Greeting.{greeting_text}
 use Rattle.eppreplies.specs.Reply.{reply_text}
+use Rattle.frames.specs.Texts.{failed_text}
 use Rattle.policy.specs.Rules.{PolicyRules}
 use Rattle.registry.specs.Execution.{IsGreetingStep, IsOrderStep, IsSettlement, IsStep, last_call}
 use Rattle.script.specs.declared.exit.Exit.{Exit}
@@ -32,11 +33,7 @@ kept b = b.content.registry
 
 -- ---- one line
 
--- what is answered where a call gave up
-abbrev pub failed_text : List ℕ
-failed_text = codes "{\"code\":2400,\"msg\":\"Command failed\",\"svTRID\":\"ANON\"}"
-
--- A call gives up after the last moment, or for want of memory; then it changes nothing.
+-- A call gives up after the last moment, or for want of memory; then it changes nothing, and a fixed text is answered.
 pub record GivesUp (before after : Registry) (text : List ℕ) : Type 0 where
   pub same : after ≡ before
   pub fixed : text ≡ failed_text

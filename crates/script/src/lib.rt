@@ -2,14 +2,12 @@
 #![tactic(auto)]
 
 mod answer;
-mod deposit;
 mod exit;
 mod line;
 mod order;
 mod script;
 
-pub use deposit::deposit_on;
 pub use exit::Exit;
 pub use line::{Line, Sender};
-pub use order::order_on;
+pub use order::{deposit_on, order_on};
 pub use script::run_on;

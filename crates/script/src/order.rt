@@ -1,22 +1,31 @@
-//! What the operator sends, given alone.
-ghost use Rattle.std.specs.Prelude.{◌≡◌, ◌≤◌, ◌++◌, codes, None, Some, IfErr, IfOk, OnOk};
+//! What the operator sends.
+ghost use Rattle.std.specs.Prelude.{◌≡◌, ◌≤◌, ◌++◌, codes, IfErr, IfOk, OnOk};
 ghost use Rattle.std.specs.Io.KnownBytes.{Appends};
 ghost use Rattle.eppreplies.specs.Answer.{answer_text};
 ghost use Rattle.protocol.specs.declared.order.OperatorRequest.TheVariants as requests;
-ghost use Rattle.registry.specs.Execution.{OrderSteps, last_call};
-ghost use Rattle.script.specs.Deposits.{EndsUntold, IsCarriedOut, IsOfMachine};
+ghost use Rattle.protocol.specs.declared.order.Order.TheVariants as orders;
+ghost use Rattle.registry.specs.Execution.{Fails, last_call};
+ghost use Rattle.script.specs.Deposits.{EndsUntold, IsAnsweredBy, IsCarriedOut, IsOfMachine};
 ghost use Rattle.script.specs.Orders.{EndsUnanswered, IsOrdered, IsTold};
 ghost use Rattle.books.specs.Book.{Follows};
 
 use crate::exit::Exit;
+use basis::text::Text;
 use books::Book;
 use calendar::Moment;
 use eppcommands::order_of;
 use eppreplies::order_bytes;
 use protocol::{Code, OperatorRequest, Order};
-use registry::Registry;
+use registry::{Fault, Registry};
 use std::alloc::Global;
 use std::io::Write;
+
+/// What the operator is answered: a code, and of a settlement how many objects lapsed.
+#[derive(Clone, Copy)]
+pub(crate) struct OrderAnswer {
+    pub code: Code,
+    pub lapsed: Option<u32>,
+}
 
 /// Carries out what the operator sends at a moment, an order or a settlement, in a registry that is open,
 /// and prints the answer as a script does. A moment before the clock counts as the clock. It gives the
@@ -41,13 +50,49 @@ pub fn order_on<B: Book + Drop, W: Write>(
     ensures policy { registry.new.policy ≡ registry.old.policy }
 {
     match order_of(alloc, payload)? {
-        Some(request) => carry_out(alloc, registry, request, moment, writer),
+        Some(request) => answer_on(alloc, registry, request, moment, writer),
         None => Err(Exit::Script(1)),
     }
 }
 
+/// Enters what a registrar has paid at a moment, in a registry that is open, and prints the answer as a
+/// script prints it; a moment before the clock counts as the clock. It gives the code of the answer:
+/// `ParameterRange` where the cents aren't 1 to 10^12, `ObjectMissing` where the policy has no such
+/// registrar, and else `Completed`. Where the registry gives up, nothing is printed or entered.
+pub fn deposit_on<B: Book + Drop, W: Write>(
+    alloc: Global,
+    registry: &mut Registry<B>,
+    moment: Moment,
+    registrar: &str,
+    cents: i64,
+    writer: &mut W,
+) -> Result<Code, Exit>
+    ensures told { IfOk result (λ code. IsTold registry.old.policy
+        (requests.Order (orders.Deposit registrar.now cents)) moment code
+        (B.state registry.old.book) (B.state registry.new.book)
+        (W.contents writer.old) (W.contents writer.new)) }
+    ensures early { OnOk result (moment ≤ last_call) }
+    ensures stopped { IfErr result (EndsUntold
+        (IsCarriedOut registry.old.policy (requests.Order (orders.Deposit registrar.now cents)) moment)
+        (B.state registry.old.book) (B.state registry.new.book)
+        (W.contents writer.old) (W.contents writer.new)) }
+    ensures follows { Follows (B.state registry.old.book) (B.state registry.new.book) }
+    ensures policy { registry.new.policy ≡ registry.old.policy }
+{
+    let registrar = Text::from_str(alloc, registrar)?;
+    let order = Order::Deposit { registrar, cents };
+    answer_on(
+        alloc,
+        registry,
+        OperatorRequest::Order(order),
+        moment,
+        writer,
+    )
+}
+
 /// Carries out what the operator sends, and prints the answer.
-fn carry_out<B: Book + Drop, W: Write>(
+#[tactic(auto, unfolding(crate::specs::Deposits::IsCarriedOut))]
+fn answer_on<B: Book + Drop, W: Write>(
     alloc: Global,
     registry: &mut Registry<B>,
     request: OperatorRequest,
@@ -65,84 +110,55 @@ fn carry_out<B: Book + Drop, W: Write>(
     ensures follows { Follows (B.state registry.old.book) (B.state registry.new.book) }
     ensures policy { registry.new.policy ≡ registry.old.policy }
 {
+    match carry_out(registry, request, moment) {
+        Ok(answer) => {
+            print_answer(alloc, answer, writer)?;
+            Ok(answer.code)
+        }
+        Err(fault) => Err(Exit::Registry(fault)),
+    }
+}
+
+/// Carries out what the operator sends: an order, or a settlement.
+pub(crate) fn carry_out<B: Book + Drop>(
+    registry: &mut Registry<B>,
+    request: OperatorRequest,
+    moment: Moment,
+) -> Result<OrderAnswer, Fault>
+    ensures answered { IfOk result (λ answer. IsAnsweredBy registry.old.policy request moment
+        answer.code answer.lapsed (B.state registry.old.book) (B.state registry.new.book)) }
+    ensures early { OnOk result (moment ≤ last_call) }
+    ensures fault { IfErr result (λ fault. Fails fault (B.state registry.old.book)
+        (B.state registry.new.book)) }
+    ensures follows { Follows (B.state registry.old.book) (B.state registry.new.book) }
+    ensures policy { registry.new.policy ≡ registry.old.policy }
+{
     match request {
-        OperatorRequest::Order(order) => carry_out_order(alloc, registry, order, moment, writer),
-        OperatorRequest::Settle { at_most } => settle(alloc, registry, at_most, moment, writer),
-    }
-}
-
-/// Carries out an order, and prints its code.
-pub(crate) fn carry_out_order<B: Book + Drop, W: Write>(
-    alloc: Global,
-    registry: &mut Registry<B>,
-    order: Order,
-    moment: Moment,
-    writer: &mut W,
-) -> Result<Code, Exit>
-    ensures step { IfOk result (λ code. OrderSteps registry.old.policy order moment code
-        (B.state registry.old.book) (B.state registry.new.book)) }
-    ensures early { OnOk result (moment ≤ last_call) }
-    ensures told { IfOk result (λ code. Appends (W.contents writer.old) (W.contents writer.new)
-        (answer_text code None ++ codes "\n")) }
-    ensures stopped { IfErr result (EndsUntold
-        (IsCarriedOut registry.old.policy (requests.Order order) moment)
-        (B.state registry.old.book) (B.state registry.new.book)
-        (W.contents writer.old) (W.contents writer.new)) }
-    ensures follows { Follows (B.state registry.old.book) (B.state registry.new.book) }
-    ensures policy { registry.new.policy ≡ registry.old.policy }
-{
-    let answered = registry.operator(&order, moment);
-    drop(order);
-    match answered {
-        Ok(code) => {
-            print_answer(alloc, code, None, writer)?;
-            Ok(code)
+        OperatorRequest::Order(order) => {
+            let code = registry.operator(&order, moment);
+            drop(order);
+            Ok(OrderAnswer {
+                code: code?,
+                lapsed: None,
+            })
         }
-        Err(fault) => Err(Exit::Registry(fault)),
-    }
-}
-
-/// Lets lapse what is due, of so many objects at most, and prints of how many.
-fn settle<B: Book + Drop, W: Write>(
-    alloc: Global,
-    registry: &mut Registry<B>,
-    at_most: u32,
-    moment: Moment,
-    writer: &mut W,
-) -> Result<Code, Exit>
-    ensures told { IfOk result (λ code.
-        IsTold registry.old.policy (requests.Settle at_most) moment code
-        (B.state registry.old.book) (B.state registry.new.book)
-        (W.contents writer.old) (W.contents writer.new)) }
-    ensures early { OnOk result (moment ≤ last_call) }
-    ensures stopped { IfErr result (EndsUntold
-        (IsCarriedOut registry.old.policy (requests.Settle at_most) moment)
-        (B.state registry.old.book) (B.state registry.new.book)
-        (W.contents writer.old) (W.contents writer.new)) }
-    ensures follows { Follows (B.state registry.old.book) (B.state registry.new.book) }
-    ensures policy { registry.new.policy ≡ registry.old.policy }
-{
-    match registry.settle(moment, at_most) {
-        Ok(done) => {
-            print_answer(alloc, Code::Completed, Some(done), writer)?;
-            Ok(Code::Completed)
+        OperatorRequest::Settle { at_most } => {
+            let lapsed = registry.settle(moment, at_most)?;
+            Ok(OrderAnswer {
+                code: Code::Completed,
+                lapsed: Some(lapsed),
+            })
         }
-        Err(fault) => Err(Exit::Registry(fault)),
     }
 }
 
 /// Prints the answer to an order or to a settlement.
-fn print_answer<W: Write>(
-    alloc: Global,
-    code: Code,
-    done: Option<u32>,
-    writer: &mut W,
-) -> Result<(), Exit>
+fn print_answer<W: Write>(alloc: Global, answer: OrderAnswer, writer: &mut W) -> Result<(), Exit>
     ensures told { OnOk result (Appends (W.contents writer.old) (W.contents writer.new)
-        (answer_text code done ++ codes "\n")) }
+        (answer_text answer.code answer.lapsed ++ codes "\n")) }
     ensures stopped { IfErr result IsOfMachine }
 {
-    let mut line = order_bytes(alloc, code, done)?;
+    let mut line = order_bytes(alloc, answer.code, answer.lapsed)?;
     line.push(b'\n')?;
     writer.write_all(&line)?;
     writer.flush()?;

@@ -2,6 +2,7 @@
 ghost use Rattle.std.specs.Prelude.{◌≡◌, ℕ, List, [], ◌++◌, codes, option_map, true, Some, IfErr, IfSome, OnErr, OnOk};
 ghost use Rattle.std.specs.Io.BufRead.{strip_last};
 ghost use Rattle.std.specs.Io.KnownBytes.{Appends, Keeps, append_known};
+ghost use Rattle.frames.specs.Outcomes.{outcome_of};
 ghost use Rattle.script.specs.inner.Runs.{AppendsFront, BreaksAt, EndsBehind, HaltsAt, LeavesAsWas, TellsLine, end_of, told_text};
 ghost use Rattle.script.specs.Runs.{EndsIn, kept};
 ghost use Rattle.books.specs.Book.{Follows};
@@ -9,13 +10,11 @@ ghost use Rattle.books.specs.Book.{Follows};
 use crate::answer::answer;
 use crate::exit::Exit;
 use books::Book;
+use frames::{Answer, FAILED};
 use registry::Registry;
 use std::alloc::{AllocError, Global};
 use std::io::{self, BufRead, BufReader, Read, Write};
 use streams::write_all;
-
-/// What is answered where a call gave up, and where a command found no memory.
-const COMMAND_FAILED: &[u8] = b"{\"code\":2400,\"msg\":\"Command failed\",\"svTRID\":\"ANON\"}";
 
 /// How many bytes may be pending before they are written.
 const ROOM: usize = 8192;
@@ -130,18 +129,24 @@ fn print_answer<B: Book + Drop, W: Write>(
     if line.is_empty() {
         return Ok(());
     }
-    let told = answer(alloc, registry, number, line)?;
-    print(pending, writer, text_of(&told))?;
+    let Some(answer) = answer(alloc, registry, line) else {
+        return Err(Exit::Script(number));
+    };
+    let Some(text) = text_of(&answer) else {
+        return Err(Exit::Memory);
+    };
+    print(pending, writer, text)?;
     Ok(())
 }
 
-/// The text that is printed for an answer.
-fn text_of(told: &Option<Vec<u8>>) -> &[u8]
-    ensures { result.now ≡ told_text (option_map (λ text. text.items) told.now) }
+/// The text that is printed of an answer, unless it found no memory.
+fn text_of(answer: &Answer) -> Option<&[u8]>
+    ensures { option_map (λ text. text.now) result ≡ told_text (outcome_of answer.now) }
 {
-    match told {
-        Some(text) => text,
-        None => COMMAND_FAILED,
+    match answer {
+        Answer::Reply(text) | Answer::LastReply(text) => Some(text),
+        Answer::Failed => Some(FAILED),
+        Answer::Lost => None,
     }
 }
 

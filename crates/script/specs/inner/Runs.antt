@@ -1,62 +1,31 @@
 -- What the lines of a script are answered.
 use Rattle.std.specs.Prelude.{◌≡◌, ◌≢◌, ◌⊎◌, ◌+◌, ℕ, List, [], ◌∷◌, ◌++◌, Option, Some, None, Result, Ok, Err, ⊤}
 use Rattle.std.specs.Io.KnownBytes.{Appends, Keeps, append_known}
+use Rattle.frames.specs.Outcomes.{Outcome, replied, ended, failed, lost}
+use Rattle.frames.specs.Texts.{failed_text}
 use Rattle.policy.specs.Rules.{PolicyRules}
 use Rattle.registry.specs.Execution.{IsUnchanged}
 use Rattle.script.specs.declared.exit.Exit.{Exit}
 use Rattle.script.specs.declared.exit.Exit.TheVariants as exits
-use Rattle.script.specs.declared.line.Sender.{Sender}
 use Rattle.books.specs.Book.{BookState}
-use Rattle.protocol.specs.declared.command.Command.{Command}
 use Rattle.protocol.specs.declared.order.OperatorRequest.{OperatorRequest}
-use Rattle.protocol.specs.declared.order.Order.{Order}
 use Rattle.model.specs.Registry.{Registry}
-use Rattle.script.specs.Runs.{failed_text, GivesUp, IsCommandStep, IsHelloStep, IsOrderedStep, IsSettledStep, OperatorSteps, Asks, AsksNothing, Prints, printed, BeginsBehind, Writes, EndsIn}
+use Rattle.script.specs.Runs.{GivesUp, OperatorSteps, AsksNothing, Prints, printed, BeginsBehind, Writes, EndsIn}
 
 -- ---- one line
 
--- the same of a command
-abbrev pub IsAnsweredCommand : PolicyRules → ℕ → Command → ℕ → Registry → Registry → List ℕ → Type 0
-IsAnsweredCommand p r c moment before after text =
-    GivesUp before after text ⊎ IsCommandStep p r c moment before after text
+-- the text that is printed of an outcome, unless it found no memory
+abbrev pub told_text : Outcome → Option (List ℕ)
+told_text (replied reply) = Some reply
+told_text (ended reply) = Some reply
+told_text failed = Some failed_text
+told_text lost = None
 
--- of hello
-abbrev pub IsAnsweredHello : PolicyRules → ℕ → Registry → Registry → List ℕ → Type 0
-IsAnsweredHello p moment before after text =
-    GivesUp before after text ⊎ IsHelloStep p moment before after text
-
--- of an order
-abbrev pub IsAnsweredOrder : PolicyRules → Order → ℕ → Registry → Registry → List ℕ → Type 0
-IsAnsweredOrder p order moment before after text =
-    GivesUp before after text ⊎ IsOrderedStep p order moment before after text
-
--- of a settlement
-abbrev pub IsAnsweredSettlement : PolicyRules → ℕ → ℕ → Registry → Registry → List ℕ → Type 0
-IsAnsweredSettlement p at_most moment before after text =
-    GivesUp before after text ⊎ IsSettledStep p at_most moment before after text
-
--- of what the operator sends
+-- what the operator sends is answered
 abbrev pub IsAnsweredOperator : PolicyRules → OperatorRequest → ℕ → Registry → Registry → List ℕ
     → Type 0
 IsAnsweredOperator p request moment before after text =
     GivesUp before after text ⊎ OperatorSteps p request moment before after text
-
--- the text, or the fixed one where there is none
-abbrev pub told_text : Option (List ℕ) → List ℕ
-told_text None = failed_text
-told_text (Some text) = text
-
--- a line that isn't of the form ends the run by its number; so may want of memory
-abbrev pub IsStopped : PolicyRules → List ℕ → ℕ → Exit → Type 0
-IsStopped p line number (exits.Script n) = (n ≡ number) × AsksNothing p line
-IsStopped p line number exits.Memory = Unit {0}
-IsStopped p line number _ = ⊥
-
--- the same where it is known who sends the payload
-abbrev pub IsUnread : Sender → List ℕ → ℕ → Exit → Type 0
-IsUnread sender payload number (exits.Script n) = (n ≡ number) × (Asks sender payload → ⊥)
-IsUnread sender payload number exits.Memory = Unit {0}
-IsUnread sender payload number _ = ⊥
 
 -- a line that isn't of the form changes nothing
 abbrev pub LeavesAsWas : BookState → BookState → Exit → Type 0

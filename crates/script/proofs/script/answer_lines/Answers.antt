@@ -1,12 +1,13 @@
 use Rattle.std.proofs.Common.{◌≡◌, ◌∙◌, ◌<◌, ◌++◌, ◌∷◌, [], inl, ap, refl, length, length-append, IfSome, arith}
 use Rattle.std.proofs.lemmas.Result.{err_from_is_err_and}
 use Rattle.std.specs.Io.BufRead.{strip_last, take_through}
+use Rattle.eppwire.proofs.FollowLemmas.{follows_on, stays_followed}
 use Rattle.script.specs.inner.Runs.{end_of}
 use Rattle.script.specs.Runs.{kept}
 use Rattle.std.proofs.KnownBytes.{Appends-nil, Appends-trans}
 use Rattle.script.proofs.BeginLemmas.{Ends-between, fault_by}
 use Rattle.script.proofs.HaltLemmas.{Ends-halted}
-use Rattle.script.proofs.RunLemmas.{AreTold-more, AreTold-nil, Ends-done, Follows-refl, Follows-trans, Reads-more, Reads-nil}
+use Rattle.script.proofs.RunLemmas.{AreTold-more, AreTold-nil, Ends-done, Reads-more, Reads-nil}
 use Rattle.script.proofs.script.answer_lines.Goals as goal
 
 pub loop-number-init : goal.loop-number-init
@@ -16,7 +17,7 @@ loop-number-init g c = record {
   count = refl;
   read = Reads-nil _;
   sent = ([], Appends-nil _);
-  follows = Follows-refl _;
+  follows = stays_followed _;
   told = λ clean. AreTold-nil _ _ _;
 }
 
@@ -69,6 +70,6 @@ loop-number-preserved g c =
       count = omega (arith, length-append before.lines (strip_last 10 text ∷ []));
       read = Reads-more before.lines _ _ _ text before.read read c.in_ok-read_until.ensures.rest some;
       sent = (before.sent.0 ++ told.sent.0, Appends-trans _ _ _ _ _ before.sent.1 told.sent.1);
-      follows = Follows-trans _ _ _ before.follows told.follows;
+      follows = follows_on _ _ _ before.follows told.follows;
       told = λ clean. AreTold-more _ _ before.lines (strip_last 10 text) _ _ _ _ _ _ _ before.policy line (before.told (told.follows.clean clean)) (told.told clean);
     }
