@@ -20,6 +20,8 @@ use Rattle.objects.specs.declared.domain.FullDomain.{FullDomain}
 use Rattle.objects.specs.declared.grace.Graces.{Graces}
 use Rattle.objects.specs.declared.grace.Standing.{Standing}
 use Rattle.objects.specs.declared.sight.Seen.{Seen}
+use Rattle.objects.specs.Contacts.{contact_face_of}
+use Rattle.objects.specs.Domains.{face_of}
 use Rattle.objects.specs.Sight.{authorizes, contact_as, domain_as, is_party}
 use Rattle.policy.specs.Rules.{PolicyRules}
 use Rattle.protocol.specs.declared.command.Command.{Command}
@@ -28,6 +30,7 @@ use Rattle.decisions.specs.Decisions.{decided}
 use Rattle.decisions.specs.Steps.{answer, decision, reply_of}
 use Rattle.decisions.proofs.ViewLemmas.{same_facts}
 use Rattle.isolation.specs.Alike.{PresentsNone}
+use Rattle.isolation.specs.Public.{public_part}
 use Rattle.isolation.specs.Redaction.{Objects, AreOne, is_redacted, no_postal, redacted, redacted_contact, redacted_domain, without_deposits}
 use Rattle.isolation.proofs.AccountLemmas.{graces-charges}
 use Rattle.isolation.proofs.RedactionLemmas.{account-left, same-clock, same-hosts, same-own}
@@ -142,3 +145,20 @@ module _ (p : PolicyRules) (r : ℕ) (touched : Objects) (c : Command) where
     answer-alike =
         ap (λ d. reply_of p r c d.verdict (account_of r s).commands) decision-alike
         ∙ ap (λ (a : Account). reply_of p r c (decision p r c t).verdict a.commands) (same-own r touched s t one)
+
+-- ---- what everybody may look up
+
+module _ (p : PolicyRules) (r : ℕ) (touched : Objects) where
+  contacts-shown : (s : Registry) → (public_part p s).contacts ≡ (public_part p (redacted r touched s)).contacts
+  contacts-shown s = seen-left (λ name. contact_face_of) (redacted_contact r touched) (λ name. contact_face_of) s.contacts (λ name o at. refl)
+
+  domains-shown : (s : Registry) → (public_part p s).domains ≡ (public_part p (redacted r touched s)).domains
+  domains-shown s = seen-left (λ name o. face_of (standing_of p s o) o) (redacted_domain r touched) (λ name o. face_of (standing_of p (redacted r touched s) o) o) s.domains
+      (λ name o at. ap (λ (standing : Standing). face_of standing o) (sym (standing-left p r touched s (redacted_domain r touched o))))
+
+  -- nothing of it is left out
+  public-left : (s : Registry) → public_part p s ≡ public_part p (redacted r touched s)
+  public-left s = λ i. record { clock = s.clock; contacts = contacts-shown s i; hosts = s.hosts; domains = domains-shown s i }
+
+  pub same-public : (s t : Registry) → AreOne r touched s t → public_part p s ≡ public_part p t
+  same-public s t one = public-left s ∙ ap (public_part p) one ∙ sym (public-left t)

@@ -1,13 +1,14 @@
--- Alike lists tell a registrar the same.
+-- Alike lists tell a registrar the same, and leave everybody the same to look up.
 use Rattle.std.proofs.Common.{◌≡◌, ℕ, max, Bool, true, false, cond, List, [], ◌∷◌, refl, sym, ap, ap₂, ◌∙◌, arith}
 use Rattle.model.specs.Lapse.{lapse, lapsed, now}
 use Rattle.model.specs.Registry.{Registry}
 use Rattle.model.proofs.LapseLaws.{lapses-on}
 use Rattle.policy.specs.Rules.{PolicyRules}
 use Rattle.isolation.specs.Alike.{AreAlike, Pair, deposits, first, firsts, hidden, same, second, seconds, touched_by}
-use Rattle.isolation.specs.Laws.{AlikeListsTellTheSame, CallsAreStepsOfTwo, none}
+use Rattle.isolation.specs.Laws.{AlikeListsShowTheSame, AlikeListsTellTheSame, CallsAreStepsOfTwo, none}
 use Rattle.isolation.specs.Redaction.{Objects, AreOne, redacted}
-use Rattle.isolation.specs.Runs.{Answer, Question, answer_to, effect_of, is_asked_by, left_by, told}
+use Rattle.isolation.specs.Runs.{Answer, Question, answer_to, effect_of, is_asked_by, left_after, left_by, told}
+use Rattle.isolation.proofs.OwnLemmas.{same-public}
 use Rattle.isolation.proofs.StepLemmas.{pairs-step}
 use Rattle.isolation.proofs.RedactionLemmas.{same-clock}
 use Rattle.isolation.proofs.TimeLemmas.{lapse-alike, lapsed-alike}
@@ -32,6 +33,19 @@ lists-tell p r touched (pair ∷ pairs) s t one alike =
 
 pub alike-lists-tell-the-same : AlikeListsTellTheSame
 alike-lists-tell-the-same p s r pairs alike = lists-tell p r none pairs s s refl alike
+
+-- what they leave is one but for what was touched
+lists-leave : (p : PolicyRules) (r : ℕ) (touched : Objects) (pairs : List (ℕ × Pair)) (s t : Registry) → AreOne r touched s t → AreAlike p r touched pairs s t
+    → (more : Objects) × AreOne r more (left_after p (firsts pairs) s) (left_after p (seconds pairs) t)
+lists-leave p r touched [] s t one alike = (touched, one)
+lists-leave p r touched (pair ∷ pairs) s t one alike =
+    let step = pairs-step p r touched pair.1 (lapsed p pair.0 s) (lapsed p pair.0 t) (lapsed-alike p r touched pair.0 s t one) alike.0 in
+    lists-leave p r (touched_by p pair.1 (lapsed p pair.0 s) touched) pairs (left_by p (pair.0, first pair.1) s) (left_by p (pair.0, second pair.1) t) step.0 alike.1
+
+pub alike-lists-show-the-same : AlikeListsShowTheSame
+alike-lists-show-the-same p r pairs s moment alike =
+    let left = lists-leave p r none pairs s s refl alike in
+    same-public p r left.0 _ _ (lapsed-alike p r left.0 moment _ _ left.1)
 
 -- ---- one call
 

@@ -41,10 +41,10 @@ use Rattle.rules.specs.Rules.{refusal_of}
 use Rattle.rules.specs.Verdicts.{granted, judged, unless_refused}
 use Rattle.isolation.specs.Alike.{Hidden, IsAlike, Pair, PresentsNone, code_told, deposits, first, hidden, puts, same, second, touched_by, with_hidden}
 use Rattle.isolation.specs.Redaction.{Objects, AreOne, is_redacted, redacted, redacted_contact, redacted_domain}
-use Rattle.isolation.specs.Runs.{answer_to, command, date, dated, effect_of, is_asked_by, look_up, order, reply}
+use Rattle.isolation.specs.Runs.{answer_to, command, date, dated, effect_of, inspection, is_asked_by, look_up, order, reply, shown}
 use Rattle.isolation.proofs.ChangeLemmas.{AreAlikeChanges, IsAlikeChange, changed-alike, deposited-alike, give-alike, put-contact-alike, put-domain-alike, same-change, same-changes}
 use Rattle.isolation.proofs.CommandLemmas.{hidden-request, same-request}
-use Rattle.isolation.proofs.OwnLemmas.{answer-alike, decision-alike}
+use Rattle.isolation.proofs.OwnLemmas.{answer-alike, decision-alike, same-public}
 use Rattle.isolation.proofs.PairLemmas.{equal-lists, no-changes, through}
 use Rattle.isolation.proofs.RedactionLemmas.{apart, left_out-twice, one-but-more, same-clock, same-contact, same-domain, same-hosts, secret-twice}
 
@@ -245,7 +245,8 @@ pub pairs-step : (p : PolicyRules) (r : ℕ) (touched : Objects) (pair : Pair) (
 pairs-step p r touched (same (command q c)) s t one alike = by-caller p r touched s t one q c (q == r) refl alike
 pairs-step p r touched (same (order o)) s t one alike = (same-order p r touched s t one o (same_Some _ _ (alike.codes refl)), λ e. never-both (sym e))
 pairs-step p r touched (same date) s t one alike = (one, λ e. ap dated (same-clock r touched s t one))
-pairs-step p r touched (same look_up) s t one alike = (one, λ e. never-both (sym e))
+pairs-step p r touched (same look_up) s t one alike = (one, λ e. ap shown (same-public p r touched s t one))
+pairs-step p r touched (same inspection) s t one alike = (one, λ e. never-both (sym e))
 pairs-step p r touched (hidden q cl_trid request h) s t one alike =
     let apart_too : (q == r) ≡ false = not-asked q r alike.elsewhere in
     (other-hidden p r q alike.elsewhere touched s t one cl_trid request h (same_Some _ _ (alike.codes apart_too)), λ e. never-both (sym e ∙ apart_too))

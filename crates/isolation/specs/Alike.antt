@@ -23,7 +23,7 @@ use Rattle.decisions.specs.declared.change.Change.TheVariants.{MoveClock, OpenAc
 use Rattle.decisions.specs.Decisions.{or_old}
 use Rattle.decisions.specs.Steps.{decision}
 use Rattle.isolation.specs.Redaction.{Objects}
-use Rattle.isolation.specs.Runs.{Answer, Question, answer_to, code, command, date, dated, is_asked_by, left_by, look_up, order, reply, shown}
+use Rattle.isolation.specs.Runs.{Answer, Question, answer_to, code, command, date, dated, inspected, inspection, is_asked_by, left_by, look_up, order, reply, shown}
 
 -- ---- hidden arguments
 
@@ -124,7 +124,8 @@ abbrev pub code_told : Answer → Option Code
 code_told (reply a) = Some a.code
 code_told (code a) = Some a
 code_told (dated t) = None
-code_told (shown s) = None
+code_told (shown part) = None
+code_told (inspected s) = None
 
 -- it presents no right secret of an object that is touched
 pub record PresentsNone (touched : Objects) (c : Command) (s : Registry) : Type 0 where
@@ -138,6 +139,7 @@ PresentsNoneFor r touched (command q c) s = q ≡ r → PresentsNone touched c s
 PresentsNoneFor r touched (order o) s = Unit {0}
 PresentsNoneFor r touched date s = Unit {0}
 PresentsNoneFor r touched look_up s = Unit {0}
+PresentsNoneFor r touched inspection s = Unit {0}
 
 -- What differs is others'. What the registrar can't have asked is answered by one code in both. And in
 -- neither does the registrar present a right secret of what is touched, as the registries are then.

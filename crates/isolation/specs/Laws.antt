@@ -3,9 +3,10 @@ use Rattle.std.specs.Prelude.{◌≡◌, ℕ, true, false, List}
 use Rattle.model.specs.Lapse.{lapsed, now}
 use Rattle.model.specs.Registry.{Registry}
 use Rattle.policy.specs.Rules.{PolicyRules}
+use Rattle.isolation.specs.Public.{public_part}
 use Rattle.isolation.specs.Alike.{Pair, AreAlike, IsAlike, first, firsts, second, seconds, touched_by}
 use Rattle.isolation.specs.Redaction.{Objects, AreOne}
-use Rattle.isolation.specs.Runs.{Answer, Question, answer_to, effect_of, is_asked_by, left_by, told}
+use Rattle.isolation.specs.Runs.{Answer, Question, answer_to, effect_of, is_asked_by, left_after, left_by, told}
 
 -- ---- one call
 
@@ -49,3 +50,11 @@ CallsAreStepsOfTwo =
 
 abbrev pub AlikeListsTellTheSame : Type 0
 AlikeListsTellTheSame = (p : PolicyRules) (s : Registry) → TellsAlike p s
+
+-- and leave, at any moment, what everybody may look up the same
+abbrev pub AlikeListsShowTheSame : Type 0
+AlikeListsShowTheSame =
+    (p : PolicyRules) (r : ℕ) (pairs : List (ℕ × Pair)) (s : Registry) (moment : ℕ)
+    → AreAlike p r none pairs s s
+    → public_part p (lapsed p moment (left_after p (firsts pairs) s))
+    ≡ public_part p (lapsed p moment (left_after p (seconds pairs) s))

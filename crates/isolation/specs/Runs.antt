@@ -9,30 +9,35 @@ use Rattle.protocol.specs.declared.order.Order.{Order}
 use Rattle.protocol.specs.declared.reply.Reply.{Reply}
 use Rattle.decisions.specs.Orders.{order_answer, order_effect}
 use Rattle.decisions.specs.Steps.{answer, effect}
+use Rattle.isolation.specs.Public.{PublicPart, public_part}
 
 -- ---- one call
 
 -- A registrar's command (RFC 5730, 2.5), an order of the operator, the date of a greeting (RFC 5730,
--- 2.4), or a look-up of what everyone may know.
+-- 2.4), a look-up of what everybody may know, or an inspection, which the operator alone makes.
 pub data Question : Type 0 where
   command : ℕ → Command → Question
   order : Order → Question
   date : Question
   look_up : Question
+  inspection : Question
 
--- A look-up is answered by the registry that it is shown, whatever it looks for there.
+-- A look-up is answered by the public part of the registry, whatever it looks for there, and an
+-- inspection by all of it.
 pub data Answer : Type 0 where
   reply : Reply → Answer
   code : Code → Answer
   dated : ℕ → Answer
-  shown : Registry → Answer
+  shown : PublicPart → Answer
+  inspected : Registry → Answer
 
 -- what is answered in a registry as the call finds it
 abbrev pub answer_to : PolicyRules → Question → Registry → Answer
 answer_to p (command r c) s = reply (answer p r c s)
 answer_to p (order o) s = code (order_answer p o s)
 answer_to p date s = dated s.clock
-answer_to p look_up s = shown s
+answer_to p look_up s = shown (public_part p s)
+answer_to p inspection s = inspected s
 
 -- what the call leaves of it
 abbrev pub effect_of : PolicyRules → Question → Registry → Registry
@@ -40,6 +45,7 @@ effect_of p (command r c) s = effect p r c s
 effect_of p (order o) s = order_effect p o s
 effect_of p date s = s
 effect_of p look_up s = s
+effect_of p inspection s = s
 
 -- The answer is that of the registry at the moment of the call, and what is left is the effect there.
 pub record IsCall (p : PolicyRules) (moment : ℕ) (q : Question) (before after : Registry) (a : Answer) : Type 0 where
@@ -48,16 +54,22 @@ pub record IsCall (p : PolicyRules) (moment : ℕ) (q : Question) (before after 
 
 -- ---- a run
 
--- a registrar may have asked this: who says hello isn't known
+-- a registrar may have asked this: who says hello or looks something up isn't known
 abbrev pub is_asked_by : ℕ → Question → Bool
 is_asked_by r (command q c) = q == r
 is_asked_by r (order o) = false
 is_asked_by r date = true
-is_asked_by r look_up = false
+is_asked_by r look_up = true
+is_asked_by r inspection = false
 
 -- what a question at a moment leaves
 abbrev pub left_by : PolicyRules → ℕ × Question → Registry → Registry
 left_by p x s = effect_of p x.1 (lapsed p x.0 s)
+
+-- and one after another
+abbrev pub left_after : PolicyRules → List (ℕ × Question) → Registry → Registry
+left_after p [] s = s
+left_after p (x ∷ xs) s = left_after p xs (left_by p x s)
 
 -- what a registrar is answered, in a run from a registry on
 abbrev pub told : PolicyRules → ℕ → List (ℕ × Question) → Registry → List Answer

@@ -4,6 +4,7 @@ use Rattle.model.specs.Lapse.{lapsed}
 use Rattle.model.specs.Registry.{Registry}
 use Rattle.model.proofs.LapseLaws.{lapses-on}
 use Rattle.policy.specs.Rules.{PolicyRules}
+use Rattle.isolation.specs.Public.{public_part}
 use Rattle.isolation.specs.Runs.{IsCall, code, command, date, dated, look_up, order, reply, shown}
 use Rattle.protocol.specs.declared.code.Code.{Code}
 use Rattle.protocol.specs.declared.command.Command.{Command}
@@ -28,7 +29,7 @@ greeting_answered clean p moment before after (Ok a) step = λ taken. record { a
 greeting_answered clean p moment before after (Err e) step = tt
 
 pub settlement_answered : {E : Type 0} (clean : Type 0) (p : PolicyRules) (moment : ℕ) (before after : Registry) (result : Result ℕ E) (at_most : ℕ)
-    → IfOk result (λ done. clean → IsSettlement p moment at_most before after done) → IfOk result (λ done. clean → IsCall p moment look_up before after (shown (lapsed p moment before)))
+    → IfOk result (λ done. clean → IsSettlement p moment at_most before after done) → IfOk result (λ done. clean → IsCall p moment look_up before after (shown (public_part p (lapsed p moment before))))
 settlement_answered clean p moment before after (Ok done) at_most step = λ taken. record {
   answered = refl;
   left = (step taken).unnoticed ∙ sym (lapses-on p (max moment before.clock) (max moment before.clock) (omega arith) before);
@@ -36,6 +37,6 @@ settlement_answered clean p moment before after (Ok done) at_most step = λ take
 settlement_answered clean p moment before after (Err e) at_most step = tt
 
 pub look_up_answered : {E X : Type 0} (lapses : ℕ → Registry → Registry) (clean : Type 0) (p : PolicyRules) (moment : ℕ) (before after : Registry) (result : Result X E) (find : Registry → X)
-    → IfOk result (λ found. clean → IsLookUp p find lapses moment before after found) → IfOk result (λ found. clean → IsCall p moment look_up before after (shown (lapsed p moment before)))
+    → IfOk result (λ found. clean → IsLookUp p find lapses moment before after found) → IfOk result (λ found. clean → IsCall p moment look_up before after (shown (public_part p (lapsed p moment before))))
 look_up_answered lapses clean p moment before after (Ok found) find step = λ taken. record { answered = refl; left = (step taken).left }
 look_up_answered lapses clean p moment before after (Err e) find step = tt

@@ -7,7 +7,7 @@ use Rattle.model.specs.WellFormed.{IsRegistry, last_clock}
 use Rattle.model.proofs.LapseLaws.{lapsed-is-settled}
 use Rattle.policy.specs.Rules.{PolicyRules, IsRegistrar, IsSound}
 use Rattle.policy.specs.Terms.{terms_of}
-use Rattle.isolation.specs.Runs.{Answer, IsCall, Question, command, date, look_up, order}
+use Rattle.isolation.specs.Runs.{Answer, IsCall, Question, command, date, inspection, look_up, order}
 use Rattle.isolation.proofs.RunLemmas.{calls-are-steps-of-two}
 use Rattle.protocol.specs.declared.command.Command.{Command}
 use Rattle.protocol.specs.declared.order.Order.{Order}
@@ -66,6 +66,7 @@ MayAsk p (command r c) = IsRegistrar p r × CanBeAsked c
 MayAsk p (order o) = Unit {0}
 MayAsk p date = Unit {0}
 MayAsk p look_up = Unit {0}
+MayAsk p inspection = Unit {0}
 
 module _ (p : PolicyRules) (sound : IsSound p) (moment : ℕ) (early : moment ≤ last_clock) where
   pub formed : (x : Question) → MayAsk p x → (before after : Registry) (a : Answer) → IsCall p moment x before after a → CallKeepsWellFormed p x before after
@@ -73,6 +74,7 @@ module _ (p : PolicyRules) (sound : IsSound p) (moment : ℕ) (early : moment �
   formed (order o) may before after a is = keeps-after-order p o moment early before after is.left
   formed date may before after a is = keeps-in-time p moment early before after is.left
   formed look_up may before after a is = keeps-in-time p moment early before after is.left
+  formed inspection may before after a is = keeps-in-time p moment early before after is.left
 
   -- ---- money
 
@@ -81,6 +83,7 @@ module _ (p : PolicyRules) (sound : IsSound p) (moment : ℕ) (early : moment �
   paid (order o) before after a is = subst (MoneyFollows p moment (now p before)) (sym is.left) (money-order-now p moment before o)
   paid date before after a is = subst (MoneyFollows p moment (now p before)) (sym is.left) (money-lapsed-now p moment before)
   paid look_up before after a is = subst (MoneyFollows p moment (now p before)) (sym is.left) (money-lapsed-now p moment before)
+  paid inspection before after a is = subst (MoneyFollows p moment (now p before)) (sym is.left) (money-lapsed-now p moment before)
 
   -- ---- all of it
 

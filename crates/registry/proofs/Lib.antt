@@ -8,5 +8,5 @@ pub mod CrashLemmas
 pub mod Answering
 pub mod CallsKept
 pub mod PassingSteps
-pub mod DomainsSteps
+pub mod PublicLemmas
 mod CallLemmas

@@ -2,6 +2,7 @@
 use Rattle.std.specs.Prelude.{◌≡◌, ℕ, Result, IfOk, OnOk}
 use Rattle.policy.specs.Rules.{PolicyRules}
 use Rattle.model.specs.Lapse.{lapsed}
+use Rattle.isolation.specs.Public.{public_part}
 use Rattle.isolation.specs.Runs.{Answer, Question, look_up, shown}
 use Rattle.registry.specs.declared.fault.Fault.{Fault}
 use Rattle.registry.specs.declared.fault.OpenFault.{OpenFault}
@@ -35,7 +36,7 @@ pub record CallKeeps {A : Type 0} (p : PolicyRules) (moment : ℕ) (x : Question
 -- of a call that looks something up, or lets objects lapse and tells nothing but how many
 abbrev pub LooksUpKeeping : {A : Type 0} → PolicyRules → ℕ → (Stored → Stored → Type 0)
     → Result A Fault → PolicyRules → BookState → BookState → Type 0
-LooksUpKeeping p moment makes result after old new = CallKeeps p moment look_up (λ found. shown (lapsed p moment old.content.registry)) makes result after old new
+LooksUpKeeping p moment makes result after old new = CallKeeps p moment look_up (λ found. shown (public_part p (lapsed p moment old.content.registry))) makes result after old new
 
 -- The same of a call inside, of which what is kept follows.
 pub record StepKeeps {A : Type 0} (p : PolicyRules) (makes : Stored → Stored → Type 0) (result : Result A Fault) (after : PolicyRules) (old new : BookState) : Type 0 where

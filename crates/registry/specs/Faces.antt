@@ -1,15 +1,12 @@
--- What everyone may know of a registry at a moment.
-use Rattle.std.specs.Prelude.{◌≡◌, ℕ, max, true, List, fold, Some, None}
-use Rattle.std.specs.Cmp.Lexicographic.{slice_cmp}
-use Rattle.std.specs.FinMap.{FinMap}
-use Rattle.std.specs.Ordering.{nat_cmp}
+-- What is looked up in a registry at a moment: what everybody may, and a registrar's account.
+use Rattle.std.specs.Prelude.{◌≡◌, ℕ, max, true, List, Some, None}
 use Rattle.concerns.specs.DueFor.{due_for}
 use Rattle.concerns.specs.Names.{named_by, named_of}
+use Rattle.isolation.specs.Public.{IsPublic}
 use Rattle.model.specs.DueBy.{due_by}
 use Rattle.model.specs.Lapse.{at, lapsed, now}
 use Rattle.model.specs.Registry.{Registry}
-use Rattle.objects.specs.declared.domain.DomainFace.{DomainFace}
-use Rattle.objects.specs.declared.host.HostFace.{HostFace}
+use Rattle.model.specs.Zone.{zone_data}
 use Rattle.objects.specs.declared.roid.ObjectKind.{ObjectKind}
 use Rattle.policy.specs.Rules.{PolicyRules}
 use Rattle.protocol.specs.declared.command.Command.{Command}
@@ -17,26 +14,13 @@ use Rattle.protocol.specs.declared.command.Command.TheVariants.{Asked}
 use Rattle.protocol.specs.declared.command.Request.TheVariants.{Balance}
 use Rattle.registry.specs.Lapsing.{dues_lapsed}
 use Rattle.books.specs.Book.{BookState}
-use Rattle.books.specs.Faces.{domain_faces, host_faces}
-
--- of all hosts and all domains, and the moment at which they are so
-pub record ZoneFaces : Type 0 where
-  pub moment : ℕ
-  pub hosts : FinMap (slice_cmp nat_cmp) HostFace
-  pub domains : FinMap (slice_cmp nat_cmp) DomainFace
-
--- at the registry's clock
-abbrev pub zone_faces_of : PolicyRules → Registry → ZoneFaces
-zone_faces_of p s = record { moment = s.clock; hosts = host_faces p s; domains = domain_faces p s }
+use Rattle.books.specs.Faces.{contact_face_at, domain_face_at, host_face_at}
 
 -- ---- what lapses before a look-up, where the clock is at a moment
 
--- what an info of the object concerns; the same of several names, one after another
+-- what an info of the object concerns
 abbrev pub lapsing_at : PolicyRules → ObjectKind → List ℕ → ℕ → Registry → Registry
 lapsing_at p kind name t s = dues_lapsed p t (due_for p None (named_of kind name) t s) s
-
-abbrev pub lapsing_each : PolicyRules → ObjectKind → List (List ℕ) → ℕ → Registry → Registry
-lapsing_each p kind names t s = fold (λ s name. lapsing_at p kind name t s) s names
 
 -- a registrar's question for its balance, which concerns what bears on its account
 abbrev pub balance_command : Command
@@ -65,3 +49,16 @@ abbrev pub LooksUp : {X : Type 0} → PolicyRules → (Registry → X) → (ℕ 
 LooksUp p find lapsing moment found old new =
     new.is_clean ≡ true
     → IsLookUp p find lapsing moment old.content.registry new.content.registry found
+
+-- ---- what everybody may look up
+
+-- What these find is read off the public part: the face under a name (RFC 9083, 5.1 to 5.3), and the
+-- data of the zone (RFC 1035, 5.1).
+pub record ArePublic (p : PolicyRules) : Type 0 where
+  pub domain : (name : List ℕ) → IsPublic p (λ s. domain_face_at p s name)
+  pub host : (name : List ℕ) → IsPublic p (λ s. host_face_at p s name)
+  pub contact : (name : List ℕ) → IsPublic p (λ s. contact_face_at s name)
+  pub zone : IsPublic p (zone_data p.zone)
+
+abbrev pub LookUpsArePublic : Type 0
+LookUpsArePublic = (p : PolicyRules) → ArePublic p

@@ -5,7 +5,7 @@ use Rattle.model.specs.Money.{MoneyFollows}
 use Rattle.model.specs.Registry.{Registry}
 use Rattle.model.specs.WellFormed.{IsRegistry}
 use Rattle.policy.specs.Rules.{PolicyRules}
-use Rattle.isolation.specs.Runs.{Question, command, date, look_up, order}
+use Rattle.isolation.specs.Runs.{Question, command, date, inspection, look_up, order}
 use Rattle.books.specs.Book.{BookState}
 
 -- what the registry is now follows from what it was
@@ -19,6 +19,7 @@ CallKeepsMoney p moment (command r c) before after =
 CallKeepsMoney p moment (order o) before after = KeepsMoney p moment before after
 CallKeepsMoney p moment date before after = KeepsMoney p moment before after
 CallKeepsMoney p moment look_up before after = KeepsMoney p moment before after
+CallKeepsMoney p moment inspection before after = KeepsMoney p moment before after
 
 -- of a book, if nothing wrong was taken from what keeps it
 abbrev pub BookKeepsMoney : PolicyRules → ℕ → Question → BookState → BookState → Type 0

@@ -5,7 +5,7 @@ use Rattle.model.specs.Registry.{Registry}
 use Rattle.model.specs.WellFormed.{HasNumbersLeft, IsRegistry}
 use Rattle.policy.specs.Rules.{PolicyRules}
 use Rattle.policy.specs.Terms.{terms_of}
-use Rattle.isolation.specs.Runs.{Question, command, date, look_up, order}
+use Rattle.isolation.specs.Runs.{Question, command, date, inspection, look_up, order}
 use Rattle.books.specs.Book.{BookState, Stored, nothing}
 
 -- A registrar's call on a well formed registry leaves one, where its numbers are far from the greatest.
@@ -40,6 +40,7 @@ CallKeepsWellFormed p (command r c) before after = StaysWellFormed p r before af
 CallKeepsWellFormed p (order o) before after = KeepsWellFormed p before after
 CallKeepsWellFormed p date before after = KeepsWellFormed p before after
 CallKeepsWellFormed p look_up before after = KeepsWellFormed p before after
+CallKeepsWellFormed p inspection before after = KeepsWellFormed p before after
 
 abbrev pub BookKeepsWellFormed : PolicyRules → Question → BookState → BookState → Type 0
 BookKeepsWellFormed p x old new =

@@ -1,26 +1,23 @@
 //! What can be looked up in a registry at a moment: what everyone may know, and a registrar's
 //! account.
-ghost use Rattle.std.specs.Prelude.{◌≡◌, true, map, Some};
+ghost use Rattle.std.specs.Prelude.{Some};
 ghost use Rattle.concerns.specs.Names.{named_by};
 ghost use Rattle.objects.specs.declared.roid.ObjectKind.TheVariants as kinds;
-ghost use Rattle.registry.specs.Faces.{IsLookUp, balance_command, lapsing_at, lapsing_each};
+ghost use Rattle.registry.specs.Faces.{IsLookUp, balance_command};
 ghost use Rattle.registry.specs.inner.FaceLaws as laws;
 ghost use Rattle.registry.specs.inner.Passing.{about, concerning, everything, lapsing};
-ghost use Rattle.registry.specs.inner.Steps.{Works};
 ghost use Rattle.model.specs.Registry.{account_of};
-ghost use Rattle.books.specs.Faces.{contact_face_at, domain_face_at, domain_names};
-ghost use Rattle.books.specs.Faces.{host_addresses_at, host_face_at};
+ghost use Rattle.model.specs.Zone.{zone_data};
+ghost use Rattle.books.specs.Faces.{contact_face_at, domain_face_at, host_face_at};
 
-use crate::passing::{Scope, catch_up, pass};
-use crate::transaction::or_rollback;
+use crate::passing::{Scope, pass};
 use crate::work::Work;
 use accounts::Lines;
-use basis::list::Seq;
 use basis::registrar::RegistrarNo;
 use basis::text::Text;
 use books::{Book, BookFault};
 use calendar::Moment;
-use objects::{ContactFace, DomainFace, HostFace, ObjectKind};
+use objects::{ContactFace, DomainFace, HostFace, ObjectKind, ZoneData};
 use policy::Policy;
 use std::alloc::Global;
 
@@ -124,47 +121,25 @@ impl LookUp for ContactAt<'_> {
     }
 }
 
-/// The names of all domains.
+/// What a zone has.
 #[derive(Clone, Copy, Drop)]
-pub(crate) struct DomainNames;
+pub(crate) struct Zoned;
 
-impl LookUp for DomainNames {
-    type Found = Seq<Text>;
+impl LookUp for Zoned {
+    type Found = ZoneData;
 
-    ghost finds = { λ _ p s. domain_names s };
+    ghost finds = { λ _ p s. zone_data p.zone s };
 
     ghost awaits = { λ _. everything };
 
-    ghost stands = { λ _ p s. laws.names-now p s };
+    ghost stands = { λ _ p s. laws.zone-now p s };
 
     fn scope(&self) -> Scope<'_> {
         Scope::All
     }
 
-    fn look<B: Book>(&self, book: &mut B, _: &Policy) -> Result<Seq<Text>, BookFault> {
-        book.domain_names()
-    }
-}
-
-/// The addresses of the host under a name.
-#[derive(Clone, Copy, Drop)]
-pub(crate) struct AddressesAt<'n>(pub &'n Text);
-
-impl LookUp for AddressesAt<'_> {
-    type Found = Option<Seq<Text>>;
-
-    ghost finds = { λ it p s. host_addresses_at s it.0.now };
-
-    ghost awaits = { λ it. about kinds.Host it.0.now };
-
-    ghost stands = { λ it p s _. laws.addresses-now p it.0.now s };
-
-    fn scope(&self) -> Scope<'_> {
-        Scope::Object(ObjectKind::Host, self.0)
-    }
-
-    fn look<B: Book>(&self, book: &mut B, _: &Policy) -> Result<Option<Seq<Text>>, BookFault> {
-        book.host_addresses(self.0)
+    fn look<B: Book>(&self, book: &mut B, policy: &Policy) -> Result<ZoneData, BookFault> {
+        book.zone_data(policy)
     }
 }
 
@@ -212,78 +187,4 @@ impl<L: LookUp> Work for LookUpWork<'_, L> {
         pass(book, alloc, &self.what.scope(), self.moment, policy)?;
         self.what.look(book, policy)
     }
-}
-
-/// The domain under each of these names, at a moment.
-#[derive(Drop)]
-pub(crate) struct DomainsWork<'n> {
-    pub names: &'n [Text],
-    pub moment: Moment,
-}
-
-impl Work for DomainsWork<'_> {
-    type Answer = Seq<Option<DomainFace>>;
-
-    ghost step = { λ it p. IsLookUp p (λ s. map (domain_face_at p s) it.names.now)
-        (lapsing_each p kinds.Domain it.names.now) it.moment };
-
-    fn work<B: Book>(
-        &self,
-        book: &mut B,
-        alloc: Global,
-        policy: &Policy,
-    ) -> Result<Seq<Option<DomainFace>>, BookFault> {
-        let now = pass(book, alloc, &Scope::Nothing, self.moment, policy)?;
-        domains_at(book, alloc, self.names, now, policy)
-    }
-}
-
-/// What everyone may know of the domain under each of these names, in an open transaction whose
-/// clock is at the moment: one after another lapses and is looked up.
-fn domains_at<B: Book>(
-    book: &mut B,
-    alloc: Global,
-    names: &[Text],
-    moment: Moment,
-    policy: &Policy,
-) -> Result<Seq<Option<DomainFace>>, BookFault>
-    requires opened { (B.state book.old).is_open ≡ true }
-    requires clock { (B.state book.old).is_clean ≡ true
-        → (B.state book.old).content.registry.clock ≡ moment }
-    ensures { Works result (IsLookUp policy.now (λ s. map (domain_face_at policy.now s) names.now)
-        (lapsing_each policy.now kinds.Domain names.now) moment)
-        (B.state book.old) (B.state book.new) }
-{
-    let mut faces = Seq::new(alloc);
-    for name in names {
-        let face = domain_at(book, alloc, name, moment, policy)?;
-        let pushed = faces.push(face);
-        or_rollback(book, pushed)?;
-    }
-    Ok(faces)
-}
-
-/// The same of one domain.
-fn domain_at<B: Book>(
-    book: &mut B,
-    alloc: Global,
-    name: &Text,
-    moment: Moment,
-    policy: &Policy,
-) -> Result<Option<DomainFace>, BookFault>
-    requires opened { (B.state book.old).is_open ≡ true }
-    requires clock { (B.state book.old).is_clean ≡ true
-        → (B.state book.old).content.registry.clock ≡ moment }
-    ensures { Works result (IsLookUp policy.now (λ s. domain_face_at policy.now s name.now)
-        (lapsing_at policy.now kinds.Domain name.now) moment)
-        (B.state book.old) (B.state book.new) }
-{
-    catch_up(
-        book,
-        alloc,
-        &Scope::Object(ObjectKind::Domain, name),
-        moment,
-        policy,
-    )?;
-    book.domain_face(name, policy)
 }

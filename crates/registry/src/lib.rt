@@ -9,6 +9,7 @@ mod faces;
 mod fault;
 mod greeting;
 mod lapse;
+mod laws;
 mod opening;
 mod order;
 mod passing;
@@ -18,4 +19,5 @@ mod transaction;
 mod work;
 
 pub use fault::{Fault, OpenFault};
+pub use laws::look_ups_are_public;
 pub use registry::Registry;

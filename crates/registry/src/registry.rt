@@ -1,5 +1,5 @@
 //! The registry.
-ghost use Rattle.std.specs.Prelude.{◌≡◌, ◌≢◌, ◌<◌, nat_lt, true, false, ◌↔◌, map};
+ghost use Rattle.std.specs.Prelude.{◌≡◌, ◌≢◌, ◌<◌, nat_lt, true, false, ◌↔◌};
 ghost use Rattle.std.specs.Prelude.{IfOk, IfErr, Err, Some};
 ghost use Rattle.std.proofs.Props.{props};
 ghost use Rattle.std.specs.Coded.{codes};
@@ -13,20 +13,18 @@ ghost use Rattle.registry.specs.Execution.{Fails, Greets, Isolates, OrderSteps, 
 ghost use Rattle.registry.specs.Execution.{last_call};
 ghost use Rattle.registry.specs.Execution.{IsGreetingStep, IsOrderStep, IsSettlement, IsStep};
 ghost use Rattle.registry.specs.Faces.{IsLookUp, LooksUp};
-ghost use Rattle.registry.specs.Faces.{lapsing_all, lapsing_at, lapsing_each, lapsing_of};
+ghost use Rattle.registry.specs.Faces.{lapsing_all, lapsing_at, lapsing_of};
 ghost use Rattle.registry.specs.inner.Passing.{lapsing};
 ghost use Rattle.objects.specs.declared.roid.ObjectKind.TheVariants as kinds;
 ghost use Rattle.registry.specs.Opening.{KeepsLengths, OpensAsItWas};
 ghost use Rattle.registry.specs.Sound.{BeginAfter-prop};
 ghost use Rattle.model.specs.Registry.{account_of};
-ghost use Rattle.books.specs.Faces.{contact_face_at, domain_face_at, domain_names};
-ghost use Rattle.books.specs.Faces.{host_addresses_at, host_face_at};
+ghost use Rattle.model.specs.Zone.{zone_data};
+ghost use Rattle.books.specs.Faces.{contact_face_at, domain_face_at, host_face_at};
 
 use crate::askable::can_be_asked;
 use crate::command::CommandWork;
-use crate::faces::{
-    AddressesAt, ContactAt, DomainAt, DomainNames, DomainsWork, HostAt, LinesOf, LookUp, LookUpWork,
-};
+use crate::faces::{ContactAt, DomainAt, HostAt, LinesOf, LookUp, LookUpWork, Zoned};
 use crate::fault::{Fault, OpenFault};
 use crate::greeting::GreetingWork;
 use crate::opening::open_in;
@@ -34,13 +32,12 @@ use crate::order::OrderWork;
 use crate::settlement::SettlementWork;
 use crate::work::{Work, keep};
 use accounts::Lines;
-use basis::list::Seq;
 use basis::registrar::RegistrarNo;
 use basis::text::Text;
 use books::Book;
 use calendar::Moment;
 use names::{DomainName, HostName};
-use objects::{ContactFace, DomainFace, HostFace};
+use objects::{ContactFace, DomainFace, HostFace, ZoneData};
 use policy::Policy;
 use protocol::{Code, Command, Order, Reply};
 use std::alloc::Global;
@@ -270,68 +267,21 @@ impl<B: Book + Drop> Registry<B> {
         self.look_up(&ContactAt(name), moment)
     }
 
-    /// The names of all domains at a moment, in their order.
-    pub fn domain_names(&mut self, moment: Moment) -> Result<Seq<Text>, Fault>
-        ensures step { IfOk result (λ found. LooksUp self.old.policy domain_names
-            (lapsing_all self.old.policy) moment found
-            (B.state self.old.book) (B.state self.new.book)) }
-        ensures fault { IfErr result (λ fault. Fails fault (B.state self.old.book)
-            (B.state self.new.book)) }
-        ensures keeps { LooksUpKeeping self.old.policy moment
-            (Makes (IsLookUp self.old.policy domain_names (lapsing_all self.old.policy) moment))
-            result
-            self.new.policy (B.state self.old.book) (B.state self.new.book) }
-        ensures late { (result ≡ Err Fault.Moment) ↔ (last_call < moment) }
-    {
-        self.look_up(&DomainNames, moment)
-    }
-
-    /// What everyone may know of the domain under each of these names, in their order. They are
-    /// looked up one after another in one transaction, so all of them are held at once.
-    #[tactic(auto, using(crate::proofs::CallsKept::kept_late))]
-    pub fn listed_domains(
-        &mut self,
-        names: &[Text],
-        moment: Moment,
-    ) -> Result<Seq<Option<DomainFace>>, Fault>
+    /// What a zone has at a moment; a moment before the clock counts as the clock. All that is due
+    /// lapses first.
+    pub fn zone_data(&mut self, moment: Moment) -> Result<ZoneData, Fault>
         ensures step { IfOk result (λ found. LooksUp self.old.policy
-            (λ s. map (domain_face_at self.old.policy s) names.now)
-            (lapsing_each self.old.policy kinds.Domain names.now) moment found
+            (zone_data self.old.policy.zone) (lapsing_all self.old.policy) moment found
             (B.state self.old.book) (B.state self.new.book)) }
         ensures fault { IfErr result (λ fault. Fails fault (B.state self.old.book)
             (B.state self.new.book)) }
         ensures keeps { LooksUpKeeping self.old.policy moment
-            (Makes (IsLookUp self.old.policy
-            (λ s. map (domain_face_at self.old.policy s) names.now)
-            (lapsing_each self.old.policy kinds.Domain names.now) moment)) result
+            (Makes (IsLookUp self.old.policy (zone_data self.old.policy.zone)
+            (lapsing_all self.old.policy) moment)) result
             self.new.policy (B.state self.old.book) (B.state self.new.book) }
         ensures late { (result ≡ Err Fault.Moment) ↔ (last_call < moment) }
     {
-        if is_late(moment) {
-            return Err(Fault::Moment);
-        }
-        self.transact(&DomainsWork { names, moment })
-    }
-
-    /// The addresses of the host under a name.
-    pub fn host_addresses(
-        &mut self,
-        name: &Text,
-        moment: Moment,
-    ) -> Result<Option<Seq<Text>>, Fault>
-        ensures step { IfOk result (λ found. LooksUp self.old.policy
-            (λ s. host_addresses_at s name.now)
-            (lapsing_at self.old.policy kinds.Host name.now) moment found
-            (B.state self.old.book) (B.state self.new.book)) }
-        ensures fault { IfErr result (λ fault. Fails fault (B.state self.old.book)
-            (B.state self.new.book)) }
-        ensures keeps { LooksUpKeeping self.old.policy moment
-            (Makes (IsLookUp self.old.policy (λ s. host_addresses_at s name.now)
-            (lapsing_at self.old.policy kinds.Host name.now) moment)) result
-            self.new.policy (B.state self.old.book) (B.state self.new.book) }
-        ensures late { (result ≡ Err Fault.Moment) ↔ (last_call < moment) }
-    {
-        self.look_up(&AddressesAt(name), moment)
+        self.look_up(&Zoned, moment)
     }
 
     /// The lines of a registrar's account at a moment: none where it was never opened. What

@@ -10,7 +10,7 @@ use Rattle.policy.specs.Rules.{PolicyRules, IsSound}
 use Rattle.registry.proofs.CallsKept.{formed, paid}
 use Rattle.decisions.proofs.MoneyLaws.{money-lapsed}
 use Rattle.decisions.proofs.RegistryLemmas.{registry-lapsed}
-use Rattle.isolation.specs.Runs.{Answer, IsCall, Question, command, date, look_up, order}
+use Rattle.isolation.specs.Runs.{Answer, IsCall, Question, command, date, inspection, look_up, order}
 use Rattle.runs.specs.Runs.{Taken, Turn, AreTurns, IsAskedIn, IsTurn, call, calls_of, moment_of, settlement}
 use Rattle.runs.specs.RunLaws.{RunsKeepMoney, RunsKeepRegistries}
 
@@ -19,6 +19,7 @@ call-keeps p sound moment early (command r c) a before after asked called is = f
 call-keeps p sound moment early (order o) a before after asked called is = formed p sound moment early (order o) tt before after a called is
 call-keeps p sound moment early date a before after asked called is = formed p sound moment early date tt before after a called is
 call-keeps p sound moment early look_up a before after asked called is = formed p sound moment early look_up tt before after a called is
+call-keeps p sound moment early inspection a before after asked called is = formed p sound moment early inspection tt before after a called is
 
 turn-keeps : (p : PolicyRules) → IsSound p → (turn : Turn) (before after : Registry) → IsTurn p turn before after → IsRegistry p (now p before) → IsRegistry p (now p after)
 turn-keeps p sound (call moment q a) before after taken is = call-keeps p sound moment taken.0 q a before after taken.1 taken.2 is
@@ -36,6 +37,7 @@ call-follows p sound moment early (command r c) a before after called is = paid 
 call-follows p sound moment early (order o) a before after called is = paid p sound moment early (order o) before after a called
 call-follows p sound moment early date a before after called is = paid p sound moment early date before after a called
 call-follows p sound moment early look_up a before after called is = paid p sound moment early look_up before after a called
+call-follows p sound moment early inspection a before after called is = paid p sound moment early inspection before after a called
 
 turn-early : (p : PolicyRules) (turn : Turn) (before after : Registry) → IsTurn p turn before after → moment_of turn ≤ last_clock
 turn-early p (call moment q a) before after taken = taken.0

@@ -16,7 +16,8 @@ use Rattle.registry.specs.Execution.{Fails, Greets, IsGreetingStep, IsOrderStep,
 use Rattle.registry.specs.Faces.{IsLookUp, LooksUp}
 use Rattle.registry.specs.Opening.{Opens, Refuses}
 use Rattle.runs.specs.Crashes.{Call, Event, ComeTo, Happen, Happened, Happens, answered, asking, crash, gave_up, opening, refused, settling}
-use Rattle.isolation.specs.Runs.{command, date, look_up, order}
+use Rattle.isolation.specs.Public.{IsPublic}
+use Rattle.isolation.specs.Runs.{command, date, inspection, look_up, order}
 use Rattle.books.specs.Book.{BookState, Follows, LeavesItself, Stored, may_leave}
 use Rattle.books.specs.Reopening.{IsTakenUp, LeavesFound}
 use Rattle.states.specs.States.{Remains}
@@ -84,13 +85,23 @@ GreetingsAreEvents =
     → IsCarriedOut p result (Makes (IsGreetingStep p moment)) old new
     → Happens (event_of result (asking p moment date)) old new
 
+-- where what is found is read off the public part
 abbrev pub LookUpsAreEvents : Type 0 → Type 0
 LookUpsAreEvents X =
+    (p : PolicyRules) (find : Registry → X) (lapsing : ℕ → Registry → Registry) (moment : ℕ)
+    (result : Result X Fault) (old new : BookState) → IsPublic p find
+    → IfOk result (λ found. LooksUp p find lapsing moment found old new)
+    → IsCarriedOut p result (Makes (IsLookUp p find lapsing moment)) old new
+    → Happens (event_of result (asking p moment look_up)) old new
+
+-- whatever is found, as the lines of an account
+abbrev pub InspectionsAreEvents : Type 0 → Type 0
+InspectionsAreEvents X =
     (p : PolicyRules) (find : Registry → X) (lapsing : ℕ → Registry → Registry) (moment : ℕ)
     (result : Result X Fault) (old new : BookState)
     → IfOk result (λ found. LooksUp p find lapsing moment found old new)
     → IsCarriedOut p result (Makes (IsLookUp p find lapsing moment)) old new
-    → Happens (event_of result (asking p moment look_up)) old new
+    → Happens (event_of result (asking p moment inspection)) old new
 
 abbrev pub SettlementsAreEvents : Type 0
 SettlementsAreEvents =

@@ -10,9 +10,11 @@ use Rattle.protocol.specs.declared.command.Command.{Command}
 use Rattle.protocol.specs.declared.order.Order.{Order}
 use Rattle.protocol.specs.declared.reply.Reply.{Reply}
 use Rattle.registry.specs.Execution.{IsGreetingStep, IsOrderStep, IsStep}
+use Rattle.registry.specs.Faces.{IsLookUp}
 use Rattle.isolation.specs.Alike.{Pair, AreAlike, firsts, seconds}
 use Rattle.isolation.specs.Laws.{none}
-use Rattle.isolation.specs.Runs.{Answer, IsCall, Question, code, command, date, dated, look_up, order, reply, shown}
+use Rattle.isolation.specs.Public.{IsPublic, PublicPart, public_part}
+use Rattle.isolation.specs.Runs.{Answer, IsCall, Question, code, command, date, dated, inspected, inspection, look_up, order, reply, shown}
 use Rattle.runs.specs.Runs.{Taken, Turn, AreTurns, IsLater, IsRun, IsSettledRun, answers_of, calls_of, questions_of, settles_last, told_of}
 
 -- ---- the steps of the registry's calls are calls of a run
@@ -32,12 +34,23 @@ GreetingsAreCalls =
     (p : PolicyRules) (moment : ℕ) (before after : Registry) (a : ℕ)
     → IsGreetingStep p moment before after a → IsCall p moment date before after (dated a)
 
--- A look-up finds what it looks for in the registry at its moment, and leaves that one.
-abbrev pub LookUpsAreCalls : Type 0
-LookUpsAreCalls =
-    (p : PolicyRules) (moment : ℕ) (before after : Registry)
-    → now p after ≡ now p (lapsed p moment before)
-    → IsCall p moment look_up before after (shown (lapsed p moment before))
+-- A look-up of what everybody may know is answered by the public part, off which its find is read.
+abbrev pub LookUpsAreCalls : Type 0 → Type 0
+LookUpsAreCalls X =
+    (p : PolicyRules) (find : Registry → X) (lapsing : ℕ → Registry → Registry) (moment : ℕ)
+    (before after : Registry) (found : X) (public : IsPublic p find)
+    → IsLookUp p find lapsing moment before after found
+    → (part : PublicPart) × IsCall p moment look_up before after (shown part)
+    × (found ≡ public.0 part)
+
+-- Any other is an inspection, and its find is one in the registry at its moment.
+abbrev pub InspectionsAreCalls : Type 0 → Type 0
+InspectionsAreCalls X =
+    (p : PolicyRules) (find : Registry → X) (lapsing : ℕ → Registry → Registry) (moment : ℕ)
+    (before after : Registry) (found : X)
+    → IsLookUp p find lapsing moment before after found
+    → (all : Registry) × IsCall p moment inspection before after (inspected all)
+    × (found ≡ find all)
 
 -- ---- settlements
 
@@ -98,3 +111,11 @@ AlikeRunsTellTheSame =
     (p : PolicyRules) (r : ℕ) (pairs : List (ℕ × Pair)) (xs ys : List Answer) (s x y : Registry) → AreAlike p r none pairs s s
     → IsRun p (firsts pairs) xs s x → IsRun p (seconds pairs) ys s y
     → told_of r (firsts pairs) xs ≡ told_of r (seconds pairs) ys
+
+-- And they leave, at any moment, what everybody may look up the same.
+abbrev pub AlikeRunsShowTheSame : Type 0
+AlikeRunsShowTheSame =
+    (p : PolicyRules) (r : ℕ) (pairs : List (ℕ × Pair)) (xs ys : List Answer) (s x y : Registry)
+    (moment : ℕ) → AreAlike p r none pairs s s
+    → IsRun p (firsts pairs) xs s x → IsRun p (seconds pairs) ys s y
+    → public_part p (lapsed p moment x) ≡ public_part p (lapsed p moment y)

@@ -4,7 +4,7 @@ use Rattle.model.specs.Lapse.{lapse, now}
 use Rattle.model.specs.Registry.{Registry}
 use Rattle.model.specs.WellFormed.{HasNumbersLeft, last_clock}
 use Rattle.policy.specs.Rules.{PolicyRules, IsRegistrar}
-use Rattle.isolation.specs.Runs.{Answer, IsCall, Question, command, date, is_asked_by, look_up, order}
+use Rattle.isolation.specs.Runs.{Answer, IsCall, Question, command, date, inspection, is_asked_by, look_up, order}
 use Rattle.registry.specs.Execution.{IsSettlement}
 use Rattle.decisions.specs.Askable.{CanBeAsked}
 
@@ -76,6 +76,7 @@ IsAskedIn p (command r c) before = IsRegistrar p r × CanBeAsked c × HasNumbers
 IsAskedIn p (order o) before = Unit {0}
 IsAskedIn p date before = Unit {0}
 IsAskedIn p look_up before = Unit {0}
+IsAskedIn p inspection before = Unit {0}
 
 -- no call is later than the last moment
 abbrev pub IsTurn : PolicyRules → Turn → Registry → Registry → Type 0

@@ -22,7 +22,8 @@ pub fn calls_are_events()
     ensures taken { spec.TakenLeaveFound }
 {}
 
-/// So is each look-up, whatever it looks for.
+/// So is each look-up: of what everybody may know as such, and of whatever else as an inspection.
 pub fn look_ups_are_events<X>()
-    ensures { spec.LookUpsAreEvents X }
+    ensures look_ups { spec.LookUpsAreEvents X }
+    ensures inspections { spec.InspectionsAreEvents X }
 {}

@@ -6,7 +6,13 @@ pub fn calls_make_runs()
     ensures commands { spec.CommandsAreCalls }
     ensures orders { spec.OrdersAreCalls }
     ensures greetings { spec.GreetingsAreCalls }
-    ensures look_ups { spec.LookUpsAreCalls }
+{}
+
+/// So is each look-up. One of what everybody may know tells something of the public part; any other is an
+/// inspection, which no registrar makes.
+pub fn look_ups_make_runs<X>()
+    ensures look_ups { spec.LookUpsAreCalls X }
+    ensures inspections { spec.InspectionsAreCalls X }
 {}
 
 /// Settlements in a run, none of them later than the call that follows, change no answer and nothing
@@ -26,8 +32,9 @@ pub fn runs_keep_money()
 {}
 
 /// Take two runs from one registry on, in which others gave their objects different secrets or data, or
-/// paid different sums. They answer a registrar alike, as long as it presents no right secret of such an
-/// object.
+/// paid different sums. They answer a registrar alike, look-ups included, as long as it presents no right
+/// secret of such an object. Afterwards everybody may look up the same in both.
 pub fn alike_runs_tell_the_same()
-    ensures { spec.AlikeRunsTellTheSame }
+    ensures told { spec.AlikeRunsTellTheSame }
+    ensures public { spec.AlikeRunsShowTheSame }
 {}

@@ -7,5 +7,6 @@ mod laws;
 
 pub use crashes::{calls_are_events, crashes_leave_runs, look_ups_are_events};
 pub use laws::{
-    alike_runs_tell_the_same, calls_make_runs, runs_keep_money, settlements_go_unnoticed,
+    alike_runs_tell_the_same, calls_make_runs, look_ups_make_runs, runs_keep_money,
+    settlements_go_unnoticed,
 };

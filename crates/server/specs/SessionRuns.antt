@@ -9,7 +9,7 @@ use Rattle.eppwire.specs.Answers.{Tells, caller_of, greeting_outcome, login_code
 use Rattle.model.specs.Lapse.{now}
 use Rattle.model.specs.Registry.{Registry}
 use Rattle.policy.specs.Rules.{PolicyRules}
-use Rattle.isolation.specs.Runs.{Answer, Question, code, command, date, dated, reply, shown}
+use Rattle.isolation.specs.Runs.{Answer, Question, code, command, date, dated, inspected, reply, shown}
 use Rattle.protocol.specs.declared.session.BeforeLogin.{BeforeLogin}
 use Rattle.protocol.specs.declared.session.BeforeLogin.TheVariants as before
 use Rattle.protocol.specs.declared.session.InSession.{InSession}
@@ -66,7 +66,8 @@ abbrev pub outcome_told : Answer → Outcome
 outcome_told (reply it) = reply_outcome it
 outcome_told (dated moment) = greeting_outcome moment
 outcome_told (code it) = failed
-outcome_told (shown s) = failed
+outcome_told (shown part) = failed
+outcome_told (inspected s) = failed
 
 abbrev pub first_told : List Answer → Outcome
 first_told [] = failed

@@ -1,6 +1,6 @@
 //! The protocol that the first byte of a connection shows, and what everyone can learn.
 ghost use Rattle.server.specs.Connections.{FramesBeginConnections};
-ghost use Rattle.server.specs.Public.{PublicTextsAgree};
+ghost use Rattle.server.specs.Public.{PublicPartsLookSame, PublicTextsAgree};
 ghost use Rattle.server.specs.SessionRuns.{SessionsAreAlike, SessionsAreAnswered, SessionsAreRuns, SessionsAreSentTheSame};
 
 /// Every frame begins a connection of EPP, so none is taken for another protocol.
@@ -10,9 +10,10 @@ pub fn frames_begin_connections()
 
 /// Two registries of which everyone may know the same at a moment give the same answers over HTTP and
 /// the same zone, byte for byte. So nothing else is in them: no mail, no postal data, no secret, and
-/// nothing of an account.
+/// nothing of an account. Two registries of one public part are such.
 pub fn public_texts_agree()
-    ensures { PublicTextsAgree }
+    ensures texts { PublicTextsAgree }
+    ensures parts { PublicPartsLookSame }
 {}
 
 /// A session is the frames of its input at the moments of its clock, answered one after another, and they are

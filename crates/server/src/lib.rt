@@ -10,7 +10,6 @@ mod closing;
 mod connection;
 mod http;
 mod laws;
-mod lent;
 mod zone;
 
 pub use at_moment::AtMoment;

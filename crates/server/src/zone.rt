@@ -1,14 +1,15 @@
 //! The zone of a registry, as an office hands it to its name servers.
 ghost use Rattle.std.specs.Prelude.{◌≡◌, true, OnOk, OnErr};
 ghost use Rattle.std.specs.Io.KnownBytes.{Appends};
-ghost use Rattle.server.specs.HandOver.{serial_of, zone_at, zone_with};
+ghost use Rattle.server.specs.HandOver.{serial_of, text_of, zone_at};
 ghost use Rattle.server.specs.Http.{Passes};
 ghost use Rattle.server.specs.declared.zone.ZoneExportFault.TheVariants as faults;
 ghost use Rattle.zonefile.specs.ZoneText.{AppendsBeginning};
 
-use crate::lent::LentAtMoment;
 use books::Book;
 use calendar::Moment;
+use objects::ZoneData;
+use policy::Policy;
 use registry::{Fault, Registry};
 use std::alloc::Global;
 use std::io::Write;
@@ -58,28 +59,24 @@ pub fn zone_on<B: Book + Drop, W: Write>(
         (B.state registry.new.book) }
     ensures policy { registry.new.policy ≡ registry.old.policy }
 {
-    let clock = registry.greet(moment)?;
-    write_at(alloc, registry, moment, serial_of(clock), writer)
+    let zone = registry.zone_data(moment)?;
+    write_data(alloc, registry.policy(), &zone, writer)?;
+    Ok(())
 }
 
-/// Writes the zone of a registry at a moment, with a serial number.
-fn write_at<B: Book + Drop, W: Write>(
+/// Writes the zone of this data. Its serial number is the moment of the data.
+fn write_data<W: Write>(
     alloc: Global,
-    registry: &mut Registry<B>,
-    moment: Moment,
-    serial: u32,
+    policy: &Policy,
+    zone: &ZoneData,
     writer: &mut W,
-) -> Result<(), ZoneExportFault>
-    ensures written { OnOk result ((B.state registry.new.book).is_clean ≡ true
-        → Appends (W.contents writer.old) (W.contents writer.new) (zone_with registry.old.policy moment serial (B.state registry.old.book).content.registry)) }
-    ensures begun { OnErr result ((B.state registry.new.book).is_clean ≡ true
-        → AppendsBeginning (W.contents writer.old) (W.contents writer.new) (zone_with registry.old.policy moment serial (B.state registry.old.book).content.registry)) }
-    ensures passes { Passes registry.old.policy moment (B.state registry.old.book)
-        (B.state registry.new.book) }
-    ensures policy { registry.new.policy ≡ registry.old.policy }
+) -> Result<(), ZoneFault>
+    ensures written { OnOk result (Appends (W.contents writer.old) (W.contents writer.new)
+        (text_of policy.now zone.now)) }
+    ensures begun { OnErr result (AppendsBeginning (W.contents writer.old) (W.contents writer.new)
+        (text_of policy.now zone.now)) }
 {
-    let mut source = LentAtMoment { registry, moment };
-    write_zone(alloc, &mut source, serial, writer)
+    write_zone(alloc, policy, serial_of(zone.moment), zone, writer)
 }
 
 /// How many serial numbers there are (RFC 1982, 3).

@@ -6,6 +6,7 @@ use Rattle.facts.specs.Facts.{superordinate_of_domain}
 use Rattle.lifecycle.specs.Phases.{phase}
 use Rattle.model.specs.Lapse.{now}
 use Rattle.model.specs.Registry.{Registry, account_of}
+use Rattle.model.specs.Zone.{zone_data}
 use Rattle.names.specs.Zone.{last_two_of}
 use Rattle.objects.specs.declared.contact.Contact.{Contact}
 use Rattle.objects.specs.declared.domain.Domain.{Domain}
@@ -21,7 +22,7 @@ use Rattle.concerns.specs.Names.{named_by, named_of}
 use Rattle.concerns.proofs.ConcernLemmas.{in-filter_map, in-itself}
 use Rattle.concerns.proofs.FactsLemmas.{account-now, contact-at, contact-linked, domain-at, graces-now, host-linked}
 use Rattle.registry.specs.Faces.{balance_command}
-use Rattle.books.specs.Faces.{contact_face_at, domain_face, domain_face_at, domain_names, host_addresses_at, host_face_at}
+use Rattle.books.specs.Faces.{contact_face_at, domain_face, domain_face_at, host_face_at}
 use Rattle.rules.specs.ResponseData.{host_info, with_shown_link}
 
 module _ (p : PolicyRules) (name : List ℕ) (u : Registry) where
@@ -42,12 +43,9 @@ module _ (p : PolicyRules) (name : List ℕ) (u : Registry) where
       above None e = refl
       above (Some n) e = ap (option_map superordinate_of_domain) (domain-at p None (named_of kinds.Host name) u is n (in-filter_map last_two_of n name (name ∷ []) (in-itself name []) e))
 
-  pub addresses-now : host_addresses_at (now p u) name ≡ host_addresses_at u name
-  addresses-now = refl
-
-pub names-now : (p : PolicyRules) (u : Registry) → now p u ≡ u
-    → domain_names (now p u) ≡ domain_names u
-names-now p u is = ap domain_names is
+pub zone-now : (p : PolicyRules) (u : Registry) → now p u ≡ u
+    → zone_data p.zone (now p u) ≡ zone_data p.zone u
+zone-now p u is = ap (zone_data p.zone) is
 
 pub lines-now : (p : PolicyRules) (r : ℕ) (u : Registry)
     → IsSettledIn p (concerned (Some r) (named_by balance_command) u) u

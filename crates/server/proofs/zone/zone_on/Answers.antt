@@ -1,39 +1,57 @@
-use Rattle.std.proofs.Common.{ℕ, ap, ◌∙◌, subst}
-use Rattle.std.proofs.lemmas.Result.{on_err_weaker, on_ok_weaker}
+use Rattle.std.proofs.Common.{◌≡◌, ℕ, true, ◌∙◌, subst}
+use Rattle.std.proofs.KnownBytes.{Appends-nil}
 use Rattle.std.specs.Io.KnownBytes.{Appends}
+use Rattle.model.specs.Registry.{Registry}
+use Rattle.model.specs.Zone.{zone_data}
+use Rattle.objects.specs.declared.zone.ZoneData.{ZoneData}
 use Rattle.policy.specs.Rules.{PolicyRules}
-use Rattle.server.specs.HandOver.{zone_with}
-use Rattle.server.specs.Http.{Passes}
+use Rattle.registry.specs.Faces.{LooksUp}
+use Rattle.streams.proofs.MoveLemmas.{OnErr-from}
+use Rattle.server.specs.HandOver.{text_of, zone_at}
 use Rattle.books.specs.Book.{BookState}
 use Rattle.zonefile.specs.ZoneText.{AppendsBeginning}
-use Rattle.server.proofs.LentLemmas.{greeted, passes_on, zone_then}
+use Rattle.server.proofs.HttpLemmas.{passes_by}
 use Rattle.server.proofs.zone.zone_on.Goals as goal
 
-pub returns-clause-written : goal.returns-clause-written
-returns-clause-written g c = on_ok_weaker c.write_at.result (λ wrote clean.
-    let p : PolicyRules = c.args.registry.now.policy in
-    let q : PolicyRules = c.greet.new.self.policy in
-    let old : BookState = g.B.Book.state c.args.registry.now.book in
-    let between : BookState = g.B.Book.state c.greet.new.self.book in
-    let is = ap (λ (n : ℕ). zone_with q c.args.moment n between.content.registry) c.serial_of.ensures
-    ∙ zone_then p q c.args.moment c.in_ok-clock.clock old between c.greet.ensures.keeps.policy c.in_ok-clock.ensures.step (c.write_at.ensures.passes.follows.clean clean) in
-    subst (Appends _ _) is (wrote clean)) c.write_at.ensures.written
+-- the text of what was found is that of the zone at the moment
+text_is : (lapses : ℕ → Registry → Registry) (p q : PolicyRules) (moment : ℕ) (zone : ZoneData) (old new : BookState) → q ≡ p → LooksUp p (zone_data p.zone) lapses moment zone old new → new.is_clean ≡ true
+    → text_of q zone ≡ zone_at p moment old.content.registry
+text_is lapses p q moment zone old new same found clean = λ i. text_of (same i) ((found clean).told i)
 
-pub returns-clause-begun : goal.returns-clause-begun
-returns-clause-begun g c = on_err_weaker c.write_at.result (λ begun clean.
+pub returns-in_err-zone-clause-begun : goal.returns-in_err-zone-clause-begun
+returns-in_err-zone-clause-begun g c = OnErr-from c.from_residual.result (λ clean. (0, Appends-nil _))
+
+pub returns-in_err-zone-clause-passes : goal.returns-in_err-zone-clause-passes
+returns-in_err-zone-clause-passes g c =
     let p : PolicyRules = c.args.registry.now.policy in
-    let q : PolicyRules = c.greet.new.self.policy in
     let old : BookState = g.B.Book.state c.args.registry.now.book in
-    let between : BookState = g.B.Book.state c.greet.new.self.book in
-    let is = ap (λ (n : ℕ). zone_with q c.args.moment n between.content.registry) c.serial_of.ensures
-    ∙ zone_then p q c.args.moment c.in_ok-clock.clock old between c.greet.ensures.keeps.policy c.in_ok-clock.ensures.step (c.write_at.ensures.passes.follows.clean clean) in
-    subst (AppendsBeginning _ _) is (begun clean)) c.write_at.ensures.begun
+    let new : BookState = g.B.Book.state c.zone_data.new.self.book in
+    passes_by _ p c.args.moment (zone_data p.zone) _ c.zone_data.result c.zone_data.new.self.policy old new c.zone_data.ensures.step c.zone_data.ensures.keeps c.zone_data.ensures.fault
+
+pub returns-in_err-write_data-clause-begun : goal.returns-in_err-write_data-clause-begun
+returns-in_err-write_data-clause-begun g c = OnErr-from c.from_residual-in_err-write_data.result (λ clean.
+    let p : PolicyRules = c.args.registry.now.policy in
+    let old : BookState = g.B.Book.state c.args.registry.now.book in
+    let new : BookState = g.B.Book.state c.zone_data.new.self.book in
+    subst (AppendsBeginning _ _) (text_is _ p c.policy.result.now c.args.moment c.in_ok-zone.zone old new (c.policy.ensures ∙ c.zone_data.ensures.keeps.policy) c.in_ok-zone.ensures.step clean) c.in_err-write_data.ensures.begun)
+
+pub returns-in_err-write_data-clause-passes : goal.returns-in_err-write_data-clause-passes
+returns-in_err-write_data-clause-passes g c =
+    let p : PolicyRules = c.args.registry.now.policy in
+    let old : BookState = g.B.Book.state c.args.registry.now.book in
+    let new : BookState = g.B.Book.state c.zone_data.new.self.book in
+    passes_by _ p c.args.moment (zone_data p.zone) _ c.zone_data.result c.zone_data.new.self.policy old new c.zone_data.ensures.step c.zone_data.ensures.keeps c.zone_data.ensures.fault
+
+pub returns-clause-written : goal.returns-clause-written
+returns-clause-written g c = λ clean.
+    let p : PolicyRules = c.args.registry.now.policy in
+    let old : BookState = g.B.Book.state c.args.registry.now.book in
+    let new : BookState = g.B.Book.state c.zone_data.new.self.book in
+    subst (Appends _ _) (text_is _ p c.policy.result.now c.args.moment c.in_ok-zone.zone old new (c.policy.ensures ∙ c.zone_data.ensures.keeps.policy) c.in_ok-zone.ensures.step clean) c.in_ok-write_data.ensures.written
 
 pub returns-clause-passes : goal.returns-clause-passes
 returns-clause-passes g c =
     let p : PolicyRules = c.args.registry.now.policy in
     let old : BookState = g.B.Book.state c.args.registry.now.book in
-    let between : BookState = g.B.Book.state c.greet.new.self.book in
-    let new : BookState = g.B.Book.state c.write_at.new.registry.book in
-    passes_on p c.args.moment old between new (greeted p c.args.moment c.in_ok-clock.clock old between c.in_ok-clock.ensures.step c.in_ok-clock.ensures.keeps.answered.terms c.greet.ensures.keeps.follows)
-    (subst (λ (r : PolicyRules). Passes r c.args.moment between new) c.greet.ensures.keeps.policy c.write_at.ensures.passes)
+    let new : BookState = g.B.Book.state c.zone_data.new.self.book in
+    passes_by _ p c.args.moment (zone_data p.zone) _ c.zone_data.result c.zone_data.new.self.policy old new c.zone_data.ensures.step c.zone_data.ensures.keeps c.zone_data.ensures.fault

@@ -1,4 +1,5 @@
 use Rattle.model.specs.Lapse.{lapsed}
+use Rattle.isolation.specs.Public.{public_part}
 use Rattle.isolation.specs.Runs.{look_up, shown}
 use Rattle.registry.specs.Crashes.{Makes}
 use Rattle.registry.specs.Execution.{IsSettlement}
@@ -12,5 +13,5 @@ returns-clause-keeps g c =
     let old = g.B.Book.state c.args.self.now.book in
     let new = g.B.Book.state c.transact.new.self.book in
     let p = c.args.self.now.policy in
-    call_kept p c.args.self.now.sound c.args.moment (taken c.is_late.result c.args.moment c.is_late.ensures c.if-is_late.false) look_up tt (λ found. shown (lapsed p c.args.moment old.content.registry)) (Makes (IsSettlement p c.args.moment c.args.at_most))
+    call_kept p c.args.self.now.sound c.args.moment (taken c.is_late.result c.args.moment c.is_late.ensures c.if-is_late.false) look_up tt (λ found. shown (public_part p (lapsed p c.args.moment old.content.registry))) (Makes (IsSettlement p c.args.moment c.args.at_most))
     c.transact.result c.transact.new.self.policy old new c.args.self.now.kept c.transact.ensures.keeps (settlement_answered _ p c.args.moment old.content.registry new.content.registry c.transact.result c.args.at_most c.transact.ensures.step)

@@ -1,0 +1,128 @@
+-- What everybody may look up is read off the public part.
+use Rattle.std.proofs.Common.{◌≡◌, ℕ, Bool, not, ◌&&◌, ◌||◌, cond, List, [], ◌∷◌, map, Option, Some, None, option_and_then, option_map, refl, sym, ap, ◌∙◌}
+use Rattle.std.specs.Prelude.{unwrap_or}
+use Rattle.std.specs.Cmp.Lexicographic.{slice_cmp, nat_list_cmp_total}
+use Rattle.std.specs.FinMap.{entries, get, keys, values}
+use Rattle.std.specs.List.{filter_map, list_any}
+use Rattle.std.specs.Ordering.{nat_cmp}
+use Rattle.basis.proofs.MapLemmas.{entries-map_values, get-map_values, map-twice, names_apart}
+use Rattle.books.specs.Faces.{contact_face_at, domain_face, domain_face_at, host_face_at}
+use Rattle.facts.specs.Facts.{is_inside, superordinate_of_domain}
+use Rattle.isolation.specs.Public.{PublicPart, public_part}
+use Rattle.model.specs.Registry.{Registry}
+use Rattle.model.specs.Zone.{delegations, glue_at, own_hosts, zone_data}
+use Rattle.names.specs.Zone.{ZoneRules, last_two_of}
+use Rattle.objects.specs.declared.contact.Contact.{Contact}
+use Rattle.objects.specs.declared.contact.ContactFace.{ContactFace}
+use Rattle.objects.specs.declared.domain.Domain.{Domain}
+use Rattle.objects.specs.declared.domain.DomainFace.{DomainFace}
+use Rattle.objects.specs.declared.domain.Links.{Links}
+use Rattle.objects.specs.declared.host.Host.{Host}
+use Rattle.objects.specs.declared.host.HostFace.{HostFace}
+use Rattle.objects.specs.declared.status.Status.TheVariants.{ClientHold, PendingDelete, ServerHold}
+use Rattle.objects.specs.declared.zone.Delegation.{Delegation}
+use Rattle.objects.specs.declared.zone.Glue.{Glue}
+use Rattle.objects.specs.declared.zone.ZoneData.{ZoneData}
+use Rattle.objects.specs.Contacts.{contact_face_of}
+use Rattle.objects.specs.Delegations.{delegation_of}
+use Rattle.objects.specs.Domains.{shows}
+use Rattle.objects.specs.Hosts.{host_face_of}
+use Rattle.objects.specs.Links.{names_contact, names_host}
+use Rattle.objects.specs.Statuses.{has_status}
+use Rattle.objects.proofs.StatusLemmas.{has_status-filter}
+use Rattle.policy.specs.Rules.{PolicyRules}
+use Rattle.registry.specs.Faces.{LookUpsArePublic}
+use Rattle.rules.specs.ResponseData.{with_shown_link}
+
+-- ---- read off the public part
+
+abbrev is_linked : (Links → Bool) → PublicPart → Bool
+is_linked test part = list_any (λ face. test face.links) (values part.domains)
+
+abbrev contact_read : List ℕ → PublicPart → Option ContactFace
+contact_read name part = option_map (with_shown_link (is_linked (names_contact name) part)) (get part.contacts name)
+
+-- the sponsor of the domain that a host is below
+abbrev sponsor_above : PublicPart → Option (List ℕ) → Option ℕ
+sponsor_above part above = option_map (λ face. face.sponsor) (option_and_then (get part.domains) above)
+
+abbrev host_read : PolicyRules → List ℕ → PublicPart → Host → HostFace
+host_read p name part h = host_face_of (unwrap_or (cond (is_inside p.zone name) (sponsor_above part (last_two_of name)) h.external_sponsor) 0) (is_linked (names_host name) part) h
+
+-- what the zone has of a domain, by the statuses that it shows
+abbrev delegation_read : DomainFace → Delegation
+delegation_read face = record { name = face.name; hosts = cond (not (has_status face.statuses ClientHold) && not (has_status face.statuses ServerHold) && not (has_status face.statuses PendingDelete)) face.links.hosts [] }
+
+abbrev delegations_read : PublicPart → List Delegation
+delegations_read part = map delegation_read (values part.domains)
+
+abbrev glue_read : PublicPart → List ℕ → Option Glue
+glue_read part name = option_map (λ addresses. record { host = name; addresses = addresses }) (option_map (λ h. h.addresses) (get part.hosts name))
+
+abbrev zone_read : ZoneRules → PublicPart → ZoneData
+zone_read zone part = record { moment = part.clock; delegations = delegations_read part; glue = filter_map (glue_read part) (keys (own_hosts zone (delegations_read part))) }
+
+-- ---- as it is found
+
+module _ (p : PolicyRules) (s : Registry) where
+  abbrev part : PublicPart
+  part = public_part p s
+
+  entries-read : entries part.domains ≡ map (λ (e : List ℕ × Domain). (e.0, domain_face p s e.1)) (entries s.domains)
+  entries-read = entries-map_values (slice_cmp nat_cmp) (λ name. domain_face p s) nat_list_cmp_total names_apart s.domains
+
+  domain-found : (name : List ℕ) → domain_face_at p s name ≡ get part.domains name
+  domain-found name = sym (get-map_values (slice_cmp nat_cmp) nat_list_cmp_total names_apart (λ name. domain_face p s) s.domains name)
+
+  linked-found : (test : Links → Bool) → list_any (λ d. test d.links) (values s.domains) ≡ is_linked test part
+  linked-found test = by (entries s.domains) ∙ sym (ap (λ (es : List (List ℕ × DomainFace)). list_any (λ face. test face.links) (map (λ (e : List ℕ × DomainFace). e.1) es)) entries-read)
+    where
+      by : (es : List (List ℕ × Domain)) → list_any (λ d. test d.links) (map (λ (e : List ℕ × Domain). e.1) es)
+          ≡ list_any (λ face. test face.links) (map (λ (e : List ℕ × DomainFace). e.1) (map (λ (e : List ℕ × Domain). (e.0, domain_face p s e.1)) es))
+      by [] = refl
+      by (e ∷ es) = ap (λ (b : Bool). test e.1.links || b) (by es)
+
+  contact-found : (name : List ℕ) → contact_face_at s name ≡ contact_read name part
+  contact-found name =
+      ap (λ (linked : Bool). option_map (λ (c : Contact). with_shown_link linked (contact_face_of c)) (get s.contacts name)) (linked-found (names_contact name))
+      ∙ sym (ap (option_map (with_shown_link (is_linked (names_contact name) part))) (get-map_values (slice_cmp nat_cmp) nat_list_cmp_total names_apart (λ name. contact_face_of) s.contacts name)
+      ∙ map-twice contact_face_of (with_shown_link (is_linked (names_contact name) part)) (λ c. with_shown_link (is_linked (names_contact name) part) (contact_face_of c)) (λ c. refl) (get s.contacts name))
+
+  above-found : (above : Option (List ℕ)) → option_map (λ it. it.sponsor) (option_and_then (λ name. option_map superordinate_of_domain (get s.domains name)) above) ≡ sponsor_above part above
+  above-found None = refl
+  above-found (Some name) =
+      map-twice superordinate_of_domain (λ it. it.sponsor) (λ d. d.sponsor) (λ d. refl) (get s.domains name)
+      ∙ sym (ap (option_map (λ face. face.sponsor)) (sym (domain-found name))
+      ∙ map-twice (domain_face p s) (λ face. face.sponsor) (λ d. d.sponsor) (λ d. refl) (get s.domains name))
+
+  host-found : (name : List ℕ) → host_face_at p s name ≡ option_map (host_read p name part) (get part.hosts name)
+  host-found name = λ i. option_map (λ (h : Host). host_face_of (unwrap_or (cond (is_inside p.zone name) (above-found (last_two_of name) i) h.external_sponsor) 0) (linked-found (names_host name) i) h) (get s.hosts name)
+
+  delegation-found : (d : Domain) → delegation_of d ≡ delegation_read (domain_face p s d)
+  delegation-found d = sym (λ i. record {
+    name = d.name;
+    hosts = cond (not (has_status-filter (shows d) ClientHold i) && not (has_status-filter (shows d) ServerHold i) && not (has_status-filter (shows d) PendingDelete i)) d.links.hosts [];
+  })
+
+  delegations-found : delegations s ≡ delegations_read part
+  delegations-found = by (entries s.domains) ∙ sym (ap (λ (es : List (List ℕ × DomainFace)). map delegation_read (map (λ (e : List ℕ × DomainFace). e.1) es)) entries-read)
+    where
+      by : (es : List (List ℕ × Domain)) → map delegation_of (map (λ (e : List ℕ × Domain). e.1) es)
+          ≡ map delegation_read (map (λ (e : List ℕ × DomainFace). e.1) (map (λ (e : List ℕ × Domain). (e.0, domain_face p s e.1)) es))
+      by [] = refl
+      by (e ∷ es) = λ i. delegation-found e.1 i ∷ by es i
+
+  zone-found : (zone : ZoneRules) → zone_data zone s ≡ zone_read zone part
+  zone-found zone = λ i. record {
+    moment = s.clock;
+    delegations = delegations-found i;
+    glue = filter_map (glue_at s) (keys (own_hosts zone (delegations-found i)));
+  }
+
+pub look-ups-are-public : LookUpsArePublic
+look-ups-are-public p = record {
+  domain = λ name. (λ part. get part.domains name, λ s. domain-found p s name);
+  host = λ name. (λ part. option_map (host_read p name part) (get part.hosts name), λ s. host-found p s name);
+  contact = λ name. (contact_read name, λ s. contact-found p s name);
+  zone = (zone_read p.zone, λ s. zone-found p s p.zone);
+}
