@@ -37,8 +37,8 @@ TOLD = ('python print("STATEMENT", bytes(gdb.selected_inferior().read_memory(int
 
 
 def names():
-    """The names of the texts, as the floor has them."""
-    return {text: f"{file.stem.upper()}_{name}" for file in SOURCES.glob("*.rt") for name, text in CONSTANT.findall(file.read_text())}
+    """The names of the texts, as the floor has them. A row that is there is replaced, where the floor puts it."""
+    return {text: f"{file.stem.upper()}_{name.replace('REPLACE', 'PUT')}" for file in SOURCES.glob("*.rt") for name, text in CONSTANT.findall(file.read_text())}
 
 
 def texts(program):
@@ -99,7 +99,7 @@ def ours(program, port):
     with tempfile.TemporaryDirectory() as folder:
         words = ["valgrind", "--quiet", "--tool=callgrind", "--compress-strings=no", "--compress-pos=no", "--instr-atstart=no",
                  f"--callgrind-out-file={folder}/callgrind", *(f"--dump-after={pattern}" for pattern in PATTERNS)]
-        server = subprocess.Popen([*words, program, "serve", shares.policy_of(folder), ":memory:", str(port)], stderr=subprocess.DEVNULL)
+        server = subprocess.Popen([*words, program, "serve", shares.policy_of(folder), ":memory:", str(port)], stdout=subprocess.DEVNULL, stderr=subprocess.DEVNULL)
         client = rows.Client(port, "alfa")
         client.send([make_script.CONTACT])
         client.send([make_script.create(at) for at in range(1, DOMAINS + 1)])

@@ -32,7 +32,7 @@ use Rattle.sqlbook.specs.Files.{AreTakenIn}
 use Rattle.sqlbook.specs.Meaning.{are_right}
 use Rattle.sqlbook.specs.AsBook.{are_all_right}
 use Rattle.bookfiles.specs.Restarts.{book_of}
-use Rattle.bookfiles.specs.Unopened.{FailuresGoUnnoticed, GivesBack, IsLeftAsFound, IsRefusedIn, RefusalsAreEvents, never, never_for, or_cause, or_database, unconnected}
+use Rattle.bookfiles.specs.Unopened.{FailuresGoUnnoticed, GivesBack, IsLeftAsFound, IsRefusedIn, RefusalsAreEvents, never_for, or_cause, or_database, unconnected}
 use Rattle.bookfiles.specs.declared.unopened.Unopened.{Unopened}
 use Rattle.bookfiles.specs.declared.unopened.Unopened.TheVariants.{Path, Files, Database, Book}
 use Rattle.bookfiles.proofs.RestartLemmas.{leaves-found, stops-are-crashes}
@@ -43,19 +43,19 @@ pub some-weaker : {A : Type 0} (o : Option A) (P Q : A → Type 0) → ((x : A) 
 some-weaker None P Q f it = tt
 some-weaker (Some x) P Q f it = f x it
 
-pub gives-back : {L W B : Type 0} (P P′ : L → Type 0) (Q Q′ : Unadopted → W → Type 0) (R R′ : OpenFault → B → Type 0)
-    → ((x : L) → P x → P′ x) → ((cause : Unadopted) (x : W) → Q cause x → Q′ cause x) → ((fault : OpenFault) (x : B) → R fault x → R′ fault x)
+pub gives-back : {L W B : Type 0} (P P′ : BookFault → L → Type 0) (Q Q′ : Unadopted → W → Type 0) (R R′ : OpenFault → B → Type 0)
+    → ((fault : BookFault) (x : L) → P fault x → P′ fault x) → ((cause : Unadopted) (x : W) → Q cause x → Q′ cause x) → ((fault : OpenFault) (x : B) → R fault x → R′ fault x)
     → (left : Unopened L W B) → GivesBack P Q R left → GivesBack P′ Q′ R′ left
 gives-back P P′ Q Q′ R R′ f g h (Path cause) it = tt
-gives-back P P′ Q Q′ R R′ f g h (Files fault left) it = f left it
+gives-back P P′ Q Q′ R R′ f g h (Files fault left) it = f fault left it
 gives-back P P′ Q Q′ R R′ f g h (Database cause store) it = g cause store it
 gives-back P P′ Q Q′ R R′ f g h (Book fault book) it = h fault book it
 
-pub unconnected-left : {L W B : Type 0} (fault : BookFault) (left : Option L) (P : L → Type 0) (Q : Unadopted → W → Type 0) (R : OpenFault → B → Type 0) → IfSome left P → GivesBack P Q R (unconnected fault left)
+pub unconnected-left : {L W B : Type 0} (fault : BookFault) (left : Option L) (P : BookFault → L → Type 0) (Q : Unadopted → W → Type 0) (R : OpenFault → B → Type 0) → IfSome left (P fault) → GivesBack P Q R (unconnected fault left)
 unconnected-left fault None P Q R it = tt
 unconnected-left fault (Some left) P Q R it = it
 
-pub database-left : {T L W B : Type 0} (taken : Result T (Unadopted × W)) (result : Result T (Unopened L W B)) (P : L → Type 0) (Q : Unadopted → W → Type 0) (R : OpenFault → B → Type 0)
+pub database-left : {T L W B : Type 0} (taken : Result T (Unadopted × W)) (result : Result T (Unopened L W B)) (P : BookFault → L → Type 0) (Q : Unadopted → W → Type 0) (R : OpenFault → B → Type 0)
     → result ≡ or_database taken → IfErr taken (λ e. Q e.0 e.1) → IfErr result (GivesBack P Q R)
 database-left {T} {L} {W} {B} (Ok it) result P Q R is left = subst (λ (r : Result T (Unopened L W B)). IfErr r (GivesBack P Q R)) (sym is) tt
 database-left {T} {L} {W} {B} (Err (cause, store)) result P Q R is left = subst (λ (r : Result T (Unopened L W B)). IfErr r (GivesBack P Q R)) (sym is) left
@@ -79,12 +79,12 @@ left-as-found (Err e) Clean may_be_left image conn finds was leaves others = λ 
     record { trees = conn.committed.trees; found = found.holds; reads = found.reads; leaves = leaves clean; other = λ other. others other clean }
 
 -- a book that was refused
-pub refused-in : {A L W B : Type 0} (result : Result A (Unopened L W B)) (P : L → Type 0) (Q : Unadopted → W → Type 0) (stood : B → BookState) (image : Image) (p : PolicyRules) (rows : StateOf Content) (refused : ℕ)
+pub refused-in : {A L W B : Type 0} (result : Result A (Unopened L W B)) (P : BookFault → L → Type 0) (Q : Unadopted → W → Type 0) (stood : B → BookState) (image : Image) (p : PolicyRules) (rows : StateOf Content) (refused : ℕ)
     → (rows.is_clean ≡ true → AreTakenIn image rows) → (rows.is_honest ≡ true → rows.is_clean ≡ true) → (book_of rows refused).is_open ≡ false
-    → IfErr result (GivesBack never never_for (λ fault book. IsRefused fault p (book_of rows refused) (stood book)))
+    → IfErr result (GivesBack never_for never_for (λ fault book. IsRefused fault p (book_of rows refused) (stood book)))
     → IfErr result (GivesBack P Q (λ fault book. IsRefusedIn image p fault (stood book)))
 refused-in result P Q stood image p rows refused taken answers idle =
-    IfErr-weaker result _ _ (gives-back never P never_for Q _ _ (λ x it. absurd it) (λ cause x it. absurd it)
+    IfErr-weaker result _ _ (gives-back never_for P never_for Q _ _ (λ why x it. absurd it) (λ cause x it. absurd it)
     (λ fault book it. record { rows = rows; refused = refused; taken = taken; answers = answers; idle = idle; refuses = it }))
 
 -- ---- what it comes to

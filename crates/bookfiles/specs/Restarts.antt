@@ -9,7 +9,7 @@ use Rattle.policy.specs.Rules.{PolicyRules}
 use Rattle.registry.specs.Opening.{Opens}
 use Rattle.runs.specs.Crashes.{Happened, Happens, answered, crash, opening}
 use Rattle.books.specs.Book.{BookState, Follows, LeavesItself}
-use Rattle.books.specs.Kept.{stands}
+use Rattle.books.specs.Kept.{book_state}
 use Rattle.books.specs.Reopening.{IsTakenUp}
 use Rattle.sqltables.specs.Content.{Content}
 use Rattle.states.specs.States.{StateOf}
@@ -19,7 +19,7 @@ use Rattle.sqlbook.specs.AsBook.{as_book}
 
 -- what rows are to a registry, where so many refusals were counted
 abbrev pub book_of : StateOf Content → ℕ → BookState
-book_of rows refused = stands (as_book stored_of are_right rows) refused
+book_of rows refused = book_state (as_book stored_of are_right rows) refused
 
 -- The book was found in files that held this, and is opened under a policy.
 pub record IsOpenedIn (image : Image) (p : PolicyRules) (new : BookState) : Type 0 where

@@ -7,8 +7,9 @@ use Rattle.sqlite_wal.specs.Recovery.{Image}
 use Rattle.sqlite_store.specs.declared.store.FileStore.{FileStore}
 use Rattle.sqlite_store.specs.FileStore.{recovers}
 use Rattle.sqlite_trees.specs.Tree.{Trees}
+use Rattle.sqlite.specs.declared.error.Error.{Error}
 use Rattle.sqlite.specs.declared.file.Leftover.{Leftover}
-use Rattle.sqlite.specs.Files.{AreFoundIn, IsCleanLeft, LeavesFiles}
+use Rattle.sqlite.specs.Files.{AreFoundIn, FailsToOpenFiles, IsCleanLeft, LeavesFiles}
 use Rattle.policy.specs.Rules.{PolicyRules}
 use Rattle.registry.specs.Calls.{IsRefused}
 use Rattle.registry.specs.declared.fault.OpenFault.{OpenFault}
@@ -19,6 +20,7 @@ use Rattle.books.specs.Book.{BookState, Stored, may_leave}
 use Rattle.sqltables.specs.Adoption.{IsAdopted, LeavesAsFound}
 use Rattle.sqltables.specs.Content.{Content}
 use Rattle.sqltables.specs.Readiness.{IsKnownAs}
+use Rattle.sqltables.specs.inner.Faults as errors
 use Rattle.sqltables.specs.declared.adoption.Unadopted.{Unadopted}
 use Rattle.sqltables.specs.declared.adoption.Unadopted.TheVariants as unadopted
 use Rattle.states.specs.States.{Remains, StateOf}
@@ -66,28 +68,30 @@ or_database (Ok it) = Ok it
 or_database (Err (cause, store)) = Err (Database cause store)
 
 -- The opening came so far at most, and this is known of what it gives back.
-abbrev pub GivesBack : {L W B : Type 0} → (L → Type 0) → (Unadopted → W → Type 0)
+abbrev pub GivesBack : {L W B : Type 0} → (BookFault → L → Type 0) → (Unadopted → W → Type 0)
     → (OpenFault → B → Type 0)
     → Unopened L W B → Type 0
 GivesBack of_files of_store of_book (Path cause) = Unit {0}
-GivesBack of_files of_store of_book (AtFiles fault left) = of_files left
+GivesBack of_files of_store of_book (AtFiles fault left) = of_files fault left
 GivesBack of_files of_store of_book (Database cause store) = of_store cause store
 GivesBack of_files of_store of_book (Book fault book) = of_book fault book
 
 -- it didn't come so far
-abbrev pub never : {W : Type 0} → W → Type 0
-never it = ⊥
-
 abbrev pub never_for : {F W : Type 0} → F → W → Type 0
 never_for fault it = ⊥
 
+-- A fault of an opening has its cause, but for want of memory: the files hold no database and aren't new, or a call
+-- on them failed or was refused, or they are too long.
+abbrev pub IsCaused : {D : Type 0} {g : Ghosts D} → Files D → Leftover D g → BookFault → Type 0
+IsCaused files left fault = (error : Error) × (fault ≡ errors.fault_of error) × FailsToOpenFiles files left error
+
 -- What is left of files that had just been opened: only where there was no database may anything have been written,
 -- and then the next opening has to take it.
-abbrev pub AreLeft : {D : Type 0} {g : Ghosts D} → (D → Type 0) → (D → Type 0) → Leftover D g
+abbrev pub AreLeft : {D : Type 0} {g : Ghosts D} → (D → Type 0) → (D → Type 0) → BookFault → Leftover D g
     → Type 0
-AreLeft {D} {g} fresh_log fresh_db left =
+AreLeft {D} {g} fresh_log fresh_db fault left =
     (files : Files D) × fresh_log files.log × fresh_db files.db
-    × (IsCleanLeft left → LeavesFiles files left)
+    × (IsCleanLeft left → IsCaused files left fault × LeavesFiles files left)
 
 -- A crash leaves the database that was found in files which held this, or the registry in it. Something else's it is
 -- called only where it is.
@@ -109,7 +113,7 @@ pub record IsRefusedIn (image : Image) (p : PolicyRules) (fault : OpenFault) (ne
 
 -- ---- what it comes to
 
--- Files hold what a crash could leave of a book, and an opening of them failed before there was a book: whatever
+-- Files hold what a crash could leave of a book, and an opening of them read a database and gave it back: whatever
 -- that leaves is, once it is opened and adopted, what the crash could leave. So it is as if nobody had tried.
 abbrev pub FailuresGoUnnoticed : {D : Type 0} → Ghosts D → Type 0
 FailuresGoUnnoticed {D} g =

@@ -6,12 +6,13 @@ ghost use Rattle.sqlite.specs.State.{HasCleanDisk};
 ghost use Rattle.sqlite_std_file.specs.File.{IsFresh};
 ghost use Rattle.sqlite_wal.specs.Files.{image_at};
 ghost use Rattle.sqltables.specs.Adoption.{IsFound};
-ghost use Rattle.states.specs.declared.fault.BookFault.{BookFault};
+ghost use Rattle.sqltables.specs.inner.Faults as errors;
 ghost use Rattle.bookfiles.specs.Unopened.{AreLeft, GivesBack, never_for, unconnected};
 
 use crate::unopened::{Unopened, or_cause};
 use registry::OpenFault;
-use sqlite::{Connection, Error, ErrorCode, FileFrom, FileStore, Leftover, Start};
+use sqlite::{Connection, Error, FileFrom, FileStore, Leftover, Start};
+use sqltables::fault_of;
 use states::BookFault;
 
 /// Whether each page of a new file ends in a sum, which the stock `sqlite3` would spoil when it writes.
@@ -68,20 +69,12 @@ pub fn connection_in<S: Start>(
 /// What stopped files from being opened, and what is left of them. It knows them by no kind: a value of a
 /// known one that may fall costs the prover much.
 fn unconnected<L, W, B>(left: (Error, Option<L>)) -> Unopened<L, W, B>
-    ensures { (fault : BookFault) × (result ≡ unconnected fault left.1) }
+    ensures { result ≡ unconnected (errors.fault_of left.0) left.1 }
 {
     let (error, left) = left;
     let fault = fault_of(&error);
     match left {
         Some(left) => Unopened::Files(fault, left),
         None => Unopened::Path(NotOpened { fault }),
-    }
-}
-
-/// What an error of the database is to a book.
-fn fault_of(error: &Error) -> BookFault {
-    match error {
-        Error::SqliteFailure(ErrorCode::OutOfMemory) => BookFault::Memory,
-        _ => BookFault::Store,
     }
 }

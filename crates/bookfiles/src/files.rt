@@ -10,7 +10,7 @@ ghost use Rattle.registry.specs.Opening.{Opens};
 ghost use Rattle.books.specs.Book.{Follows, LeavesItself};
 ghost use Rattle.sqlbook.specs.Files.{AreTakenIn};
 ghost use Rattle.bookfiles.specs.Restarts.{IsOpenedIn, book_of};
-ghost use Rattle.bookfiles.specs.Unopened.{AreLeft, GivesBack, IsLeftAsFound, IsRefusedIn, never, never_for, or_database};
+ghost use Rattle.bookfiles.specs.Unopened.{AreLeft, GivesBack, IsLeftAsFound, IsRefusedIn, never_for, or_database};
 
 use crate::connection::connect;
 use crate::unopened::{Unopened, or_cause};
@@ -102,7 +102,7 @@ fn open<L, W, B: Book + Drop>(
     ensures opened { IfOk result (λ registry. Opens policy (B.state book) (B.state registry.book)) }
     ensures leaves { IfOk result (λ registry. LeavesItself (B.state registry.book)) }
     ensures follows { IfOk result (λ registry. Follows (B.state book) (B.state registry.book)) }
-    ensures refused { IfErr result (GivesBack never never_for
+    ensures refused { IfErr result (GivesBack never_for never_for
         (λ fault left. IsRefused fault policy (B.state book) (B.state left))) }
 {
     match Registry::open(alloc, book, policy) {

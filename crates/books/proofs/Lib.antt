@@ -3,6 +3,5 @@ pub mod RecordsLemmas
 pub mod FoundLemmas
 pub mod LinesOnLemmas
 pub mod RenameLemmas
-pub mod OnceLemmas
 pub mod KeptLemmas
 pub mod PostingLemmas

@@ -6,8 +6,8 @@ use Rattle.states.specs.declared.fault.BookFault.TheVariants.{Memory, Store}
 use Rattle.books.specs.Book.{BookState, HasRefused, LeavesSame, NoRefusal}
 use Rattle.books.specs.Records.{RecordsState}
 
-abbrev pub stands : RecordsState → ℕ → BookState
-stands s refused = record {
+abbrev pub book_state : RecordsState → ℕ → BookState
+book_state s refused = record {
   content = s.content;
   before = s.before;
   is_open = s.is_open;
@@ -24,7 +24,7 @@ refusals_of refuses refused = if refuses then refused else 0
 
 -- the state of a book whose records may refuse, or can't, and refused so often
 abbrev pub state_of : RecordsState → Bool → ℕ → BookState
-state_of s refuses refused = stands s (refusals_of refuses refused)
+state_of s refuses refused = book_state s (refusals_of refuses refused)
 
 -- what can't refuse never did
 pub none_refused : (refuses : Bool) (refused : ℕ) → refuses ≡ false

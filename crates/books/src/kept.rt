@@ -2,7 +2,7 @@
 ghost use Rattle.std.specs.Prelude.{◌≡◌, ◌≤◌};
 ghost use Rattle.books.specs.Book.{HasRefused};
 ghost use Rattle.books.specs.Kept as spec;
-ghost use Rattle.books.specs.Kept.{GaveUp, stands, state_of};
+ghost use Rattle.books.specs.Kept.{GaveUp, book_state, state_of};
 
 use crate::book::Book;
 use crate::records::Records;
@@ -54,8 +54,8 @@ impl<R: Records> Kept<R> {
     fn count(&mut self)
         ensures same { self.new.records ≡ self.old.records }
         ensures counted { self.old.refused ≤ self.new.refused }
-        ensures refused { HasRefused (stands (R.kept self.old.records) self.old.refused)
-            (stands (R.kept self.new.records) self.new.refused) }
+        ensures refused { HasRefused (book_state (R.kept self.old.records) self.old.refused)
+            (book_state (R.kept self.new.records) self.new.refused) }
     {
         self.refused = self.refused.saturating_add(1);
     }

@@ -29,11 +29,11 @@ pub(crate) fn post<R: Records>(
         (R.kept records.old).content) (R.kept records.old) (R.kept records.new) }
 {
     records.open_account(registrar)?;
-    give_there(records, registrar, what, policy)
+    post_there(records, registrar, what, policy)
 }
 
 /// Changes an account that is there.
-fn give_there<R: Records>(
+fn post_there<R: Records>(
     records: &mut R,
     registrar: RegistrarNo,
     what: AccountChange,
@@ -52,7 +52,7 @@ fn give_there<R: Records>(
         }
         AccountChange::RefundTransfer(refund) => swap_lines(records, registrar, &refund),
         AccountChange::Lapse(what) => enter(records, registrar, what),
-        AccountChange::Notify(notification) => tell(records, registrar, notification),
+        AccountChange::Notify(notification) => notify(records, registrar, notification),
         AccountChange::Ack(id) => acknowledge(records, registrar, &id),
         AccountChange::CountCommand => {
             let counters = records.counters(registrar)?.next_command();
@@ -118,7 +118,7 @@ fn swap_all<R: Records>(
 }
 
 /// Puts a command's message into the queue, and counts it.
-fn tell<R: Records>(
+fn notify<R: Records>(
     records: &mut R,
     registrar: RegistrarNo,
     notification: Notification,

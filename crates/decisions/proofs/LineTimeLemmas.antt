@@ -13,7 +13,7 @@ use Rattle.decisions.proofs.Words.{lapse_by, leaves, lived, purge_at, purged, tr
 use Rattle.decisions.proofs.Words.{TransferStart, All-from_recursion, AutoRenewal, cond_some, fold, in_order, IsAwaited}
 use Rattle.decisions.proofs.Words.{IsAwaitedIfPending, lapse, Lapsed, left-of, nat_tests, none-weaker, not-itself}
 use Rattle.decisions.proofs.Words.{one-or-other, plus_years, recursion_from_All, renewal_line, renewals, same-roids}
-use Rattle.decisions.proofs.Words.{same_Some, some-lapse-together, swept-alike, tell, TransferApproved, turn, turns-are}
+use Rattle.decisions.proofs.Words.{same_Some, some-lapse-together, swept-alike, domain_notice, TransferApproved, turn, turns-are}
 use Rattle.accounts.specs.declared.message.Subject.TheVariants as subjects
 use Rattle.objects.specs.declared.roid.ObjectKind.TheVariants as kinds
 use Rattle.model.specs.Lapse.{Choice, accounts_at, at, domains_at, is_named, lapse as lapse_registry, lapse_if, lapse_one, lapse_some, only, put_or_drop, with_domain_lapsed}
@@ -141,7 +141,7 @@ module _ (p : PolicyRules) (t : ℕ) (s : Registry) (d : Domain) (on : HasLinesO
 
     -- the messages of the completion, and the turns after it
     abbrev rest : List Posting
-    rest = tell x.losing_registrar x.ac_date TransferApproved before ∷ tell x.requester x.ac_date TransferApproved before ∷ renewals p after (turns after t)
+    rest = domain_notice x.losing_registrar x.ac_date TransferApproved before ∷ domain_notice x.requester x.ac_date TransferApproved before ∷ renewals p after (turns after t)
 
     -- whoever isn't the new sponsor has no line that began after the completion
     none-before : (r : ℕ) → r ≢ x.requester → none_after d.roid (Some x.ac_date) (account_of r s).lines

@@ -27,7 +27,7 @@ placed k n r false e f = absurd cc
 
 -- a registrar that is found by its id is one
 place_of-is : (p : PolicyRules) (id : List ℕ) (r : ℕ) → place_of id p ≡ Some r → IsRegistrar p r
-place_of-is p id r e = placed (position_or_len (has_id id) p.registrars) (length p.registrars) r (nat_lt (position_or_len (has_id id) p.registrars) (length p.registrars)) refl e
+place_of-is p id r e = placed (position_or_len (has_id id) p.ids) (length p.ids) r (nat_lt (position_or_len (has_id id) p.ids) (length p.ids)) refl e
 
 module _ (p : PolicyRules) (s : Registry) (P : List Change → Type 0) (cases : OrderCases p s P) where
   -- an order for what is found under a name

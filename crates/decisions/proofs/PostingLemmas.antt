@@ -5,7 +5,7 @@ use Rattle.decisions.proofs.Words.{FinMap, gained, get, given, given_list, HasOb
 use Rattle.decisions.proofs.Words.{IsTransfer, lapse_by, lapse_contact, LapseEntry, leaves, lived, moved, nat_cmp, nat_list_cmp_total, Notice}
 use Rattle.decisions.proofs.Words.{PolicyRules, posted, Posting, postings, purge_at, purged, raised, Registry, Renewal, slice_cmp, Start}
 use Rattle.decisions.proofs.Words.{Transfer, turns, with_account, contact_completion, fold, lapse, names_apart, nat_le}
-use Rattle.decisions.proofs.Words.{nat_tests, plus_years, Purged, renewals, tell, turn, turns-are, ◌&&◌}
+use Rattle.decisions.proofs.Words.{nat_tests, plus_years, Purged, renewals, domain_notice, turn, turns-are, ◌&&◌}
 use Rattle.decisions.proofs.Words.{and_parts, cond_some}
 use Rattle.basis.proofs.EntryLaws.{Each, each_entry}
 use Rattle.decisions.proofs.KeepingLemmas.{kept-account}
@@ -61,7 +61,7 @@ module _ (p : PolicyRules) (t : ℕ) (R : Posting → Type 0) where
   -- what holds of its turns, of what completes a transfer that is due, of the turns after that, and of its purge
   module _ (d : Domain) (turned : AllTurned d)
       (completed : (x : Transfer) → due_by t d.transfer ≡ Some x → AllPosted R (completion x (gained (before x d) x.ac_date) (before x d)) × AllTurned (moved x (before x d)))
-      (gone : (x : Deletion) → nat_lt t (purge_at p x) ≡ false → R (tell d.sponsor (purge_at p x) Purged d)) where
+      (gone : (x : Deletion) → nat_lt t (purge_at p x) ≡ false → R (domain_notice d.sponsor (purge_at p x) Purged d)) where
     by-transfer : (o : Option Transfer) → due_by t d.transfer ≡ o → AllPosted R (lived p t o d).postings
     by-transfer None e = renewals-posted d (turns d t) turned (turns-are d t).before
     by-transfer (Some x) e =

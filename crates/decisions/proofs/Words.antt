@@ -33,7 +33,7 @@ pub use Rattle.lifecycle.proofs.TurnLaws.{turns-are}
 pub use Rattle.lifecycle.specs.Changes.{changed as account_changed, refunded_by, notified, numbered, with_acked, with_running_refunded}
 pub use Rattle.lifecycle.specs.Graces.{runs, gives, period_of, runs_from}
 unfoldable pub use Rattle.lifecycle.specs.Graces.{graces}
-pub use Rattle.lifecycle.specs.Lapse.{completion, contact_completed, due_by, gained, handed_over, lapse_by, lapse_contact, leaves, lived, moved, purged, raised, approved, contact_moved, lapse, turn, tell, contact_completion, completes_at, due_at, due_of, earlier, contact_handed_over}
+pub use Rattle.lifecycle.specs.Lapse.{completion, contact_completed, due_by, gained, handed_over, lapse_by, lapse_contact, leaves, lived, moved, purged, raised, approved, contact_moved, lapse, turn, domain_notice, contact_completion, completes_at, due_at, due_of, earlier, contact_handed_over}
 unfoldable pub use Rattle.lifecycle.specs.Lapse.{renewals}
 pub use Rattle.lifecycle.specs.Periods.{end}
 pub use Rattle.lifecycle.specs.Phases.{purge_at, later, redemption_end, phase}

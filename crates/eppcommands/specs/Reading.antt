@@ -15,8 +15,8 @@ use Rattle.protocol.specs.declared.form.FormFault.{FormFault}
 use Rattle.protocol.specs.declared.form.FormFault.TheVariants.{SyntaxError, ParameterMissing, ParameterRange, ParameterSyntax}
 use Rattle.eppforms.specs.declared.member.Member.{Member}
 use Rattle.eppforms.specs.declared.member.Section.{Section}
-use Rattle.eppcommands.specs.declared.reading.Fault.{Fault}
-use Rattle.eppcommands.specs.declared.reading.Fault.TheVariants.{Refused, Memory}
+use Rattle.eppcommands.specs.declared.reading.CommandFault.{CommandFault}
+use Rattle.eppcommands.specs.declared.reading.CommandFault.TheVariants.{Refused, Memory}
 use Rattle.protocol.specs.Years.{years_of}
 use Rattle.eppforms.specs.Kind.{items_list}
 use Rattle.eppforms.specs.Form.{◌>>=◌, refuse_unless}
@@ -24,12 +24,12 @@ use Rattle.eppforms.specs.Member.{value_at}
 use Rattle.eppcommands.specs.Dates.{date_in, moment_in}
 
 -- what a function returned is what reading gives, unless memory ran out
-abbrev pub Gives : {A : Type 0} → Result A Fault → Result A FormFault → Type 0
+abbrev pub Gives : {A : Type 0} → Result A CommandFault → Result A FormFault → Type 0
 Gives (Ok x) read = read ≡ Ok x
 Gives (Err (Refused code)) read = read ≡ Err code
 Gives (Err Memory) read = Unit {0}
 
-abbrev pub fault_of : name_fault.NameFault → Fault
+abbrev pub fault_of : name_fault.NameFault → CommandFault
 fault_of name_faults.Memory = Memory
 fault_of name_faults.Syntax = Refused ParameterSyntax
 fault_of name_faults.Policy = Refused ParameterSyntax

@@ -3,7 +3,7 @@ ghost use Rattle.std.specs.Prelude.{◌≡◌, IfOk, option_map};
 ghost use Rattle.serde_json.specs.View.{view};
 ghost use Rattle.eppcommands.specs.Command as spec;
 
-use crate::reading::Fault;
+use crate::reading::CommandFault;
 use crate::request::request_in;
 use basis::text::Text;
 use eppforms::{CL_TRID, Member, member_of, word};
@@ -41,8 +41,8 @@ pub(crate) fn command_of_value(alloc: Global, value: &Value) -> Result<Command, 
     let cl_trid = cl_trid_of(alloc, value)?;
     match request_in(alloc, value) {
         Ok(request) => Ok(Command::Asked { cl_trid, request }),
-        Err(Fault::Refused(fault)) => Ok(Command::Bad { cl_trid, fault }),
-        Err(Fault::Memory) => Err(AllocError),
+        Err(CommandFault::Refused(fault)) => Ok(Command::Bad { cl_trid, fault }),
+        Err(CommandFault::Memory) => Err(AllocError),
     }
 }
 

@@ -3,7 +3,7 @@ ghost use Rattle.serde_json.specs.View.{view};
 ghost use Rattle.eppcommands.specs.Reading.{Gives};
 ghost use Rattle.eppcommands.specs.Contact as spec;
 
-use crate::reading::{Fault, maybe_text_at, statuses_at, text_at, texts_at};
+use crate::reading::{CommandFault, maybe_text_at, statuses_at, text_at, texts_at};
 use eppforms::Section::{self, Add, Chg, ChgPostal, Rem, Top};
 use eppforms::{Member, part};
 use objects::{ObjectKind, Postal};
@@ -12,7 +12,7 @@ use serde_json::Value;
 use std::alloc::Global;
 
 #[tactic(auto, unfolding(crate::specs::Contact::check_contact))]
-pub fn check_contact(alloc: Global, value: &Value) -> Result<Request, Fault>
+pub fn check_contact(alloc: Global, value: &Value) -> Result<Request, CommandFault>
     ensures { Gives result (spec.check_contact (view value.now)) }
 {
     let names = texts_at(alloc, Top, Member::Names, value)?;
@@ -20,7 +20,7 @@ pub fn check_contact(alloc: Global, value: &Value) -> Result<Request, Fault>
 }
 
 #[tactic(auto, unfolding(crate::specs::Contact::info_contact))]
-pub fn info_contact(alloc: Global, value: &Value) -> Result<Request, Fault>
+pub fn info_contact(alloc: Global, value: &Value) -> Result<Request, CommandFault>
     ensures { Gives result (spec.info_contact (view value.now)) }
 {
     let name = text_at(alloc, Top, Member::Name, value)?;
@@ -29,7 +29,7 @@ pub fn info_contact(alloc: Global, value: &Value) -> Result<Request, Fault>
 }
 
 #[tactic(auto, unfolding(crate::specs::Contact::create_contact))]
-pub fn create_contact(alloc: Global, value: &Value) -> Result<Request, Fault>
+pub fn create_contact(alloc: Global, value: &Value) -> Result<Request, CommandFault>
     ensures { Gives result (spec.create_contact (view value.now)) }
 {
     let name = text_at(alloc, Top, Member::Name, value)?;
@@ -47,7 +47,7 @@ pub fn create_contact(alloc: Global, value: &Value) -> Result<Request, Fault>
 }
 
 #[tactic(auto, unfolding(crate::specs::Contact::delete_contact))]
-pub fn delete_contact(alloc: Global, value: &Value) -> Result<Request, Fault>
+pub fn delete_contact(alloc: Global, value: &Value) -> Result<Request, CommandFault>
     ensures { Gives result (spec.delete_contact (view value.now)) }
 {
     let name = text_at(alloc, Top, Member::Name, value)?;
@@ -55,7 +55,7 @@ pub fn delete_contact(alloc: Global, value: &Value) -> Result<Request, Fault>
 }
 
 #[tactic(auto, unfolding(crate::specs::Contact::update_contact))]
-pub fn update_contact(alloc: Global, value: &Value) -> Result<Request, Fault>
+pub fn update_contact(alloc: Global, value: &Value) -> Result<Request, CommandFault>
     ensures { Gives result (spec.update_contact (view value.now)) }
 {
     let name = text_at(alloc, Top, Member::Name, value)?;
@@ -78,7 +78,11 @@ pub fn update_contact(alloc: Global, value: &Value) -> Result<Request, Fault>
 }
 
 #[tactic(auto, unfolding(crate::specs::Contact::transfer_contact))]
-pub fn transfer_contact(alloc: Global, op: TransferOp, value: &Value) -> Result<Request, Fault>
+pub fn transfer_contact(
+    alloc: Global,
+    op: TransferOp,
+    value: &Value,
+) -> Result<Request, CommandFault>
     ensures { Gives result (spec.transfer_contact op (view value.now)) }
 {
     let name = text_at(alloc, Top, Member::Name, value)?;
@@ -88,7 +92,7 @@ pub fn transfer_contact(alloc: Global, op: TransferOp, value: &Value) -> Result<
 
 /// The postal address in a section.
 #[tactic(auto, unfolding(crate::specs::Contact::postal_at))]
-fn postal_at(alloc: Global, section: Section, value: &Value) -> Result<Postal, Fault>
+fn postal_at(alloc: Global, section: Section, value: &Value) -> Result<Postal, CommandFault>
     ensures { Gives result (spec.postal_at section (view value.now)) }
 {
     let name = text_at(alloc, section, Member::Name, value)?;
@@ -109,7 +113,11 @@ fn postal_at(alloc: Global, section: Section, value: &Value) -> Result<Postal, F
     })
 }
 
-fn maybe_postal_at(alloc: Global, section: Section, value: &Value) -> Result<Option<Postal>, Fault>
+fn maybe_postal_at(
+    alloc: Global,
+    section: Section,
+    value: &Value,
+) -> Result<Option<Postal>, CommandFault>
     ensures { Gives result (spec.maybe_postal_at section (view value.now)) }
 {
     let Some(_) = part(value, section) else {

@@ -6,7 +6,7 @@ ghost use Rattle.serde_json.specs.View.{view};
 ghost use Rattle.eppcommands.specs.Reading.{Gives};
 ghost use Rattle.eppcommands.specs.Dates as spec;
 
-use crate::reading::Fault;
+use crate::reading::CommandFault;
 use basis::text::Text;
 use calendar::Moment;
 use protocol::FormFault;
@@ -16,13 +16,13 @@ use std::alloc::Global;
 /// The text of a date, `YYYY-MM-DD`, in the years 0000 to 9999. What is no text is a fault of syntax,
 /// a text that is no real date one of the parameter's syntax.
 #[tactic(auto, unfolding(crate::specs::Dates::date_in))]
-pub fn date_in(alloc: Global, value: &Value) -> Result<Text, Fault>
+pub fn date_in(alloc: Global, value: &Value) -> Result<Text, CommandFault>
     ensures { Gives result (spec.date_in (view value.now)) }
 {
     let text = value.as_str().ok_or(FormFault::SyntaxError)?;
     let date = fields_of(text.as_bytes()).ok_or(FormFault::ParameterSyntax)?;
     if !is_day(date) {
-        return Err(Fault::Refused(FormFault::ParameterSyntax));
+        return Err(CommandFault::Refused(FormFault::ParameterSyntax));
     }
     Ok(Text::from_str(alloc, text)?)
 }

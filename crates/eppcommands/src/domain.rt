@@ -4,8 +4,8 @@ ghost use Rattle.eppcommands.specs.Reading.{Gives};
 ghost use Rattle.eppcommands.specs.Domain as spec;
 
 use crate::reading::{
-    Fault, date_at, maybe_text_at, moment_at, name_at, names_at, statuses_at, text_at, texts_at,
-    years_at,
+    CommandFault, date_at, maybe_text_at, moment_at, name_at, names_at, statuses_at, text_at,
+    texts_at, years_at,
 };
 use eppforms::Member;
 use eppforms::Section::{self, Add, Chg, Rem, Top};
@@ -15,7 +15,7 @@ use serde_json::Value;
 use std::alloc::Global;
 
 #[tactic(auto, unfolding(crate::specs::Domain::check_domain))]
-pub fn check_domain(alloc: Global, value: &Value) -> Result<Request, Fault>
+pub fn check_domain(alloc: Global, value: &Value) -> Result<Request, CommandFault>
     ensures { Gives result (spec.check_domain (view value.now)) }
 {
     let names = names_at(alloc, Top, Member::Names, value)?;
@@ -23,7 +23,7 @@ pub fn check_domain(alloc: Global, value: &Value) -> Result<Request, Fault>
 }
 
 #[tactic(auto, unfolding(crate::specs::Domain::info_domain))]
-pub fn info_domain(alloc: Global, value: &Value) -> Result<Request, Fault>
+pub fn info_domain(alloc: Global, value: &Value) -> Result<Request, CommandFault>
     ensures { Gives result (spec.info_domain (view value.now)) }
 {
     let name = name_at(alloc, Top, Member::Name, value)?;
@@ -32,7 +32,7 @@ pub fn info_domain(alloc: Global, value: &Value) -> Result<Request, Fault>
 }
 
 #[tactic(auto, unfolding(crate::specs::Domain::create_domain))]
-pub fn create_domain(alloc: Global, value: &Value) -> Result<Request, Fault>
+pub fn create_domain(alloc: Global, value: &Value) -> Result<Request, CommandFault>
     ensures { Gives result (spec.create_domain (view value.now)) }
 {
     let name = name_at(alloc, Top, Member::Name, value)?;
@@ -54,7 +54,7 @@ pub fn create_domain(alloc: Global, value: &Value) -> Result<Request, Fault>
 }
 
 #[tactic(auto, unfolding(crate::specs::Domain::delete_domain))]
-pub fn delete_domain(alloc: Global, value: &Value) -> Result<Request, Fault>
+pub fn delete_domain(alloc: Global, value: &Value) -> Result<Request, CommandFault>
     ensures { Gives result (spec.delete_domain (view value.now)) }
 {
     let name = name_at(alloc, Top, Member::Name, value)?;
@@ -62,7 +62,7 @@ pub fn delete_domain(alloc: Global, value: &Value) -> Result<Request, Fault>
 }
 
 #[tactic(auto, unfolding(crate::specs::Domain::update_domain))]
-pub fn update_domain(alloc: Global, value: &Value) -> Result<Request, Fault>
+pub fn update_domain(alloc: Global, value: &Value) -> Result<Request, CommandFault>
     ensures { Gives result (spec.update_domain (view value.now)) }
 {
     let name = name_at(alloc, Top, Member::Name, value)?;
@@ -81,7 +81,11 @@ pub fn update_domain(alloc: Global, value: &Value) -> Result<Request, Fault>
 
 /// What an update adds or removes.
 #[tactic(auto, unfolding(crate::specs::Domain::lists_of_domain))]
-fn lists_of_domain(alloc: Global, section: Section, value: &Value) -> Result<DomainLists, Fault>
+fn lists_of_domain(
+    alloc: Global,
+    section: Section,
+    value: &Value,
+) -> Result<DomainLists, CommandFault>
     ensures { Gives result (spec.lists_of_domain section (view value.now)) }
 {
     let hosts = names_at(alloc, section, Member::Hosts, value)?;
@@ -97,7 +101,7 @@ fn lists_of_domain(alloc: Global, section: Section, value: &Value) -> Result<Dom
 }
 
 #[tactic(auto, unfolding(crate::specs::Domain::renew_domain))]
-pub fn renew_domain(alloc: Global, value: &Value) -> Result<Request, Fault>
+pub fn renew_domain(alloc: Global, value: &Value) -> Result<Request, CommandFault>
     ensures { Gives result (spec.renew_domain (view value.now)) }
 {
     let name = name_at(alloc, Top, Member::Name, value)?;
@@ -111,7 +115,7 @@ pub fn renew_domain(alloc: Global, value: &Value) -> Result<Request, Fault>
 }
 
 #[tactic(auto, unfolding(crate::specs::Domain::request_restore))]
-pub fn request_restore(alloc: Global, value: &Value) -> Result<Request, Fault>
+pub fn request_restore(alloc: Global, value: &Value) -> Result<Request, CommandFault>
     ensures { Gives result (spec.request_restore (view value.now)) }
 {
     let name = name_at(alloc, Top, Member::Name, value)?;
@@ -119,7 +123,7 @@ pub fn request_restore(alloc: Global, value: &Value) -> Result<Request, Fault>
 }
 
 #[tactic(auto, unfolding(crate::specs::Domain::report_restore))]
-pub fn report_restore(alloc: Global, value: &Value) -> Result<Request, Fault>
+pub fn report_restore(alloc: Global, value: &Value) -> Result<Request, CommandFault>
     ensures { Gives result (spec.report_restore (view value.now)) }
 {
     let name = name_at(alloc, Top, Member::Name, value)?;
@@ -133,7 +137,11 @@ pub fn report_restore(alloc: Global, value: &Value) -> Result<Request, Fault>
 }
 
 #[tactic(auto, unfolding(crate::specs::Domain::transfer_domain))]
-pub fn transfer_domain(alloc: Global, op: TransferOp, value: &Value) -> Result<Request, Fault>
+pub fn transfer_domain(
+    alloc: Global,
+    op: TransferOp,
+    value: &Value,
+) -> Result<Request, CommandFault>
     ensures { Gives result (spec.transfer_domain op (view value.now)) }
 {
     let name = name_at(alloc, Top, Member::Name, value)?;

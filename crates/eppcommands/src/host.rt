@@ -3,7 +3,7 @@ ghost use Rattle.serde_json.specs.View.{view};
 ghost use Rattle.eppcommands.specs.Reading.{Gives};
 ghost use Rattle.eppcommands.specs.Host as spec;
 
-use crate::reading::{Fault, addresses_at, maybe_name_at, name_at, names_at, statuses_at};
+use crate::reading::{CommandFault, addresses_at, maybe_name_at, name_at, names_at, statuses_at};
 use eppforms::Member;
 use eppforms::Section::{self, Add, Chg, Rem, Top};
 use objects::ObjectKind;
@@ -12,7 +12,7 @@ use serde_json::Value;
 use std::alloc::Global;
 
 #[tactic(auto, unfolding(crate::specs::Host::check_host))]
-pub fn check_host(alloc: Global, value: &Value) -> Result<Request, Fault>
+pub fn check_host(alloc: Global, value: &Value) -> Result<Request, CommandFault>
     ensures { Gives result (spec.check_host (view value.now)) }
 {
     let names = names_at(alloc, Top, Member::Names, value)?;
@@ -20,7 +20,7 @@ pub fn check_host(alloc: Global, value: &Value) -> Result<Request, Fault>
 }
 
 #[tactic(auto, unfolding(crate::specs::Host::info_host))]
-pub fn info_host(alloc: Global, value: &Value) -> Result<Request, Fault>
+pub fn info_host(alloc: Global, value: &Value) -> Result<Request, CommandFault>
     ensures { Gives result (spec.info_host (view value.now)) }
 {
     let name = name_at(alloc, Top, Member::Name, value)?;
@@ -28,7 +28,7 @@ pub fn info_host(alloc: Global, value: &Value) -> Result<Request, Fault>
 }
 
 #[tactic(auto, unfolding(crate::specs::Host::create_host))]
-pub fn create_host(alloc: Global, value: &Value) -> Result<Request, Fault>
+pub fn create_host(alloc: Global, value: &Value) -> Result<Request, CommandFault>
     ensures { Gives result (spec.create_host (view value.now)) }
 {
     let name = name_at(alloc, Top, Member::Name, value)?;
@@ -37,7 +37,7 @@ pub fn create_host(alloc: Global, value: &Value) -> Result<Request, Fault>
 }
 
 #[tactic(auto, unfolding(crate::specs::Host::delete_host))]
-pub fn delete_host(alloc: Global, value: &Value) -> Result<Request, Fault>
+pub fn delete_host(alloc: Global, value: &Value) -> Result<Request, CommandFault>
     ensures { Gives result (spec.delete_host (view value.now)) }
 {
     let name = name_at(alloc, Top, Member::Name, value)?;
@@ -45,7 +45,7 @@ pub fn delete_host(alloc: Global, value: &Value) -> Result<Request, Fault>
 }
 
 #[tactic(auto, unfolding(crate::specs::Host::update_host))]
-pub fn update_host(alloc: Global, value: &Value) -> Result<Request, Fault>
+pub fn update_host(alloc: Global, value: &Value) -> Result<Request, CommandFault>
     ensures { Gives result (spec.update_host (view value.now)) }
 {
     let name = name_at(alloc, Top, Member::Name, value)?;
@@ -62,7 +62,7 @@ pub fn update_host(alloc: Global, value: &Value) -> Result<Request, Fault>
 
 /// What an update adds or removes.
 #[tactic(auto, unfolding(crate::specs::Host::lists_of_host))]
-fn lists_of_host(alloc: Global, section: Section, value: &Value) -> Result<HostLists, Fault>
+fn lists_of_host(alloc: Global, section: Section, value: &Value) -> Result<HostLists, CommandFault>
     ensures { Gives result (spec.lists_of_host section (view value.now)) }
 {
     let addresses = addresses_at(alloc, section, Member::Addrs, value)?;

@@ -6,7 +6,7 @@ ghost use Rattle.serde_json.specs.View.{view, number_view};
 ghost use Rattle.eppcommands.specs.Reading.{Gives};
 ghost use Rattle.eppcommands.specs.Order as spec;
 
-use crate::reading::{Fault, items_in, text_at};
+use crate::reading::{CommandFault, items_in, text_at};
 use basis::list::Seq;
 use eppforms::Section::Top;
 use eppforms::{
@@ -34,21 +34,21 @@ fn order_of_value(alloc: Global, value: &Value) -> Result<Option<OperatorRequest
 {
     match order_told(alloc, value) {
         Ok(order) => Ok(Some(order)),
-        Err(Fault::Refused(_)) => Ok(None),
-        Err(Fault::Memory) => Err(AllocError),
+        Err(CommandFault::Refused(_)) => Ok(None),
+        Err(CommandFault::Memory) => Err(AllocError),
     }
 }
 
 /// The order that `order` says.
 #[tactic(auto, unfolding(crate::specs::Order::order_told))]
-fn order_told(alloc: Global, value: &Value) -> Result<OperatorRequest, Fault>
+fn order_told(alloc: Global, value: &Value) -> Result<OperatorRequest, CommandFault>
     ensures { Gives result (spec.order_told (view value.now)) }
 {
     let order = word(value, Member::Order).ok_or(FormFault::SyntaxError)?;
     order_said(alloc, order, value)
 }
 
-fn order_said(alloc: Global, order: &str, value: &Value) -> Result<OperatorRequest, Fault>
+fn order_said(alloc: Global, order: &str, value: &Value) -> Result<OperatorRequest, CommandFault>
     ensures { Gives result (spec.order_said order.now (view value.now)) }
 {
     if order == "status" {
@@ -60,11 +60,11 @@ fn order_said(alloc: Global, order: &str, value: &Value) -> Result<OperatorReque
     if order == "settle" {
         return Ok(settle_order(value)?);
     }
-    Err(Fault::Refused(FormFault::UnknownCommand))
+    Err(CommandFault::Refused(FormFault::UnknownCommand))
 }
 
 #[tactic(auto, unfolding(crate::specs::Order::status_order))]
-fn status_order(alloc: Global, value: &Value) -> Result<Order, Fault>
+fn status_order(alloc: Global, value: &Value) -> Result<Order, CommandFault>
     ensures { Gives result (spec.status_order (view value.now)) }
 {
     let kind = kind_ordered(value)?;
@@ -94,11 +94,11 @@ fn kind_ordered(value: &Value) -> Result<ObjectKind, FormFault>
 
 /// The order to enter what a registrar paid.
 #[tactic(auto, unfolding(crate::specs::Order::deposit_order))]
-fn deposit_order(alloc: Global, value: &Value) -> Result<Order, Fault>
+fn deposit_order(alloc: Global, value: &Value) -> Result<Order, CommandFault>
     ensures { Gives result (spec.deposit_order (view value.now)) }
 {
     if !has_form(DEPOSIT_ORDER_FORM, value) {
-        return Err(Fault::Refused(FormFault::SyntaxError));
+        return Err(CommandFault::Refused(FormFault::SyntaxError));
     }
     let registrar = text_at(alloc, Top, Member::Registrar, value)?;
     let number = number_at(Member::Cents, value)?;

@@ -3,7 +3,7 @@
 ghost use Rattle.std.specs.Prelude.{◌≡◌, map};
 ghost use Rattle.std.specs.Result.{result_map_both};
 ghost use Rattle.serde_json.specs.View.{view};
-ghost use Rattle.eppcommands.specs.declared.reading.Fault.TheVariants.{Refused, Memory};
+ghost use Rattle.eppcommands.specs.declared.reading.CommandFault.TheVariants.{Refused, Memory};
 ghost use Rattle.eppcommands.specs.Reading as spec;
 
 use crate::dates::{date_in, moment_in};
@@ -19,42 +19,44 @@ use std::alloc::{AllocError, Global};
 
 /// Why a payload gives no request.
 #[derive(Clone, Copy)]
-pub enum Fault {
+pub enum CommandFault {
     /// Its form is refused.
     Refused(FormFault),
     /// Memory ran out.
     Memory,
 }
 
-impl From<AllocError> for Fault {
+impl From<AllocError> for CommandFault {
     ghost from_gives = { λ _ fault. fault ≡ Memory };
 
-    fn from(_: AllocError) -> Fault {
-        Fault::Memory
+    fn from(_: AllocError) -> CommandFault {
+        CommandFault::Memory
     }
 }
 
-impl From<FormFault> for Fault {
+impl From<FormFault> for CommandFault {
     ghost from_gives = { λ code fault. fault ≡ Refused code };
 
-    fn from(code: FormFault) -> Fault {
-        Fault::Refused(code)
+    fn from(code: FormFault) -> CommandFault {
+        CommandFault::Refused(code)
     }
 }
 
-impl From<NameFault> for Fault {
+impl From<NameFault> for CommandFault {
     ghost from_gives = { λ name fault. fault ≡ spec.fault_of name };
 
-    fn from(fault: NameFault) -> Fault {
+    fn from(fault: NameFault) -> CommandFault {
         match fault {
-            NameFault::Memory => Fault::Memory,
-            NameFault::Syntax | NameFault::Policy => Fault::Refused(FormFault::ParameterSyntax),
+            NameFault::Memory => CommandFault::Memory,
+            NameFault::Syntax | NameFault::Policy => CommandFault::Refused(
+                FormFault::ParameterSyntax,
+            ),
         }
     }
 }
 
 #[tactic(auto, unfolding(crate::specs::Reading::name_in))]
-fn name_in(alloc: Global, value: &Value) -> Result<RequestedName, Fault>
+fn name_in(alloc: Global, value: &Value) -> Result<RequestedName, CommandFault>
     ensures { spec.Gives result (spec.name_in (view value.now)) }
 {
     let text = value.as_str().ok_or(FormFault::SyntaxError)?;
@@ -66,7 +68,7 @@ pub fn name_at(
     section: Section,
     at: Member,
     value: &Value,
-) -> Result<RequestedName, Fault>
+) -> Result<RequestedName, CommandFault>
     ensures { spec.Gives result (spec.name_at section at (view value.now)) }
 {
     let found = value_at(value, section, at).ok_or(FormFault::ParameterMissing)?;
@@ -79,7 +81,7 @@ pub fn maybe_name_at(
     section: Section,
     at: Member,
     value: &Value,
-) -> Result<Option<RequestedName>, Fault>
+) -> Result<Option<RequestedName>, CommandFault>
     ensures { spec.Gives result (spec.maybe_name_at section at (view value.now)) }
 {
     let Some(found) = value_at(value, section, at) else {
@@ -102,7 +104,7 @@ pub fn names_at(
     section: Section,
     at: Member,
     value: &Value,
-) -> Result<Seq<RequestedName>, Fault>
+) -> Result<Seq<RequestedName>, CommandFault>
     ensures { spec.Gives result (spec.names_at section at (view value.now)) }
 {
     let Some(found) = value_at(value, section, at) else {
@@ -112,7 +114,7 @@ pub fn names_at(
     all_names(alloc, items)
 }
 
-fn all_names(alloc: Global, items: &[Value]) -> Result<Seq<RequestedName>, Fault>
+fn all_names(alloc: Global, items: &[Value]) -> Result<Seq<RequestedName>, CommandFault>
     ensures { spec.Gives result (spec.all_in (spec.name_in) (map view items.now)) }
 {
     let mut names = Seq::new(alloc);
@@ -123,14 +125,19 @@ fn all_names(alloc: Global, items: &[Value]) -> Result<Seq<RequestedName>, Fault
 }
 
 #[tactic(auto, unfolding(crate::specs::Reading::text_in))]
-fn text_in(alloc: Global, value: &Value) -> Result<Text, Fault>
+fn text_in(alloc: Global, value: &Value) -> Result<Text, CommandFault>
     ensures { spec.Gives result (spec.text_in (view value.now)) }
 {
     let text = value.as_str().ok_or(FormFault::SyntaxError)?;
     Ok(Text::from_str(alloc, text)?)
 }
 
-pub fn text_at(alloc: Global, section: Section, at: Member, value: &Value) -> Result<Text, Fault>
+pub fn text_at(
+    alloc: Global,
+    section: Section,
+    at: Member,
+    value: &Value,
+) -> Result<Text, CommandFault>
     ensures { spec.Gives result (spec.text_at section at (view value.now)) }
 {
     let found = value_at(value, section, at).ok_or(FormFault::ParameterMissing)?;
@@ -142,7 +149,7 @@ pub fn maybe_text_at(
     section: Section,
     at: Member,
     value: &Value,
-) -> Result<Option<Text>, Fault>
+) -> Result<Option<Text>, CommandFault>
     ensures { spec.Gives result (spec.maybe_text_at section at (view value.now)) }
 {
     let Some(found) = value_at(value, section, at) else {
@@ -157,7 +164,7 @@ pub fn texts_at(
     section: Section,
     at: Member,
     value: &Value,
-) -> Result<Seq<Text>, Fault>
+) -> Result<Seq<Text>, CommandFault>
     ensures { spec.Gives result (spec.texts_at section at (view value.now)) }
 {
     let Some(found) = value_at(value, section, at) else {
@@ -167,7 +174,7 @@ pub fn texts_at(
     all_texts(alloc, items)
 }
 
-fn all_texts(alloc: Global, items: &[Value]) -> Result<Seq<Text>, Fault>
+fn all_texts(alloc: Global, items: &[Value]) -> Result<Seq<Text>, CommandFault>
     ensures { spec.Gives result (spec.all_in spec.text_in (map view items.now)) }
 {
     let mut texts = Seq::new(alloc);
@@ -178,7 +185,7 @@ fn all_texts(alloc: Global, items: &[Value]) -> Result<Seq<Text>, Fault>
 }
 
 #[tactic(auto, unfolding(crate::specs::Reading::address_in))]
-fn address_in(alloc: Global, value: &Value) -> Result<Text, Fault>
+fn address_in(alloc: Global, value: &Value) -> Result<Text, CommandFault>
     ensures { spec.Gives result (spec.address_in (view value.now)) }
 {
     let text = value.as_str().ok_or(FormFault::SyntaxError)?;
@@ -191,7 +198,7 @@ pub fn addresses_at(
     section: Section,
     at: Member,
     value: &Value,
-) -> Result<Seq<Text>, Fault>
+) -> Result<Seq<Text>, CommandFault>
     ensures { spec.Gives result (spec.addresses_at section at (view value.now)) }
 {
     let Some(found) = value_at(value, section, at) else {
@@ -201,7 +208,7 @@ pub fn addresses_at(
     all_addresses(alloc, items)
 }
 
-fn all_addresses(alloc: Global, items: &[Value]) -> Result<Seq<Text>, Fault>
+fn all_addresses(alloc: Global, items: &[Value]) -> Result<Seq<Text>, CommandFault>
     ensures { spec.Gives result (spec.all_in spec.address_in (map view items.now)) }
 {
     let mut addresses = Seq::new(alloc);
@@ -239,7 +246,7 @@ pub fn statuses_at(
     section: Section,
     at: Member,
     value: &Value,
-) -> Result<Seq<Status>, Fault>
+) -> Result<Seq<Status>, CommandFault>
     ensures { spec.Gives result (spec.statuses_at kind section at (view value.now)) }
 {
     let Some(found) = value_at(value, section, at) else {
@@ -249,7 +256,11 @@ pub fn statuses_at(
     all_statuses(alloc, kind, items)
 }
 
-fn all_statuses(alloc: Global, kind: ObjectKind, items: &[Value]) -> Result<Seq<Status>, Fault>
+fn all_statuses(
+    alloc: Global,
+    kind: ObjectKind,
+    items: &[Value],
+) -> Result<Seq<Status>, CommandFault>
     ensures { spec.Gives result (spec.all_in (spec.status_in kind) (map view items.now)) }
 {
     let mut statuses = Seq::new(alloc);
@@ -270,7 +281,12 @@ pub fn years_at(section: Section, at: Member, value: &Value) -> Result<Years, Fo
     Years::of(number).ok_or(FormFault::ParameterRange)
 }
 
-pub fn date_at(alloc: Global, section: Section, at: Member, value: &Value) -> Result<Text, Fault>
+pub fn date_at(
+    alloc: Global,
+    section: Section,
+    at: Member,
+    value: &Value,
+) -> Result<Text, CommandFault>
     ensures { spec.Gives result (spec.date_at section at (view value.now)) }
 {
     let found = value_at(value, section, at).ok_or(FormFault::ParameterMissing)?;

@@ -11,7 +11,7 @@ use crate::domain::{
     request_restore, transfer_domain, update_domain,
 };
 use crate::host::{check_host, create_host, delete_host, info_host, update_host};
-use crate::reading::{Fault, text_at};
+use crate::reading::{CommandFault, text_at};
 use eppforms::{CommandKind, Member, Section, checked_command};
 use protocol::{FormFault, Request};
 use serde_json::Value;
@@ -19,11 +19,11 @@ use std::alloc::Global;
 
 /// The request of a payload, or the first fault of its form.
 #[tactic(auto, unfolding(crate::specs::Request::request_in))]
-pub fn request_in(alloc: Global, value: &Value) -> Result<Request, Fault>
+pub fn request_in(alloc: Global, value: &Value) -> Result<Request, CommandFault>
     ensures { Gives result (spec.request_in (view value.now)) }
 {
     match checked_command(value)? {
-        CommandKind::Hello | CommandKind::Login => Err(Fault::Refused(FormFault::UseError)),
+        CommandKind::Hello | CommandKind::Login => Err(CommandFault::Refused(FormFault::UseError)),
         CommandKind::Logout => Ok(Request::Logout),
         CommandKind::Balance => Ok(Request::Balance),
         CommandKind::CheckContact => check_contact(alloc, value),
@@ -53,7 +53,7 @@ pub fn request_in(alloc: Global, value: &Value) -> Result<Request, Fault>
 
 /// The message that was read (RFC 5730, 2.9.2.3).
 #[tactic(auto, unfolding(crate::specs::Request::poll_ack))]
-fn poll_ack(alloc: Global, value: &Value) -> Result<Request, Fault>
+fn poll_ack(alloc: Global, value: &Value) -> Result<Request, CommandFault>
     ensures { Gives result (spec.poll_ack (view value.now)) }
 {
     let id = text_at(alloc, Section::Top, Member::Id, value)?;

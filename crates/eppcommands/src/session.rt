@@ -5,7 +5,7 @@ ghost use Rattle.eppcommands.specs.Reading.{Gives};
 ghost use Rattle.eppcommands.specs.Session as spec;
 
 use crate::command::{cl_trid_of, command_of_value, value_in};
-use crate::reading::{Fault, text_at};
+use crate::reading::{CommandFault, text_at};
 use eppforms::Section::Top;
 use eppforms::{Member, Verb, checked_command, word};
 use protocol::{BeforeLogin, Command, Credentials, FormFault, InSession};
@@ -68,18 +68,18 @@ fn said_before_login(alloc: Global, value: &Value) -> Result<BeforeLogin, AllocE
             cl_trid,
             credentials,
         }),
-        Err(Fault::Refused(fault)) => Ok(BeforeLogin::Refused { cl_trid, fault }),
-        Err(Fault::Memory) => Err(AllocError),
+        Err(CommandFault::Refused(fault)) => Ok(BeforeLogin::Refused { cl_trid, fault }),
+        Err(CommandFault::Memory) => Err(AllocError),
     }
 }
 
 /// What a login says, or why something else has no place there.
 #[tactic(auto, unfolding(crate::specs::Session::credentials_in))]
-fn credentials_of(alloc: Global, value: &Value) -> Result<Credentials, Fault>
+fn credentials_of(alloc: Global, value: &Value) -> Result<Credentials, CommandFault>
     ensures { Gives result (spec.credentials_in (view value.now)) }
 {
     if !opens(value) {
-        return Err(Fault::Refused(FormFault::UseError));
+        return Err(CommandFault::Refused(FormFault::UseError));
     }
     checked_command(value)?;
     let id = text_at(alloc, Top, Member::Id, value)?;

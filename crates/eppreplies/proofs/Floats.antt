@@ -16,7 +16,7 @@ use Rattle.objects.specs.Graces.{states_of}
 use Rattle.objects.specs.StatusTexts.{status_text, rgp_text}
 use Rattle.jsonobjects.proofs.Floats.{ArePlain, IsPlain, items_plain, maybe_moment, maybe_plain, maybe_text, members_plain, texts}
 use Rattle.eppreplies.specs.Answer.{settled_value, answer_members, answer_value}
-use Rattle.eppreplies.specs.Session.{nobodys_members, nobodys_value}
+use Rattle.eppreplies.specs.Session.{anonymous_members, anonymous_value}
 use Rattle.eppreplies.specs.Greeting.{greeting_value}
 use Rattle.eppreplies.specs.Reply.{reason_text, checked_members, checked_value, checks_value, created_members, balance_members, renewed_members, deleted_members, transferred_members, polled_members, acked_members, transfer_members, transfer_value, postal_members, postal_value, contact_transfer_of, contact_members, host_members, domain_members, data_value, reply_members, reply_value, deleted_of, restore_requested_of, secret_of, transfer_of}
 
@@ -141,5 +141,5 @@ answer_plain code done = members_plain (answer_members code done) (refl, (maybe_
 pub greeting_plain : (date : ℕ) → IsPlain (greeting_value date)
 greeting_plain date = refl
 
-pub nobodys_plain : (cl_trid : Option (List ℕ)) (code : Code) → IsPlain (nobodys_value cl_trid code)
-nobodys_plain cl_trid code = members_plain (nobodys_members cl_trid code) (maybe_text cl_trid, (refl, (refl, (refl, tt))))
+pub anonymous_plain : (cl_trid : Option (List ℕ)) (code : Code) → IsPlain (anonymous_value cl_trid code)
+anonymous_plain cl_trid code = members_plain (anonymous_members cl_trid code) (maybe_text cl_trid, (refl, (refl, (refl, tt))))

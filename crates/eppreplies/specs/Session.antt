@@ -6,15 +6,15 @@ use Rattle.protocol.specs.Codes.{number_of, message_of}
 use Rattle.protocol.specs.declared.code.Code.{Code}
 use Rattle.jsonobjects.specs.Members.{members_with}
 
-abbrev pub nobodys_members : Option (List ℕ) → Code → List (List ℕ × Option Data)
-nobodys_members cl_trid code =
+abbrev pub anonymous_members : Option (List ℕ) → Code → List (List ℕ × Option Data)
+anonymous_members cl_trid code =
     (codes "clTRID", option_map string cl_trid)
     ∷ (codes "code", Some (number (unsigned (number_of code))))
     ∷ (codes "msg", Some (string (message_of code)))
     ∷ (codes "svTRID", Some (string (codes "ANON"))) ∷ []
 
-abbrev pub nobodys_value : Option (List ℕ) → Code → Data
-nobodys_value cl_trid code = object (members_with (nobodys_members cl_trid code))
+abbrev pub anonymous_value : Option (List ℕ) → Code → Data
+anonymous_value cl_trid code = object (members_with (anonymous_members cl_trid code))
 
-abbrev pub nobodys_text : Option (List ℕ) → Code → List ℕ
-nobodys_text cl_trid code = compact_text (nobodys_value cl_trid code)
+abbrev pub anonymous_text : Option (List ℕ) → Code → List ℕ
+anonymous_text cl_trid code = compact_text (anonymous_value cl_trid code)

@@ -19,13 +19,13 @@ pub fn anonymous_reply_bytes(
     cl_trid: &Option<Text>,
     code: Code,
 ) -> Result<Vec<u8>, AllocError>
-    ensures { IfOk result (λ bytes. bytes.items ≡ spec.nobodys_text cl_trid.now code) }
+    ensures { IfOk result (λ bytes. bytes.items ≡ spec.anonymous_text cl_trid.now code) }
 {
-    nobodys_value(alloc, cl_trid, code)?.to_vec(alloc)
+    anonymous_value(alloc, cl_trid, code)?.to_vec(alloc)
 }
 
-fn nobodys_value(alloc: Global, cl_trid: &Option<Text>, code: Code) -> Result<Value, AllocError>
-    ensures { IfOk result (λ v. view v ≡ spec.nobodys_value cl_trid.now code) }
+fn anonymous_value(alloc: Global, cl_trid: &Option<Text>, code: Code) -> Result<Value, AllocError>
+    ensures { IfOk result (λ v. view v ≡ spec.anonymous_value cl_trid.now code) }
 {
     let members = vec![in alloc;
         ("clTRID", Item::MaybeText(cl_trid)),

@@ -8,7 +8,7 @@ use Rattle.protocol.specs.declared.session.InSession.{InSession}
 use Rattle.protocol.specs.declared.session.InSession.TheVariants as within
 use Rattle.frames.specs.Outcomes.{Outcome}
 use Rattle.books.specs.Book.{BookState, Follows}
-use Rattle.eppwire.specs.Answers.{Answers, AnswersHello, AnswersOpening, AnswersSaid}
+use Rattle.eppwire.specs.Answers.{Answers, AnswersHello, AnswersSaidBeforeLogin, AnswersSaid}
 
 pub stays_followed : (state : BookState) → Follows state state
 stays_followed state = record { clean = λ clean. clean; counted = omega arith }
@@ -28,13 +28,13 @@ said_follows p r within.Hello moment old outcome new answers = hello_follows p m
 said_follows p r (within.Ordinary c) moment old outcome new (inl gives) = gives.2
 said_follows p r (within.Ordinary c) moment old outcome new (inr served) = served.follows
 
-opening_follows : (p : PolicyRules) (said : BeforeLogin) (moment : ℕ) (old : BookState) (outcome : Outcome) (new : BookState) (caller : Option ℕ) → AnswersOpening p said moment old outcome new caller → Follows old new
-opening_follows p before.Hello moment old outcome new caller answers = hello_follows p moment old outcome new answers.0
-opening_follows p (before.Login cl_trid c) moment old outcome new caller answers = same_follows old new answers.1
-opening_follows p (before.Refused cl_trid fault) moment old outcome new caller answers = same_follows old new answers.1
+opening_follows : (p : PolicyRules) (passwords : List (List ℕ)) (said : BeforeLogin) (moment : ℕ) (old : BookState) (outcome : Outcome) (new : BookState) (caller : Option ℕ) → AnswersSaidBeforeLogin p passwords said moment old outcome new caller → Follows old new
+opening_follows p passwords before.Hello moment old outcome new caller answers = hello_follows p moment old outcome new answers.0
+opening_follows p passwords (before.Login cl_trid c) moment old outcome new caller answers = same_follows old new answers.1
+opening_follows p passwords (before.Refused cl_trid fault) moment old outcome new caller answers = same_follows old new answers.1
 
-pub answers_follow : (p : PolicyRules) (caller : Option ℕ) (payload : List ℕ) (moment : ℕ) (old : BookState) (outcome : Outcome) (new : BookState) (later : Option ℕ) → Answers p caller payload moment old outcome new later → Follows old new
-answers_follow p None payload moment old outcome new later (inl gives) = gives.0.2
-answers_follow p None payload moment old outcome new later (inr opening) = opening_follows p (before_login payload) moment old outcome new later opening
-answers_follow p (Some r) payload moment old outcome new later (inl gives, same) = gives.2
-answers_follow p (Some r) payload moment old outcome new later (inr said, same) = said_follows p r (in_session payload) moment old outcome new said
+pub answers_follow : (p : PolicyRules) (passwords : List (List ℕ)) (caller : Option ℕ) (payload : List ℕ) (moment : ℕ) (old : BookState) (outcome : Outcome) (new : BookState) (later : Option ℕ) → Answers p passwords caller payload moment old outcome new later → Follows old new
+answers_follow p passwords None payload moment old outcome new later (inl gives) = gives.0.2
+answers_follow p passwords None payload moment old outcome new later (inr opening) = opening_follows p passwords (before_login payload) moment old outcome new later opening
+answers_follow p passwords (Some r) payload moment old outcome new later (inl gives, same) = gives.2
+answers_follow p passwords (Some r) payload moment old outcome new later (inr said, same) = said_follows p r (in_session payload) moment old outcome new said

@@ -3,7 +3,7 @@ use Rattle.std.specs.Prelude.{◌≡◌, ◌⊎◌, ◌≤◌, ℕ, Bool, true, 
 use Rattle.eppcommands.specs.Session.{before_login, in_session}
 use Rattle.eppreplies.specs.Greeting.{greeting_text}
 use Rattle.eppreplies.specs.Reply.{reply_text}
-use Rattle.eppreplies.specs.Session.{nobodys_text}
+use Rattle.eppreplies.specs.Session.{anonymous_text}
 use Rattle.model.specs.Lapse.{lapsed}
 use Rattle.model.specs.Registry.{Registry}
 use Rattle.model.specs.View.{view_for}
@@ -40,8 +40,8 @@ reply_outcome reply = if is_last reply.code then ended (reply_text reply) else r
 abbrev pub greeting_outcome : ℕ → Outcome
 greeting_outcome date = replied (greeting_text date)
 
-abbrev pub nobodys_outcome : Option (List ℕ) → Code → Outcome
-nobodys_outcome cl_trid code = replied (nobodys_text cl_trid code)
+abbrev pub anonymous_outcome : Option (List ℕ) → Code → Outcome
+anonymous_outcome cl_trid code = replied (anonymous_text cl_trid code)
 
 -- ---- a registrar that is logged in
 
@@ -98,43 +98,46 @@ abbrev pub is_our_version : List ℕ → Bool
 is_our_version version = bytes_eq version (codes "1.0")
 
 -- who is logged in by it
-abbrev pub caller_of : PolicyRules → Credentials → Option ℕ
-caller_of p c = if is_our_version c.version then place_of_login c.id c.password p else None
+abbrev pub caller_of : PolicyRules → List (List ℕ) → Credentials → Option ℕ
+caller_of p passwords c =
+    if is_our_version c.version then place_of_login c.id c.password p passwords else None
 
 abbrev pub code_by : Option ℕ → Code
 code_by None = AuthenticationError
 code_by (Some caller) = Completed
 
 -- how it is answered: another version comes first (RFC 5730, 3: 2100, 2200)
-abbrev pub login_code : PolicyRules → Credentials → Code
-login_code p c = if is_our_version c.version then code_by (place_of_login c.id c.password p) else UnimplementedVersion
+abbrev pub login_code : PolicyRules → List (List ℕ) → Credentials → Code
+login_code p passwords c =
+    if is_our_version c.version then code_by (place_of_login c.id c.password p passwords)
+    else UnimplementedVersion
 
-pub record AnswersLogin (p : PolicyRules) (cl_trid : Option (List ℕ)) (c : Credentials) (outcome : Outcome) (caller : Option ℕ) : Type 0 where
-  pub told : Tells (nobodys_outcome cl_trid (login_code p c)) outcome
-  pub logged_in : caller ≡ caller_of p c
+pub record AnswersLogin (p : PolicyRules) (passwords : List (List ℕ)) (cl_trid : Option (List ℕ)) (c : Credentials) (outcome : Outcome) (caller : Option ℕ) : Type 0 where
+  pub told : Tells (anonymous_outcome cl_trid (login_code p passwords c)) outcome
+  pub logged_in : caller ≡ caller_of p passwords c
 
 -- what comes before a login is no step of the registry, but for hello
-abbrev pub AnswersOpening : PolicyRules → BeforeLogin → ℕ → BookState → Outcome → BookState
-    → Option ℕ → Type 0
-AnswersOpening p before.Hello moment old outcome new caller =
+abbrev pub AnswersSaidBeforeLogin : PolicyRules → List (List ℕ) → BeforeLogin → ℕ → BookState → Outcome
+    → BookState → Option ℕ → Type 0
+AnswersSaidBeforeLogin p passwords before.Hello moment old outcome new caller =
     AnswersHello p moment old outcome new × (caller ≡ None)
-AnswersOpening p (before.Login cl_trid c) moment old outcome new caller =
-    AnswersLogin p cl_trid c outcome caller × (new ≡ old)
-AnswersOpening p (before.Refused cl_trid fault) moment old outcome new caller =
-    Tells (nobodys_outcome cl_trid (code_of_form fault)) outcome × (new ≡ old) × (caller ≡ None)
+AnswersSaidBeforeLogin p passwords (before.Login cl_trid c) moment old outcome new caller =
+    AnswersLogin p passwords cl_trid c outcome caller × (new ≡ old)
+AnswersSaidBeforeLogin p passwords (before.Refused cl_trid fault) moment old outcome new caller =
+    Tells (anonymous_outcome cl_trid (code_of_form fault)) outcome × (new ≡ old) × (caller ≡ None)
 
-abbrev pub AnswersStranger : PolicyRules → List ℕ → ℕ → BookState → Outcome → BookState → Option ℕ
-    → Type 0
-AnswersStranger p payload moment old outcome new caller =
+abbrev pub AnswersBeforeLogin : PolicyRules → List (List ℕ) → List ℕ → ℕ → BookState → Outcome
+    → BookState → Option ℕ → Type 0
+AnswersBeforeLogin p passwords payload moment old outcome new caller =
     (GivesUp old outcome new × (caller ≡ None))
-    ⊎ AnswersOpening p (before_login payload) moment old outcome new caller
+    ⊎ AnswersSaidBeforeLogin p passwords (before_login payload) moment old outcome new caller
 
 -- ---- a connection
 
 -- who sends a payload: a registrar that is logged in, or nobody yet
-abbrev pub Answers : PolicyRules → Option ℕ → List ℕ → ℕ → BookState → Outcome → BookState
-    → Option ℕ → Type 0
-Answers p None payload moment old outcome new caller =
-    AnswersStranger p payload moment old outcome new caller
-Answers p (Some r) payload moment old outcome new caller =
+abbrev pub Answers : PolicyRules → List (List ℕ) → Option ℕ → List ℕ → ℕ → BookState → Outcome
+    → BookState → Option ℕ → Type 0
+Answers p passwords None payload moment old outcome new caller =
+    AnswersBeforeLogin p passwords payload moment old outcome new caller
+Answers p passwords (Some r) payload moment old outcome new caller =
     AnswersRegistrar p r payload moment old outcome new × (caller ≡ Some r)

@@ -1,5 +1,5 @@
 -- What a registrar is sent depends on nothing that it may not see.
-use Rattle.std.specs.Prelude.{◌≡◌, ◌⊎◌, ℕ, true, List, [], map}
+use Rattle.std.specs.Prelude.{◌≡◌, ◌⊎◌, ℕ, true, List, [], map, Option, option_and_then}
 use Rattle.eppcommands.specs.Session.{in_session}
 use Rattle.frames.specs.Texts.{closing_text, failed_text}
 use Rattle.eppreplies.specs.Greeting.{greeting_text}
@@ -7,16 +7,17 @@ use Rattle.eppreplies.specs.Reply.{reply_text}
 use Rattle.model.specs.Lapse.{lapsed}
 use Rattle.model.specs.Registry.{Registry}
 use Rattle.model.specs.View.{View, view, view_for}
-use Rattle.policy.specs.Rules.{PolicyRules}
+use Rattle.policy.specs.Rules.{PolicyRules, password_at, place_of}
 use Rattle.isolation.specs.Alike.{Pair, AreAlike, firsts, seconds}
 use Rattle.isolation.specs.Laws.{none}
-use Rattle.isolation.specs.Runs.{Answer, code, dated, inspected, reply, shown, told}
+use Rattle.isolation.specs.Runs.{Answer, code, dated, inspected, reply, shown, answers_to}
+use Rattle.protocol.specs.declared.session.Credentials.{Credentials}
 use Rattle.protocol.specs.declared.session.InSession.{InSession}
 use Rattle.protocol.specs.declared.session.InSession.TheVariants.{Hello, Ordinary}
 use Rattle.decisions.specs.Steps.{answer}
 use Rattle.frames.specs.Outcomes.{Outcome, sent}
 use Rattle.books.specs.Book.{BookState}
-use Rattle.eppwire.specs.Answers.{AnswersRegistrar}
+use Rattle.eppwire.specs.Answers.{AnswersRegistrar, caller_of, login_code}
 
 -- a command could not be carried out, or its reply found no memory or has no frame
 abbrev pub IsFixed : List ℕ → Type 0
@@ -42,6 +43,21 @@ FramesAreIsolated =
     → IsFixed (sent outcome)
     ⊎ (sent outcome ≡ text_told p r (in_session payload) (lapsed p moment other))
 
+-- ---- passwords
+
+-- the password of the registrar with an id, if there is such a registrar
+abbrev pub password_of : PolicyRules → List (List ℕ) → List ℕ → Option (List ℕ)
+password_of p passwords id = option_and_then (password_at passwords) (place_of id p)
+
+-- The policy of the rules has no password, so no reply to a registrar that is logged in depends on one. A login depends
+-- on the password of the registrar that it names, and on no other.
+abbrev pub LoginsAreIsolated : Type 0
+LoginsAreIsolated =
+    (p : PolicyRules) (passwords others : List (List ℕ)) (c : Credentials)
+    → password_of p passwords c.id ≡ password_of p others c.id
+    → (caller_of p passwords c ≡ caller_of p others c)
+    × (login_code p passwords c ≡ login_code p others c)
+
 -- ---- over whole runs
 
 -- what is sent of an answer to what a registrar may have asked
@@ -57,4 +73,4 @@ text_of (inspected s) = []
 abbrev pub AlikeListsSendTheSame : Type 0
 AlikeListsSendTheSame =
     (p : PolicyRules) (r : ℕ) (pairs : List (ℕ × Pair)) (s : Registry) → AreAlike p r none pairs s s
-    → map text_of (told p r (firsts pairs) s) ≡ map text_of (told p r (seconds pairs) s)
+    → map text_of (answers_to p r (firsts pairs) s) ≡ map text_of (answers_to p r (seconds pairs) s)

@@ -3,7 +3,7 @@ ghost use Rattle.std.specs.Prelude.{◌≡◌, Some, None, IfSome};
 ghost use Rattle.policy.specs.Rules.{IsRegistrar};
 ghost use Rattle.frames.specs.Outcomes.{outcome_of};
 ghost use Rattle.eppwire.specs.Answers as spec;
-ghost use Rattle.eppwire.specs.Answers.{AnswersCommand, AnswersHello, AnswersRegistrar, AnswersStranger};
+ghost use Rattle.eppwire.specs.Answers.{AnswersCommand, AnswersHello, AnswersRegistrar, AnswersBeforeLogin};
 
 use basis::registrar::RegistrarNo;
 use basis::text::Text;
@@ -12,7 +12,7 @@ use calendar::Moment;
 use eppcommands::{before_login, in_session};
 use eppreplies::{anonymous_reply_bytes, greeting_bytes, reply_bytes};
 use frames::Answer;
-use policy::Policy;
+use policy::{Passwords, Policy};
 use protocol::{BeforeLogin, Code, Command, Credentials, InSession, Reply};
 use registry::Registry;
 use std::alloc::{AllocError, Global};
@@ -113,10 +113,11 @@ fn greeting(alloc: Global, date: Moment) -> Answer
 pub(crate) fn answer_before_login<B: Book + Drop>(
     alloc: Global,
     registry: &mut Registry<B>,
+    passwords: &Passwords,
     payload: &[u8],
     moment: Moment,
 ) -> (Answer, Option<RegistrarNo>)
-    ensures answered { AnswersStranger registry.old.policy payload.now moment
+    ensures answered { AnswersBeforeLogin registry.old.policy passwords.now payload.now moment
         (B.state registry.old.book) (outcome_of result.0) (B.state registry.new.book) result.1 }
     ensures caller { IfSome result.1 (IsRegistrar registry.old.policy) }
     ensures policy { registry.new.policy ≡ registry.old.policy }
@@ -128,9 +129,9 @@ pub(crate) fn answer_before_login<B: Book + Drop>(
                 cl_trid,
                 credentials,
             },
-        ) => answer_login(alloc, registry.policy(), &cl_trid, &credentials),
+        ) => answer_login(alloc, registry.policy(), passwords, &cl_trid, &credentials),
         Ok(BeforeLogin::Refused { cl_trid, fault }) => {
-            (nobodys(alloc, &cl_trid, fault.code()), None)
+            (anonymous_answer(alloc, &cl_trid, fault.code()), None)
         }
         Err(_) => (Answer::Failed, None),
     }
@@ -140,19 +141,33 @@ pub(crate) fn answer_before_login<B: Book + Drop>(
 fn answer_login(
     alloc: Global,
     policy: &Policy,
+    passwords: &Passwords,
     cl_trid: &Option<Text>,
     credentials: &Credentials,
 ) -> (Answer, Option<RegistrarNo>)
-    ensures answered { spec.AnswersLogin policy.now cl_trid.now credentials.now
+    ensures answered { spec.AnswersLogin policy.now passwords.now cl_trid.now credentials.now
         (outcome_of result.0) result.1 }
     ensures caller { IfSome result.1 (IsRegistrar policy.now) }
 {
     if !is_our_version(&credentials.version) {
-        return (nobodys(alloc, cl_trid, Code::UnimplementedVersion), None);
+        return (
+            anonymous_answer(alloc, cl_trid, Code::UnimplementedVersion),
+            None,
+        );
     }
-    match policy.login(credentials.id.as_str(), credentials.password.as_str()) {
-        None => (nobodys(alloc, cl_trid, Code::AuthenticationError), None),
-        Some(caller) => (nobodys(alloc, cl_trid, Code::Completed), Some(caller)),
+    match policy.login(
+        passwords,
+        credentials.id.as_str(),
+        credentials.password.as_str(),
+    ) {
+        None => (
+            anonymous_answer(alloc, cl_trid, Code::AuthenticationError),
+            None,
+        ),
+        Some(caller) => (
+            anonymous_answer(alloc, cl_trid, Code::Completed),
+            Some(caller),
+        ),
     }
 }
 
@@ -163,8 +178,8 @@ fn is_our_version(version: &Text) -> bool
 }
 
 /// A reply for which no command is counted.
-fn nobodys(alloc: Global, cl_trid: &Option<Text>, code: Code) -> Answer
-    ensures { spec.Tells (spec.nobodys_outcome cl_trid.now code) (outcome_of result) }
+fn anonymous_answer(alloc: Global, cl_trid: &Option<Text>, code: Code) -> Answer
+    ensures { spec.Tells (spec.anonymous_outcome cl_trid.now code) (outcome_of result) }
 {
     match anonymous_reply_bytes(alloc, cl_trid, code) {
         Ok(text) => Answer::Reply(text),

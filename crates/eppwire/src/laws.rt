@@ -1,5 +1,5 @@
 //! What the definition of a connection's answers comes to.
-ghost use Rattle.eppwire.specs.Isolation.{AlikeListsSendTheSame, FramesAreIsolated};
+ghost use Rattle.eppwire.specs.Isolation.{AlikeListsSendTheSame, FramesAreIsolated, LoginsAreIsolated};
 ghost use Rattle.eppwire.specs.Late.{LateFramesFail};
 
 /// What a registrar is sent for a frame is what the rules answer in every registry that the registrar
@@ -12,6 +12,11 @@ pub fn frames_are_isolated()
 /// byte for byte.
 pub fn alike_lists_send_the_same()
     ensures { AlikeListsSendTheSame }
+{}
+
+/// A login depends on the password of the registrar that it names, and on no other.
+pub fn logins_are_isolated()
+    ensures { LoginsAreIsolated }
 {}
 
 /// After the last moment at which calls are taken each frame of a registrar is sent the fixed text, and

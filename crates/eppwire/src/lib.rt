@@ -16,4 +16,6 @@ pub use connection::Connection;
 pub use eppcommands::{command_of, order_of};
 pub use eppreplies::{greeting_bytes, order_bytes, reply_bytes};
 pub use frames::{Clock, ListClock, SessionEnd, read_frame, serve_session, write_frame};
-pub use laws::{alike_lists_send_the_same, frames_are_isolated, late_frames_fail};
+pub use laws::{
+    alike_lists_send_the_same, frames_are_isolated, late_frames_fail, logins_are_isolated,
+};

@@ -77,7 +77,7 @@ fn keep<S: Alter>(rt: &impl Abort, store: &mut RowStore<S>, alloc: Global) -> Re
     store.begin()?;
     store.put_meta(&meta(alloc)?)?;
     store.commit()?;
-    store.whole();
+    store.show_whole();
     assert!(rt; store.ready()? == Ready::Used);
     store.begin()?;
     put_accounts(store, alloc)?;

@@ -94,7 +94,10 @@ fn take_over_from<S: Alter + Drop, T: Alter + Drop>(
     database: Result<Connection<S>, Error>,
     rows: &mut RowStore<T>,
 ) -> Result<&'static str, Fail> {
-    let mut old = OldRows::adopt(database?, alloc)?;
+    let mut old = match OldRows::adopt(database?, alloc) {
+        Ok(old) => old,
+        Err((fault, _)) => return Err(Fail::from(fault)),
+    };
     let said = take_over_rows(alloc, &mut old, rows);
     drop(old);
     said

@@ -1,4 +1,4 @@
-//! What the definition of frames comes to.
+//! A law: each input is cut into frames in one way.
 ghost use Rattle.frames.specs.Frames.{AreFrames, AreFramesInOneWay};
 
 /// Each byte string is the frames of some payloads and then nothing, a cut frame, or a bad length

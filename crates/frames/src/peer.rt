@@ -1,4 +1,4 @@
-//! What answers a session.
+//! The peer of a session: what makes a reply of each payload.
 ghost use Rattle.std.specs.Prelude.{List, ℕ};
 ghost use Rattle.frames.specs.Outcomes.{Outcome, outcome_of};
 

@@ -1,4 +1,4 @@
-//! What the definition of sessions comes to.
+//! A law: a session answers the frames of its input, in their order.
 ghost use Rattle.frames.specs.Sessions.{TakesFramesInOrder};
 
 use crate::peer::Peer;

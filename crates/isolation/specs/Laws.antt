@@ -6,7 +6,7 @@ use Rattle.policy.specs.Rules.{PolicyRules}
 use Rattle.isolation.specs.Public.{public_part}
 use Rattle.isolation.specs.Alike.{Pair, AreAlike, IsAlike, first, firsts, second, seconds, touched_by}
 use Rattle.isolation.specs.Redaction.{Objects, AreOne}
-use Rattle.isolation.specs.Runs.{Answer, Question, answer_to, effect_of, is_asked_by, left_after, left_by, told}
+use Rattle.isolation.specs.Runs.{Answer, Question, answer_to, effect_of, is_asked_by, left_after, left_by, answers_to}
 
 -- ---- one call
 
@@ -36,7 +36,7 @@ none roid = false
 abbrev pub TellsAlike : PolicyRules → Registry → Type 0
 TellsAlike p s =
     (r : ℕ) (pairs : List (ℕ × Pair)) → AreAlike p r none pairs s s
-    → told p r (firsts pairs) s ≡ told p r (seconds pairs) s
+    → answers_to p r (firsts pairs) s ≡ answers_to p r (seconds pairs) s
 
 -- ---- the laws
 

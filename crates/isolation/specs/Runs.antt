@@ -72,8 +72,8 @@ left_after p [] s = s
 left_after p (x ∷ xs) s = left_after p xs (left_by p x s)
 
 -- what a registrar is answered, in a run from a registry on
-abbrev pub told : PolicyRules → ℕ → List (ℕ × Question) → Registry → List Answer
-told p r [] s = []
-told p r (x ∷ xs) s =
-    let more : List Answer = told p r xs (left_by p x s) in
+abbrev pub answers_to : PolicyRules → ℕ → List (ℕ × Question) → Registry → List Answer
+answers_to p r [] s = []
+answers_to p r (x ∷ xs) s =
+    let more : List Answer = answers_to p r xs (left_by p x s) in
     if is_asked_by r x.1 then answer_to p x.1 (lapsed p x.0 s) ∷ more else more

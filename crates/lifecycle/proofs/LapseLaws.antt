@@ -100,26 +100,3 @@ law-by p a b d (Some x) le e = kept-law p b x d (nat_lt a (purge_at p x)) (nat_l
 
 pub lapse-law : (p : PolicyRules) (a b : ℕ) (d : Domain) → a ≤ b → (lapse p a d >>= lapse p b) ≡ lapse p b d
 lapse-law p a b d le = law-by p a b d d.deletion le refl
-
--- the steps of the code
-steps-bound : (p : PolicyRules) (t : ℕ) (x : Transfer) (d d1 d2 : Domain) (e1 e2 : List Posting)
-    → d1 ≡ raised (turns d x.ac_date) d → e1 ≡ renewals p d (turns d x.ac_date) → d2 ≡ moved x d1 → e2 ≡ e1 ++ (completed x d1).postings
-    → after e2 (renewed p t d2) ≡ lived p t (Some x) d
-steps-bound p t x d d1 d2 e1 e2 h1 g1 h2 g2 =
-    ap (λ (e : List Posting). after e (renewed p t d2)) g2
-    ∙ ap (λ (y : Domain). after (e1 ++ (completed x d1).postings) (renewed p t y)) h2
-    ∙ ap (λ (y : Domain). after (e1 ++ (completed x y).postings) (renewed p t (moved x y))) h1
-    ∙ ap (λ (e : List Posting). after (e ++ (completed x (raised (turns d x.ac_date) d)).postings) (renewed p t (moved x (raised (turns d x.ac_date) d)))) g1
-    ∙ next-after (renewals p d (turns d x.ac_date)) (completed x (raised (turns d x.ac_date) d)).postings (Some (moved x (raised (turns d x.ac_date) d))) (renewed p t)
-
-pub lapse-steps : (p : PolicyRules) (t : ℕ) (x : Transfer) (c d d1 d2 d3 : Domain) (e1 e2 e3 : List Posting)
-    → c ≡ d → d.deletion ≡ None → due_by t c.transfer ≡ Some x
-    → d1 ≡ raised (turns c x.ac_date) c → e1 ≡ renewals p c (turns c x.ac_date) → d2 ≡ moved x d1 → e2 ≡ e1 ++ (completed x d1).postings
-    → d3 ≡ raised (turns d2 t) d2 → e3 ≡ e2 ++ renewals p d2 (turns d2 t)
-    → (let l : Lapsed Domain = record { object = Some d3; postings = e3 } in l) ≡ lapse p t d
-lapse-steps p t x c d d1 d2 d3 e1 e2 e3 same alive due h1 g1 h2 g2 h3 g3 =
-    ap (λ (y : Domain). let l : Lapsed Domain = record { object = Some y; postings = e3 } in l) h3
-    ∙ ap (λ (e : List Posting). let l : Lapsed Domain = record { object = Some (raised (turns d2 t) d2); postings = e } in l) g3
-    ∙ steps-bound p t x c d1 d2 e1 e2 h1 g1 h2 g2
-    ∙ sym (is-living p t (Some x) c (ap (λ (y : Domain). y.deletion) same ∙ alive) due)
-    ∙ ap (lapse p t) same

@@ -39,11 +39,11 @@ abbrev pub ◌>>=◌ : {X : Type 0} → Lapsed X → (X → Lapsed X) → Lapsed
 l >>= f = next l.object l.postings f
 
 -- a message to a registrar
-abbrev pub told : ℕ → ℕ → LapseNotice → List ℕ → Subject → Posting
-told registrar moment notice name subject = record { registrar = registrar; what = Notice (record { moment = moment; origin = origins.Lapse notice; name = name; subject = subject }) }
+abbrev pub lapse_notice : ℕ → ℕ → LapseNotice → List ℕ → Subject → Posting
+lapse_notice registrar moment notice name subject = record { registrar = registrar; what = Notice (record { moment = moment; origin = origins.Lapse notice; name = name; subject = subject }) }
 
-abbrev pub tell : ℕ → ℕ → LapseNotice → Domain → Posting
-tell registrar moment notice d = told registrar moment notice d.name subjects.Domain
+abbrev pub domain_notice : ℕ → ℕ → LapseNotice → Domain → Posting
+domain_notice registrar moment notice d = lapse_notice registrar moment notice d.name subjects.Domain
 
 -- ---- turns: at its expiry a domain renews itself by one year (RFC 3915, 3.1)
 
@@ -54,7 +54,7 @@ renewal_charge p moment d = record { registrar = d.sponsor; what = Renewal (reco
 abbrev pub turn : PolicyRules → Domain → ℕ → List Posting
 turn p d k =
     renewal_charge p (plus_years d.created (d.years + k)) d
-    ∷ tell d.sponsor (plus_years d.created (d.years + k)) RenewedAutomatically d
+    ∷ domain_notice d.sponsor (plus_years d.created (d.years + k)) RenewedAutomatically d
     ∷ []
 
 -- the first n turns
@@ -96,8 +96,8 @@ transfer_start x years d = record { registrar = x.requester; what = Start (recor
 abbrev pub completion : Transfer → ℕ → Domain → List Posting
 completion x years d =
     transfer_start x years d
-    ∷ tell x.losing_registrar x.ac_date TransferApproved d
-    ∷ tell x.requester x.ac_date TransferApproved d
+    ∷ domain_notice x.losing_registrar x.ac_date TransferApproved d
+    ∷ domain_notice x.requester x.ac_date TransferApproved d
     ∷ []
 
 abbrev pub completed : Transfer → Domain → Lapsed Domain
@@ -123,7 +123,7 @@ abbrev pub living : PolicyRules → ℕ → Domain → Lapsed Domain
 living p t d = lived p t (due_by t d.transfer) d
 
 abbrev pub purged : PolicyRules → Deletion → Domain → Lapsed Domain
-purged p x d = record { object = None; postings = tell d.sponsor (purge_at p x) Purged d ∷ [] }
+purged p x d = record { object = None; postings = domain_notice d.sponsor (purge_at p x) Purged d ∷ [] }
 
 abbrev pub lapse_by : PolicyRules → ℕ → Option Deletion → Domain → Lapsed Domain
 lapse_by p t None d = living p t d
@@ -142,8 +142,8 @@ contact_moved x c = contact_handed_over (approved x) c
 
 abbrev pub contact_completion : Transfer → Contact → List Posting
 contact_completion x c =
-    told x.losing_registrar x.ac_date TransferApproved c.name subjects.Contact
-    ∷ told x.requester x.ac_date TransferApproved c.name subjects.Contact
+    lapse_notice x.losing_registrar x.ac_date TransferApproved c.name subjects.Contact
+    ∷ lapse_notice x.requester x.ac_date TransferApproved c.name subjects.Contact
     ∷ []
 
 abbrev pub contact_completed : Option Transfer → Contact → Lapsed Contact

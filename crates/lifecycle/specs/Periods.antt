@@ -17,7 +17,7 @@ rules_with days = record {
   days = days;
   prices = record { create = 0; renew = 0; transfer = 0 };
   soa = record { mname = []; rname = []; refresh = 0; retry = 0; expire = 0; minimum = 0; ttl = 0 };
-  registrars = [];
+  ids = [];
 }
 
 -- the moment, unless it lies past the last one

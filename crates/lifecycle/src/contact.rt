@@ -4,7 +4,7 @@ ghost use Rattle.lifecycle.specs.Lapse as spec;
 
 use crate::domain::due_by;
 use crate::lapsed::Lapsed;
-use crate::renewal::told;
+use crate::renewal::lapse_notice;
 use crate::transfer::{approved, take_over_contact};
 use accounts::{LapseNotice, Posting, Subject};
 use basis::list::Seq;
@@ -23,8 +23,8 @@ fn post_completion(
 {
     let (moment, notice) = (transfer.ac_date, LapseNotice::TransferApproved);
     let (loser, gainer) = (transfer.losing_registrar, transfer.requester);
-    postings.push(told(loser, moment, notice, &contact.name, Subject::Contact)?)?;
-    postings.push(told(gainer, moment, notice, &contact.name, Subject::Contact)?)?;
+    postings.push(lapse_notice(loser, moment, notice, &contact.name, Subject::Contact)?)?;
+    postings.push(lapse_notice(gainer, moment, notice, &contact.name, Subject::Contact)?)?;
     Ok(())
 }
 

@@ -4,7 +4,7 @@ ghost use Rattle.lifecycle.specs.Lapse as spec;
 
 use crate::deletion::purged_by;
 use crate::lapsed::Lapsed;
-use crate::renewal::{renew, told, years_by};
+use crate::renewal::{lapse_notice, renew, years_by};
 use crate::transfer::{approved, gained, take_over};
 use accounts::{LapseEntry, LapseNotice, Posting, Subject, TransferStart};
 use basis::list::Seq;
@@ -40,8 +40,8 @@ fn post_completion(
     let (moment, notice) = (transfer.ac_date, LapseNotice::TransferApproved);
     let (loser, gainer) = (transfer.losing_registrar, transfer.requester);
     postings.push(start(domain, transfer, years))?;
-    postings.push(told(loser, moment, notice, &domain.name, Subject::Domain)?)?;
-    postings.push(told(gainer, moment, notice, &domain.name, Subject::Domain)?)?;
+    postings.push(lapse_notice(loser, moment, notice, &domain.name, Subject::Domain)?)?;
+    postings.push(lapse_notice(gainer, moment, notice, &domain.name, Subject::Domain)?)?;
     Ok(())
 }
 
@@ -147,7 +147,7 @@ fn lapse_deleted(
         });
     };
     let (sponsor, notice) = (domain.sponsor, LapseNotice::Purged);
-    postings.push(told(sponsor, end, notice, &domain.name, Subject::Domain)?)?;
+    postings.push(lapse_notice(sponsor, end, notice, &domain.name, Subject::Domain)?)?;
     Ok(Lapsed {
         object: None,
         postings,

@@ -16,14 +16,14 @@ use policy::Policy;
 use std::alloc::AllocError;
 
 /// A message of a lapse to a registrar.
-pub(crate) fn told(
+pub(crate) fn lapse_notice(
     registrar: RegistrarNo,
     moment: Moment,
     notice: LapseNotice,
     name: &Text,
     subject: Subject,
 ) -> Result<Posting, AllocError>
-    ensures { IfOk result (λ posting. posting ≡ spec.told registrar moment notice name.now
+    ensures { IfOk result (λ posting. posting ≡ spec.lapse_notice registrar moment notice name.now
         subject) }
 {
     Ok(Posting {
@@ -87,7 +87,7 @@ fn turn(
     let _ = moment.secs();
     let (sponsor, notice) = (domain.sponsor, LapseNotice::RenewedAutomatically);
     postings.push(charge(policy, domain, moment))?;
-    postings.push(told(sponsor, moment, notice, &domain.name, Subject::Domain)?)?;
+    postings.push(lapse_notice(sponsor, moment, notice, &domain.name, Subject::Domain)?)?;
     domain.years += 1;
     Ok(())
 }

@@ -5,6 +5,7 @@ ghost use Rattle.books.specs.Book.{Follows};
 
 use books::Book;
 use frames::SessionEnd;
+use policy::Passwords;
 use rdap::Routes;
 use registry::Registry;
 use server::{ConnectionEnd, HttpEnd, MachineClock, let_go, let_go_with_more, serve_one};
@@ -21,9 +22,10 @@ pub fn serve_port<M: time::Clock + Print + Net, B: Book + Drop>(
     listener: &TcpListener,
     limits: &Limits,
     log: &Log<'_, M>,
+    passwords: &Passwords,
     registry: Registry<B>,
 ) -> Registry<B>
-    ensures served { ServesInTurn registry.policy (B.state registry.book) (B.state result.book) }
+    ensures served { ServesInTurn registry.policy passwords.now (B.state registry.book) (B.state result.book) }
     ensures follows { Follows (B.state registry.book) (B.state result.book) }
     ensures policy { result.policy ≡ registry.policy }
 {
@@ -40,7 +42,7 @@ pub fn serve_port<M: time::Clock + Print + Net, B: Book + Drop>(
             return registry;
         };
         registry = serve_public(
-            alloc, &routes, machine, &rooms, limits, log, &turn, registry,
+            alloc, &routes, machine, &rooms, limits, log, &turn, passwords, registry,
         );
     }
     registry
@@ -55,9 +57,10 @@ pub(crate) fn serve_public<M: time::Clock + Print, B: Book + Drop>(
     limits: &Limits,
     log: &Log<'_, M>,
     turn: &Turn,
+    passwords: &Passwords,
     registry: Registry<B>,
 ) -> Registry<B>
-    ensures served { ServesUnknown registry.policy (B.state registry.book) (B.state result.book) }
+    ensures served { ServesUnknown registry.policy passwords.now (B.state registry.book) (B.state result.book) }
     ensures follows { Follows (B.state registry.book) (B.state result.book) }
     ensures policy { result.policy ≡ registry.policy }
 {
@@ -74,6 +77,7 @@ pub(crate) fn serve_public<M: time::Clock + Print, B: Book + Drop>(
         &mut writer,
         &mut clock,
         registry,
+        passwords,
     );
     wire.end(word_of(served.end, wire.is_late()));
     end_of_turn(alloc, &turn.stream, wire.is_late(), served.end);

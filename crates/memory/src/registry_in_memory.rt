@@ -47,11 +47,11 @@ pub fn execute_in_memory(
         (⟦<MemoryBook as Book>⟧.state registry.new.book).content.registry reply) }
 {
     let reply = registry.execute(caller, command, moment);
-    is_clean(registry);
+    show_clean(registry);
     reply
 }
 
-/// Nothing wrong is ever taken from memory.
-pub(crate) fn is_clean(registry: &Registry<MemoryBook>)
+/// Does nothing. It tells a proof that nothing wrong is ever taken from memory.
+pub(crate) fn show_clean(registry: &Registry<MemoryBook>)
     ensures { (⟦<MemoryBook as Book>⟧.state registry.now.book).is_clean ≡ true }
 {}

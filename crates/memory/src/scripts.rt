@@ -3,7 +3,7 @@ ghost use Rattle.std.specs.Prelude.{◌≡◌, IfSome};
 ghost use Rattle.script.specs.Runs.{Ends, kept};
 ghost use Rattle.memory.specs.Runs.{EndsByFile, EndsUnder};
 
-use crate::registry_in_memory::{is_clean, open};
+use crate::registry_in_memory::{open, show_clean};
 use books::Book;
 use policy::Policy;
 use registry::Registry;
@@ -58,6 +58,6 @@ fn run_over<R: Read + Drop, W: Write>(
 {
     let mut registry = registry;
     let exit = run_on(alloc, &mut registry, reader, writer);
-    is_clean(&registry);
+    show_clean(&registry);
     exit
 }

@@ -9,7 +9,7 @@ use Rattle.accounts.specs.Entries.{posted}
 use Rattle.basis.specs.Sweeps.{kept}
 use Rattle.calendar.specs.Moment.{plus_days}
 use Rattle.lifecycle.specs.declared.lapsed.Lapsed.{Lapsed}
-use Rattle.lifecycle.specs.Lapse.{completion, due_by, gained, lapse_by, lapse_contact, leaves, lived, moved, purged, raised, renewals, tell, turn}
+use Rattle.lifecycle.specs.Lapse.{completion, due_by, gained, lapse_by, lapse_contact, leaves, lived, moved, purged, raised, renewals, domain_notice, turn}
 use Rattle.lifecycle.specs.Periods.{end}
 use Rattle.lifecycle.specs.Phases.{purge_at, redemption_end}
 use Rattle.lifecycle.specs.Turns.{turns}
@@ -74,7 +74,7 @@ module _ (until : ℕ) (p q : PolicyRules) (agree : AgreeUntil until p q) (price
   same-purge t x d le = go (nat_lt t (purge_at p x)) (nat_lt t (purge_at q x)) refl refl
     where
       told : ℕ → Lapsed Domain
-      told m = cond (nat_lt t m) (leaves d []) (record { object = None; postings = tell d.sponsor m Purged d ∷ [] })
+      told m = cond (nat_lt t m) (leaves d []) (record { object = None; postings = domain_notice d.sponsor m Purged d ∷ [] })
 
       at-one : purge_at p x ≡ purge_at q x → lapse_by p t (Some x) d ≡ lapse_by q t (Some x) d
       at-one same = ap told same

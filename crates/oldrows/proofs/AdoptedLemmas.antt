@@ -1,5 +1,5 @@
 -- What the rows are over a database that was read anew.
-use Rattle.std.proofs.Common.{◌≡◌, ◌≢◌, ◌&&◌, Bool, true, false, List, [], ◌∷◌, map, refl, ap, subst}
+use Rattle.std.proofs.Common.{◌≡◌, ◌≢◌, ◌&&◌, inl, Bool, true, false, List, [], ◌∷◌, ◌++◌, map, IsTrue, refl, sym, ap, subst, ◌∙◌}
 use Rattle.std.proofs.lemmas.Bool.{and_parts}
 use Rattle.std.specs.List.{AllByRecursion}
 use Rattle.sqlite_trees.specs.declared.store.Shape.TheVariants as shape
@@ -29,9 +29,13 @@ use Rattle.sqltables.specs.Adoption.{IsFound, IsInOrder}
 use Rattle.sqltables.proofs.AdoptedLemmas.{schema_once}
 use Rattle.sqltables.proofs.SoundLemmas.{after_key, holds}
 use Rattle.sqltables.proofs.StandingLemmas.{honest}
-use Rattle.oldrows.specs.inner.Adoption.{IsSeen, IsSeenAs, IsShapedAs}
+use Rattle.oldrows.specs.inner.Adoption.{IsSeen}
 use Rattle.oldrows.specs.inner.Lines.{first_line_in, first_lines, without_end}
-use Rattle.oldrows.specs.inner.Stored.{Fits, IsOld, IsOldContent, old_contents, readiness_of, rows_in, stands}
+use Rattle.oldrows.specs.inner.Stored.{Covers, Fits, Guards, IsLeftAs, IsOld, IsOldContent, IsSameOld, IsSeenAs, IsShapedAs, leaves_of, left_in, old_contents, readiness_of, rows_in, stands}
+use Rattle.oldrows.specs.Stored.{IsRead, OldState}
+use Rattle.sqltables.specs.Content.{Content}
+use Rattle.states.specs.States.{Has, Remains}
+use Rattle.states.proofs.LeavingLemmas.{has-alone}
 
 endless-read : (rows : List Row) → map without_end (map first_line_in rows) ≡ map first_line_in rows
 endless-read [] = refl
@@ -74,13 +78,39 @@ shaped : (is_there : Bool) (db : Database) (trees : Trees) → db.trees ≡ tree
 shaped true db trees e sound is not = subst (IsSound first_registry) e (subst (λ (s : Schema). IsSound s db.trees) (is refl) sound)
 shaped false db trees e sound is not = λ ours. not refl (schema_once trees db.schema first_registry (subst (IsSound db.schema) e sound) ours)
 
+left-as : (s : State) → IsFound s → (is_there : Bool) → (is_there ≡ true → s.now.schema ≡ first_registry) → (is_there ≡ false → s.now.schema ≢ first_registry)
+    → (trees : Trees) → HasCleanDisk s → s.now.trees ≡ trees → IsLeftAs (left_in is_there s) trees
+left-as s found is_there is not trees clean e = (shaped is_there s.now trees e (found clean).1 is not, seen is_there s.now.trees trees e)
+
+-- what is found may be left, and nothing else
+pub guards_found : (s : State) → IsFound s → (is_there : Bool) → (is_there ≡ true → s.now.schema ≡ first_registry) → (is_there ≡ false → s.now.schema ≢ first_registry)
+    → ((db : Trees) → IsTrue s.is_open → s.may_leave db → db ≡ s.committed.trees) → Guards s (left_in is_there s ∷ [])
+guards_found s found is_there is not settled clean db may =
+    let it = (found clean).0 in
+    let same : s.now.trees ≡ db = ap (λ (d : Database). d.trees) it.clean ∙ sym (settled db it.is_open may) in
+    (left_in is_there s, inl refl, left-as s found is_there is not db clean same)
+
+pub seen-alone : {C : Type 0} (state-of : C → State) (none notes : List (C × Bool)) (conn : C) (is_there : Bool) → none ≡ [] → notes ≡ none ++ (conn, is_there) ∷ [] → leaves_of state-of notes ≡ left_in is_there (state-of conn) ∷ []
+seen-alone state-of none notes conn is_there empty is = ap (leaves_of state-of) (is ∙ ap (λ l. l ++ (conn, is_there) ∷ []) empty)
+
+-- what was given back after a fault
+pub left-alone : (trees : Trees) (was now : OldState) → IsSeen trees was → IsRead was now → now.is_honest ≡ true → (may_leave : Trees → Type 0) → Covers now.crash_leaves may_leave
+    → (db : Trees) → may_leave db → IsSameOld trees db
+left-alone trees was now seen-as reads honest-now may_leave covers db may =
+    let it = covers db may in
+    (it.0, seen-as.leaves (seen-as.answers (reads.honest honest-now)) it.0 (subst (λ (l : List (Remains Content)). Has l it.0) reads.leaves it.1), it.2)
+
 pub shown : (s : State) → IsFound s → (is_there : Bool) → (is_there ≡ true → s.now.schema ≡ first_registry) → (is_there ≡ false → s.now.schema ≢ first_registry)
-    → (trees : Trees) → (HasCleanDisk s → s.now.trees ≡ trees) → IsSeen trees (stands is_there s)
+    → (trees : Trees) → (HasCleanDisk s → s.now.trees ≡ trees) → IsSeen trees (stands is_there s (left_in is_there s ∷ []))
 shown s found is_there is not trees same = record {
   content = λ e. seen is_there s.now.trees trees (same (honest s (and_parts s.is_clean s.is_open e).0));
   shaped = λ e.
       let clean = honest s (and_parts s.is_clean s.is_open e).0 in
       shaped is_there s.now trees (same clean) (found clean).1 is not;
+  answers = λ e. ap (λ (b : Bool). b && s.is_open) e ∙ (found (honest s e)).0.is_open;
+  leaves = λ e left h.
+      let clean = honest s (and_parts s.is_clean s.is_open e).0 in
+      subst (λ (l : Remains Content). IsLeftAs l trees) (sym (has-alone (left_in is_there s) left h)) (left-as s found is_there is not trees clean (same clean));
 }
 
 -- what always holds of the rows

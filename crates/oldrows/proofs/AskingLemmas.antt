@@ -10,18 +10,20 @@ use Rattle.sqlite.specs.declared.error.Error.{Error}
 use Rattle.sqlite.specs.Effect.{Database}
 use Rattle.sqlite.specs.Given.{IsPlain}
 use Rattle.sqlite.specs.Listing.{understood}
-use Rattle.sqlite.specs.State.{State, FailsToQuery, HasCleanDisk, IsUnchanged, Shown, Survives}
+use Rattle.sqlite.specs.State.{CommitsShowing, State, FailsToQuery, HasCleanDisk, IsUnchanged, Shown, Survives}
 use Rattle.sqlite.proofs.Callers.{reads_as}
 use Rattle.sqlrows.specs.inner.Calls.{Stands}
 use Rattle.sqlrows.proofs.SelectLemmas.{same_command}
 use Rattle.sqlrows.proofs.SoundLemmas.{not_queried_open, queried_open, was_open}
-use Rattle.sqlrows.proofs.StandLemmas.{same_if_shown, stands_if_not_shown}
+use Rattle.sqlrows.proofs.StandLemmas.{commits_nothing, same_if_shown, stands_if_not_shown}
 use Rattle.sqltables.specs.Content.{Content}
 use Rattle.sqltables.specs.inner.FirstTables.{first_registry}
-use Rattle.sqltables.proofs.StandingLemmas.{clean-of, honest, was-honest}
+use Rattle.sqltables.proofs.StandingLemmas.{clean-of, honest, leaves-no-more, was-honest}
 use Rattle.states.specs.declared.fault.BookFault.{BookFault}
-use Rattle.oldrows.specs.inner.Stored.{Agrees, Asks, Finds, Fits, IsOld, old_contents, rows_in, stands}
-use Rattle.oldrows.specs.Stored.{IsRead, OldState}
+use Rattle.states.specs.States.{Remains}
+use Rattle.oldrows.specs.inner.Stored.{Agrees, Asks, Finds, Fits, Guards, IsOld, old_contents, rows_in, stands}
+use Rattle.oldrows.specs.Stored.{Answers, IsAsked, IsRead, OldState}
+use Rattle.oldrows.proofs.CopyLemmas.{read-on}
 
 -- the database is the same one, and nothing is open
 record IsSame (old new : State) : Type 0 where
@@ -48,6 +50,38 @@ agrees-same old new it same = record {
   settled = same.settled;
 }
 
+-- the same rows are seen, if the tables are there
+same-rows : (is_there : Bool) (old new : State) → (is_there ≡ true → new.now ≡ old.now) → rows_in is_there new.now.trees ≡ rows_in is_there old.now.trees
+same-rows true old new same = ap (λ (db : Database). old_contents db.trees) (same refl)
+same-rows false old new same = refl
+
+-- ---- a text is made ready
+
+module _ (is_there : Bool) (old new : State) (survives : Survives old new (λ _. ⊥)) (fits : Fits is_there old) (stood : HasCleanDisk new → Stands old new) where
+  looked : HasCleanDisk new → IsTrue new.is_open → is_there ≡ true → Agrees old × IsSame old new
+  looked clean opened there =
+      let it = fits (was-honest old new (λ _. ⊥) survives clean) (was_open old new (stood clean) opened) there in
+      (it, same-after old new it opened (stood clean))
+
+  pub fits-looked : Fits is_there new
+  fits-looked clean opened there = let it = looked clean opened there in agrees-same old new it.0 it.1
+
+  pub guards-looked : (leaves : List (Remains Content)) → Guards old leaves → Guards new leaves
+  guards-looked leaves guards clean db may = guards (was-honest old new (λ _. ⊥) survives clean) db (leaves-no-more old new survives clean db may)
+
+  pub reads-looked : (leaves : List (Remains Content)) → IsRead (stands is_there old leaves) (stands is_there new leaves)
+  reads-looked leaves = record {
+    clean = λ c. let parts = and_parts new.is_clean new.is_open c in let clean = honest new parts.0 in
+        ap (λ (b : Bool). b && old.is_open) (clean-of old (was-honest old new (λ _. ⊥) survives clean)) ∙ was_open old new (stood clean) parts.1;
+    honest = λ e. clean-of old (was-honest old new (λ _. ⊥) survives (honest new e));
+    content = λ c. let parts = and_parts new.is_clean new.is_open c in
+        same-rows is_there old new (λ there. (looked (honest new parts.0) parts.1 there).1.db);
+    ready = refl;
+    leaves = refl;
+  }
+
+-- ---- a query
+
 module _ (sql : List ℕ) (params : Row) (is_there : Bool) (old new : State) (P : Trees → Type 0) (survives : Survives old new P) (fits : Fits is_there old) (there : is_there ≡ true) (plain : IsPlain (understood first_registry sql)) where
   plain-in : Agrees old → IsPlain (understood old.now.schema sql)
   plain-in h = subst (λ (s : Schema). IsPlain (understood s sql)) (sym h.holds.schema) plain
@@ -64,13 +98,27 @@ module _ (sql : List ℕ) (params : Row) (is_there : Bool) (old new : State) (P 
       let it = agreed found clean (seen clean) in
       agrees-same old new it (same-after old new it opened (inl (same-if found clean (seen clean))))
 
-  pub reads-shown : (found : List Row) → (HasCleanDisk new → Shown sql params old new found) → IsRead (stands is_there old) (stands is_there new)
-  reads-shown found seen = record {
+  pub reads-shown : (leaves : List (Remains Content)) (found : List Row) → (HasCleanDisk new → Shown sql params old new found) → IsRead (stands is_there old leaves) (stands is_there new leaves)
+  reads-shown leaves found seen = record {
+    honest = λ e. clean-of old (was-honest old new P survives (honest new e));
+    leaves = refl;
     clean = λ e. let clean = honest new (and_parts new.is_clean new.is_open e).0 in
         ap (λ (b : Bool). b && old.is_open) (clean-of old (was-honest old new P survives clean)) ∙ (same-if found clean (seen clean)).0.was_open;
     content = λ e. ap (λ (db : Database). rows_in is_there db.trees) (same-if found (honest new (and_parts new.is_clean new.is_open e).0) (seen (honest new (and_parts new.is_clean new.is_open e).0))).0.now_is;
     ready = refl;
   }
+
+  -- what answered is open
+  pub answers-shown : (leaves : List (Remains Content)) (found : List Row) → (HasCleanDisk new → Shown sql params old new found) → Answers (stands is_there new leaves)
+  answers-shown leaves found seen e =
+      let clean = honest new e in
+      ap (λ (b : Bool). b && new.is_open) e ∙ (same-if found clean (seen clean)).0.is_open
+
+  -- a query commits nothing, where the connection is open
+  pub guards-asked : Survives old new (CommitsShowing sql params old) → (HasCleanDisk new → IsTrue old.is_open) → (leaves : List (Remains Content)) → Guards old leaves → Guards new leaves
+  guards-asked shows opened leaves guards clean db may =
+      let was = was-honest old new P survives clean in
+      guards was db (leaves-no-more old new (commits_nothing sql params old new (plain-in (fits was (opened clean) there)) shows) clean db may)
 
   -- after an error
   left-by : (e : Error) → (HasCleanDisk new → FailsToQuery sql params old new e) → HasCleanDisk new → IsTrue new.is_open → Agrees old × IsSame old new × IsTrue old.is_open
@@ -82,8 +130,10 @@ module _ (sql : List ℕ) (params : Row) (is_there : Bool) (old new : State) (P 
   pub fits-left : (e : Error) → (HasCleanDisk new → FailsToQuery sql params old new e) → Fits is_there new
   fits-left e fails clean opened _ = let it = left-by e fails clean opened in agrees-same old new it.0 it.1
 
-  pub reads-left : (e : Error) → (HasCleanDisk new → FailsToQuery sql params old new e) → IsRead (stands is_there old) (stands is_there new)
-  reads-left e fails = record {
+  pub reads-left : (leaves : List (Remains Content)) (e : Error) → (HasCleanDisk new → FailsToQuery sql params old new e) → IsRead (stands is_there old leaves) (stands is_there new leaves)
+  reads-left leaves e fails = record {
+    honest = λ c. clean-of old (was-honest old new P survives (honest new c));
+    leaves = refl;
     clean = λ c. let parts = and_parts new.is_clean new.is_open c in let clean = honest new parts.0 in
         ap (λ (b : Bool). b && old.is_open) (clean-of old (was-honest old new P survives clean)) ∙ (left-by e fails clean parts.1).2;
     content = λ c. let parts = and_parts new.is_clean new.is_open c in
@@ -98,18 +148,31 @@ answered shown sql f a old new h found seen =
     let read = reads_as sql [] old new first_registry h.schema (Select (record { lets = []; body = a.query }) a.is.names) (same_command (understood first_registry sql) ∙ a.is.command) a.is.plain a.is.unlisted found seen in
     a.means old.now.trees (old_contents old.now.trees) found (subst (λ (s : Schema). IsOld (old_contents old.now.trees) (record { schema = s; trees = old.now.trees })) h.schema h) (read.answer Null)
 
-finds-by : {A : Type 0} (result : Result A BookFault) (v : A) (old new : OldState) → IsRead old new → (new.is_clean ≡ true → IfOk result (λ it. it ≡ v)) → Finds result v old new
-finds-by (Ok it) v old new reads same = (reads, same)
-finds-by (Err fault) v old new reads same = reads
+finds-by : {A : Type 0} (result : Result A BookFault) (v : A) (old new : OldState) → IsRead old new → Answers new → (new.is_clean ≡ true → IfOk result (λ it. it ≡ v)) → Finds result v old new
+finds-by (Ok it) v old new reads answers same = (record { reads = reads; answers = λ was. answers }, same)
+finds-by (Err fault) v old new reads answers same = reads
 
-pub asked : {R : Type 0} (shown : R → Row) (sql : List ℕ) (is_there : Bool) (old new : State) (P : Trees → Type 0) → Survives old new P → Fits is_there old → is_there ≡ true
+pub asked : {R : Type 0} (shown : R → Row) (sql : List ℕ) (is_there : Bool) (old new : State) (P : Trees → Type 0) (leaves : List (Remains Content)) → Survives old new P → Fits is_there old → is_there ≡ true
     → (f : Content → List R) → Asks shown sql f → (found : List Row) → (HasCleanDisk new → Shown sql [] old new found) → (result : Result (List R) BookFault)
-    → ((xs : List R) → found ≡ map shown xs → IfOk result (λ out. out ≡ xs)) → Finds result (f (rows_in is_there old.now.trees)) (stands is_there old) (stands is_there new)
-asked shown sql is_there old new P survives fits there f asks found seen result read =
+    → ((xs : List R) → found ≡ map shown xs → IfOk result (λ out. out ≡ xs)) → Finds result (f (rows_in is_there old.now.trees)) (stands is_there old leaves) (stands is_there new leaves)
+asked shown sql is_there old new P leaves survives fits there f asks found seen result read =
     let plain = asks.is.plain in
-    finds-by result (f (rows_in is_there old.now.trees)) (stands is_there old) (stands is_there new)
-    (reads-shown sql [] is_there old new P survives fits there plain found seen)
+    finds-by result (f (rows_in is_there old.now.trees)) (stands is_there old leaves) (stands is_there new leaves)
+    (reads-shown sql [] is_there old new P survives fits there plain leaves found seen)
+    (answers-shown sql [] is_there old new P survives fits there plain leaves found seen)
     (λ e. let clean = honest new (and_parts new.is_clean new.is_open e).0 in
     read (f (rows_in is_there old.now.trees))
     (answered shown sql f asks old new (agreed sql [] is_there old new P survives fits there plain found clean (seen clean)).holds found (seen clean)
     ∙ ap (λ (b : Bool). map shown (f (rows_in b old.now.trees))) (sym there)))
+
+-- a question behind a look at the database that found it answering
+pub asked-behind : {A : Type 0} (r : Result A BookFault) (s m t : OldState) (f : Content → A) → IsRead s m → Answers m → Finds r (f m.content) m t → Finds r (f s.content) s t
+asked-behind (Ok it) s m t f reads answers found = (
+  record { reads = read-on s m t reads found.0.reads; answers = λ was. found.0.answers answers },
+  λ e. found.1 e ∙ ap f (reads.content (found.0.reads.clean e)),
+)
+asked-behind (Err fault) s m t f reads answers found = read-on s m t reads found
+
+-- what answers as long as the disk is clean was open
+pub open-if-asked : (is_there : Bool) (old new : State) (P : Trees → Type 0) (leaves : List (Remains Content)) → Survives old new P → Answers (stands is_there old leaves) → HasCleanDisk new → IsTrue old.is_open
+open-if-asked is_there old new P leaves survives answers clean = (and_parts old.is_clean old.is_open (answers (clean-of old (was-honest old new P survives clean)))).1

@@ -12,7 +12,7 @@ use Rattle.states.specs.declared.fault.BookFault.{BookFault}
 use Rattle.states.specs.States.{Makes, StateOf, Writes}
 use Rattle.states.proofs.LeavingLemmas.{leaves-on}
 use Rattle.sqltables.specs.Content.{Content}
-use Rattle.oldrows.specs.Stored.{IsRead, OldState}
+use Rattle.oldrows.specs.Stored.{IsAsked, IsRead, OldState}
 use Rattle.oldrows.specs.inner.Copies.{Copies, IsCopied, IsLeft, IsOnItsWay, put_all}
 
 -- ---- rows in the order of their numbers
@@ -54,22 +54,27 @@ drop-there xs i x e = there xs i x e ∙ ap (λ rest. x ∷ rest) (drop-drop 1 i
 pub read-on : (s m t : OldState) → IsRead s m → IsRead m t → IsRead s t
 read-on s m t a b = record {
   clean = λ e. a.clean (b.clean e);
+  honest = λ e. a.honest (b.honest e);
   content = λ e. b.content e ∙ a.content (b.clean e);
   ready = b.ready ∙ a.ready;
+  leaves = b.leaves ∙ a.leaves;
 }
+
+pub asked-on : (s m t : OldState) → IsAsked s m → IsAsked m t → IsAsked s t
+asked-on s m t a b = record { reads = read-on s m t a.reads b.reads; answers = λ was. b.answers (a.answers was) }
 
 -- what was read is put
 pub copied-so : {A X : Type 0} (r : Result A BookFault) (put : List X → Content → Content) (rows : List X) (of : Content → List X) (from read : OldState) (store written : StateOf Content)
-    → IsRead from read → (read.is_clean ≡ true → rows ≡ of from.content) → Makes r (put rows store.content) store written → Copies r (λ c. put (of c)) from read store written
-copied-so (Ok done) put rows of from read store written reads same makes = record {
-  reads = reads;
+    → IsAsked from read → (read.is_clean ≡ true → rows ≡ of from.content) → Makes r (put rows store.content) store written → Copies r (λ c. put (of c)) from read store written
+copied-so (Ok done) put rows of from read store written asked same makes = record {
+  asked = asked;
   clean = makes.clean;
   before = makes.before;
   opened = makes.opened;
   leaves = makes.leaves;
   content = λ c e. makes.content e ∙ ap (λ rows. put rows store.content) (same c);
 }
-copied-so (Err fault) put rows of from read store written reads same makes = record { source = reads; target = makes }
+copied-so (Err fault) put rows of from read store written asked same makes = record { source = asked.reads; target = makes }
 
 -- one more row
 pub put-more : {X : Type 0} (key : X → ℤ) (to : (List X → List X) → Content → Content) → ((f g : List X → List X) (c : Content) → to g (to f c) ≡ to (λ xs. g (f xs)) c)
@@ -103,14 +108,14 @@ all-put key to none all a b on = record {
 pub copy-more : (put rest : Content → Content → Content) (one : Content → Content → Content) (from read more : OldState) (to written wrote : StateOf Content)
     → IsOnItsWay put (λ c d. rest c (one c d)) from read to written → IsCopied one read more written wrote → IsOnItsWay put rest from more to wrote
 copy-more put rest one from read more to written wrote on it = record {
-  reads = read-on from read more on.reads it.reads;
+  asked = asked-on from read more on.asked it.asked;
   clean = λ e. on.clean (it.clean e);
   before = λ e. it.before e ∙ on.before (it.clean e);
   opened = it.opened;
   leaves = leaves-on to written wrote on.leaves it.leaves;
   content = λ c e.
-      let was = it.reads.clean c in
-      ap (rest from.content) (it.content c e ∙ ap (λ s. one s written.content) (on.reads.content was))
+      let was = it.asked.reads.clean c in
+      ap (rest from.content) (it.content c e ∙ ap (λ s. one s written.content) (on.asked.reads.content was))
       ∙ on.content was (it.clean e);
 }
 
@@ -120,7 +125,7 @@ all-copied put from read to written on = on
 -- a table that wasn't copied
 pub left-on : (put rest : Content → Content → Content) (from read more : OldState) (to written wrote : StateOf Content) → IsOnItsWay put rest from read to written → IsLeft read more written wrote → IsLeft from more to wrote
 left-on put rest from read more to written wrote on left = record {
-  source = read-on from read more on.reads left.source;
+  source = read-on from read more on.asked.reads left.source;
   target = record {
     clean = λ e. on.clean (left.target.clean e);
     before = λ e. left.target.before e ∙ on.before (left.target.clean e);

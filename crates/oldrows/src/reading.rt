@@ -1,9 +1,10 @@
 //! A database with the tables of the schema before this one.
-ghost use Rattle.std.specs.Prelude.{◌≡◌, ◌≢◌, true, false, List, map, IfOk};
+ghost use Rattle.std.specs.Prelude.{◌≡◌, ◌≢◌, true, false, List, map, IfErr, IfOk, OnOk};
 ghost use Rattle.oldrows.specs.inner.Adoption.{is_first};
 ghost use Rattle.sqltables.specs.inner.FirstTables.{first_registry};
 
 use basis::list::Seq;
+use http_server::Log;
 use sqlite::{Alter, Connection, Error};
 use sqlite_schema::schema::Schema;
 use sqlrows::{Record, begin, is_schema};
@@ -25,18 +26,20 @@ pub struct OldRows<S: Alter> {
     alloc: Global,
     /// Whether its tables are those.
     is_there: bool,
+    /// The database that a crash may leave, as what it was when it was seen. Only proofs read it.
+    seen: Log<Connection<S>, bool>,
 }
 
 impl<S: Alter> Model for OldRows<S> {
     ghost use Rattle.sqlite.specs.Held.{state};
-    ghost use Rattle.oldrows.specs.inner.Stored.{Fits, stands};
+    ghost use Rattle.oldrows.specs.inner.Stored.{Fits, Guards, leaves_of, stands};
     ghost use Rattle.oldrows.specs.Stored.{OldState};
 
     ghost Value = { OldState };
 
-    ghost view = { λ r. stands r.is_there (state S.Store r.conn) };
+    ghost view = { λ r. stands r.is_there (state S.Store r.conn) (leaves_of (state S.Store) r.seen.items) };
 
-    ghost invariant = { λ r. Fits r.is_there (state S.Store r.conn) };
+    ghost invariant = { λ r. Fits r.is_there (state S.Store r.conn) × Guards (state S.Store r.conn) (leaves_of (state S.Store) r.seen.items) };
 }
 
 /// The schema that the texts make, read off a database in memory.
@@ -70,13 +73,38 @@ fn is_first(metas: &[MetaRow]) -> bool
 
 impl<S: Alter> OldRows<S> {
     ghost use Rattle.sqlite.specs.Given.{IsPlain};
+    ghost use Rattle.sqlite.specs.Held.{state};
     ghost use Rattle.sqlite.specs.Listing.{understood};
+    ghost use Rattle.sqlite.specs.State.{HasCleanDisk};
     ghost use Rattle.sqltables.specs.Content.{Content};
-    ghost use Rattle.oldrows.specs.inner.Stored.{Asks, Finds, IsOldContent};
+    ghost use Rattle.oldrows.specs.Stored.{Answers, IsRead};
+    ghost use Rattle.oldrows.specs.inner.Stored.{Asks, Covers, Finds, IsOldContent};
 
     /// The records that the rows of a query show.
     pub(crate) fn select<R: Record>(&mut self, sql: &str) -> Result<Seq<R>, BookFault>
         requires { IsPlain (understood first_registry sql.now) }
+        ensures { (f : Content → List R) → Asks R.shown sql.now f
+            → Finds result (f self.old.content) self.old self.new }
+    {
+        self.look(sql)?;
+        self.ask(sql)
+    }
+
+    /// Does nothing but learn whether the database still answers.
+    fn look(&mut self, sql: &str) -> Result<(), BookFault>
+        ensures same { IsRead self.old self.new }
+        ensures answers { OnOk result (Answers self.new) }
+    {
+        match self.conn.prepare(sql) {
+            Ok(_) => Ok(()),
+            Err(error) => Err(fault_of(&error)),
+        }
+    }
+
+    /// The records that the rows of a query show, where the database still answers.
+    fn ask<R: Record>(&mut self, sql: &str) -> Result<Seq<R>, BookFault>
+        requires plain { IsPlain (understood first_registry sql.now) }
+        requires answers { Answers self.old }
         ensures { (f : Content → List R) → Asks R.shown sql.now f
             → Finds result (f self.old.content) self.old self.new }
     {
@@ -103,21 +131,31 @@ impl<S: Alter> OldRows<S> {
     }
 
     /// Does nothing. It tells a proof what always holds of the rows.
-    pub fn whole(&self)
+    pub fn show_whole(&self)
         ensures { self.now.is_clean ≡ true → IsOldContent self.now.content }
     {
         let _alloc = self.alloc;
     }
 
     /// Whether the tables are there.
-    pub fn ready(&mut self) -> Result<Ready, BookFault>
-        ensures { Finds result self.old.readiness self.old self.new }
+    pub fn ready(&self) -> Ready
+        ensures { result ≡ self.now.readiness }
     {
         if self.is_there {
-            Ok(Ready::Used)
+            Ready::Used
         } else {
-            Ok(Ready::Other)
+            Ready::Other
         }
+    }
+
+    /// Gives the connection back, as it is. Whatever a crash may leave of its database is one of what was
+    /// told.
+    pub fn into_connection(self) -> Connection<S>
+        ensures honest { (state S.Store result).is_clean ≡ self.is_honest }
+        ensures covers { HasCleanDisk (state S.Store result)
+            → Covers self.crash_leaves (state S.Store result).may_leave }
+    {
+        self.conn
     }
 }
 
@@ -125,48 +163,72 @@ impl<S: Alter + Drop> OldRows<S> {
     ghost use Rattle.sqlite.specs.Held.{state};
     ghost use Rattle.sqlite.specs.State.{HasCleanDisk};
     ghost use Rattle.sqlite_trees.specs.Tree.{Trees};
+    ghost use Rattle.sqlite_trees.specs.View.{IsClean};
+    ghost use Rattle.std.specs.Prelude.{IsTrue};
     ghost use Rattle.sqltables.specs.Adoption.{IsFound};
+    ghost use Rattle.oldrows.specs.inner.Stored.{Covers, LeavesAlone};
     ghost use Rattle.oldrows.specs.inner.Adoption.{IsAdopted, IsSeen};
 
+    /// Gives back what the connection is over.
+    fn into_store(self) -> S
+        ensures { IsClean (S.Store.view result) → (self.is_honest ≡ true)
+            × Covers self.crash_leaves (S.Store.recovers result) }
+    {
+        self.into_connection().into_store()
+    }
+
     /// The rows of a database that was read anew, by its tables alone.
-    fn over(conn: Connection<S>, alloc: Global) -> Result<OldRows<S>, BookFault>
+    fn over(conn: Connection<S>, alloc: Global) -> Result<OldRows<S>, (BookFault, S)>
         requires { IsFound (state S.Store conn) }
-        ensures { (trees : Trees) → (HasCleanDisk (state S.Store conn)
+        ensures seen { (trees : Trees) → (HasCleanDisk (state S.Store conn)
             → (state S.Store conn).now.trees ≡ trees) → IfOk result (IsSeen trees) }
+        ensures left { (trees : Trees) → (HasCleanDisk (state S.Store conn)
+            → (state S.Store conn).now.trees ≡ trees) → IfErr result (λ e. IsClean (S.Store.view e.1)
+            → LeavesAlone trees (S.Store.recovers e.1)) }
     {
         let is_there = match has_first_tables(conn.schema(), alloc) {
             Ok(said) => said,
-            Err(error) => return Err(fault_of(&error)),
+            Err(error) => return Err((fault_of(&error), conn.into_store())),
         };
+        let seen = Log::new().and(&conn, &is_there);
         Ok(OldRows {
             conn,
             alloc,
             is_there,
+            seen,
         })
     }
 
     /// The same rows, if their row of `meta` has the number.
-    fn numbered(old: OldRows<S>) -> Result<OldRows<S>, BookFault>
-        ensures { (trees : Trees) → IsSeen trees old → IfOk result (IsAdopted trees) }
+    fn numbered(old: OldRows<S>) -> Result<OldRows<S>, (BookFault, S)>
+        ensures adopted { (trees : Trees) → IsSeen trees old → IfOk result (IsAdopted trees) }
+        ensures left { (trees : Trees) → IsSeen trees old → IfErr result (λ e. IsClean (S.Store.view e.1)
+            → LeavesAlone trees (S.Store.recovers e.1)) }
     {
         if !old.is_there {
             return Ok(old);
         }
         let mut old = old;
-        let metas = old.metas()?;
+        let metas = match old.metas() {
+            Ok(metas) => metas,
+            Err(fault) => return Err((fault, old.into_store())),
+        };
         if !is_first(metas.as_slice()) {
             old.is_there = false;
         }
         Ok(old)
     }
 
-    /// The rows of a database of the schema before this one. It is read and checked anew, whole.
-    pub fn adopt(conn: Connection<S>, alloc: Global) -> Result<OldRows<S>, BookFault>
-        ensures { IfOk result (IsAdopted (state S.Store conn).committed.trees) }
+    /// The rows of a database of the schema before this one. It is read and checked anew, whole. After a
+    /// fault the database is given back, with what was committed as it was.
+    pub fn adopt(conn: Connection<S>, alloc: Global) -> Result<OldRows<S>, (BookFault, S)>
+        ensures adopted { IfOk result (IsAdopted (state S.Store conn).committed.trees) }
+        ensures left { IfErr result (λ e. IsClean (S.Store.view e.1) → IsTrue (state S.Store conn).is_open
+            → LeavesAlone (state S.Store conn).committed.trees (S.Store.recovers e.1)) }
     {
         let conn = match reread(conn, alloc) {
             Ok(conn) => conn,
-            Err((fault, _)) => return Err(fault),
+            Err((fault, store)) => return Err((fault, store)),
         };
         let old = OldRows::over(conn, alloc)?;
         OldRows::numbered(old)

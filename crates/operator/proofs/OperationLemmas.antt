@@ -1,12 +1,12 @@
--- What a look at the clock and a look-up leave.
+-- What a look at what waits, and a look-up, leave.
 use Rattle.std.proofs.Common.{ℕ, inl, inr, ap}
 use Rattle.std.specs.Prelude.{Result, Ok, Err, IfErr, IfOk}
 use Rattle.policy.specs.Rules.{PolicyRules}
-use Rattle.isolation.specs.Runs.{Answer, Question}
 use Rattle.model.specs.Registry.{Registry}
-use Rattle.registry.specs.Calls.{CallKeeps, LooksUpKeeping}
-use Rattle.registry.specs.Execution.{Fails, Greets, IsUnchanged}
+use Rattle.registry.specs.Calls.{LooksUpKeeping, StepKeeps}
+use Rattle.registry.specs.Execution.{Fails, IsUnchanged, ShowsBacklog}
 use Rattle.registry.specs.Faces.{LooksUp}
+use Rattle.registry.specs.declared.backlog.Backlog.{Backlog}
 use Rattle.registry.specs.declared.fault.Fault.{Fault}
 use Rattle.registry.specs.declared.fault.Fault.TheVariants as faults
 use Rattle.server.specs.Http.{Passes}
@@ -17,23 +17,14 @@ unchanged faults.Memory old new fails = fails.0
 unchanged faults.Store old new fails = fails.0
 unchanged faults.Moment old new fails = fails.0
 
--- a look at it changes nothing but that time passes
-pub looked : (p : PolicyRules) (moment : ℕ) (x : Question) (told : ℕ → Answer) (makes : Stored → Stored → Type 0) (result : Result ℕ Fault) (after : PolicyRules) (old new : BookState) → IfOk result (λ date. Greets p moment date old new)
-    → IfErr result (λ fault. Fails fault old new) → CallKeeps p moment x told makes result after old new → Passes p moment old new
-looked p moment x told makes (Ok date) after old new greets fails keeps = record {
-  registry = λ clean. inr (greets clean).left;
-  terms = keeps.answered.terms;
-  follows = keeps.follows;
-}
-looked p moment x told makes (Err fault) after old new greets fails keeps =
-    let kept : IsUnchanged old new = unchanged fault old new fails in
-    record {
-      registry = λ clean. inl (ap (λ (held : Stored). held.registry) (kept.content clean));
-      terms = λ clean. ap (λ (held : Stored). held.terms) (kept.content clean);
-      follows = keeps.follows;
-    }
+-- a look at what waits changes nothing
+pub unchanged_by : (p : PolicyRules) (moment : ℕ) (makes : Stored → Stored → Type 0) (result : Result Backlog Fault) (after : PolicyRules) (old new : BookState) → IfOk result (λ found. ShowsBacklog p moment found old new)
+    → StepKeeps p makes result after old new → IfErr result (λ fault. Fails fault old new) → IsUnchanged old new
+unchanged_by p moment makes (Ok found) after old new shows keeps fails =
+    record { content = λ clean. λ i. record { registry = (shows clean).left i; terms = keeps.terms clean i } }
+unchanged_by p moment makes (Err fault) after old new shows keeps fails = unchanged fault old new fails
 
--- a look-up neither
+-- a look-up changes nothing but that time passes
 pub passes_by : {X : Type 0} (lapses : ℕ → Registry → Registry) (p : PolicyRules) (moment : ℕ) (find : Registry → X) (makes : Stored → Stored → Type 0) (result : Result X Fault) (after : PolicyRules) (old new : BookState) → IfOk result (λ found. LooksUp p find lapses moment found old new)
     → LooksUpKeeping p moment makes result after old new → IfErr result (λ fault. Fails fault old new) → Passes p moment old new
 passes_by lapses p moment find makes (Ok found) after old new step keeps fails = record {

@@ -6,6 +6,7 @@ use Rattle.operator.specs.declared.answer.Kind.{Kind}
 use Rattle.operator.specs.declared.answer.Kind.TheVariants.{Json, Plain, Prometheus, Csv}
 use Rattle.operator.specs.declared.request.Refusal.{Refusal}
 use Rattle.operator.specs.declared.request.Refusal.TheVariants as refusals
+use Rattle.registry.specs.declared.backlog.Backlog.{Backlog}
 
 -- code and reason (RFC 9110, 15)
 abbrev pub status_of : Outcome → List ℕ
@@ -79,3 +80,13 @@ clock_figure clock = joined (
     codes "# TYPE tldreg_registry_clock_seconds gauge\ntldreg_registry_clock_seconds " ∷ decimal clock
     ∷ codes "\n" ∷ []
     )
+
+-- how many objects are due that haven't lapsed yet
+unfoldable pub due_figure : ℕ → List ℕ
+due_figure due = joined (
+    codes "# TYPE tldreg_due_objects gauge\ntldreg_due_objects " ∷ decimal due ∷ codes "\n" ∷ []
+    )
+
+-- of a registry
+abbrev pub registry_figures : Backlog → List ℕ
+registry_figures backlog = clock_figure backlog.clock ++ due_figure backlog.due

@@ -1,12 +1,12 @@
 -- What a request of the operator's does to a registry, and what it is answered.
-use Rattle.std.specs.Prelude.{◌≡◌, ◌⊎◌, ℕ, max, true, List, [], ◌++◌, take, Option, Some, None}
+use Rattle.std.specs.Prelude.{◌≡◌, ◌⊎◌, ℕ, true, List, [], ◌++◌, take, Option, Some, None}
 use Rattle.std.specs.Io.KnownBytes.{Appends}
 use Rattle.eppcommands.specs.Order.{order_in}
-use Rattle.frames.specs.Clocks.{Tells, first_moment}
+use Rattle.frames.specs.Clocks.{Tells}
 use Rattle.accounts.specs.declared.line.Line.{Line}
 use Rattle.model.specs.Lapse.{lapsed}
 use Rattle.model.specs.Registry.{account_of}
-use Rattle.operator.specs.Answers.{clock_figure, outcome_of, refusal, response}
+use Rattle.operator.specs.Answers.{outcome_of, refusal, registry_figures, response}
 use Rattle.operator.specs.Heard.{IsHeard}
 use Rattle.operator.specs.declared.answer.Kind.TheVariants as kinds
 use Rattle.operator.specs.declared.answer.Outcome.{Outcome}
@@ -18,7 +18,8 @@ use Rattle.operator.specs.declared.serving.RequestEnd.TheVariants as ends
 use Rattle.policy.specs.Rules.{PolicyRules}
 use Rattle.protocol.specs.declared.code.Code.{Code}
 use Rattle.protocol.specs.declared.code.Code.TheVariants.{Completed}
-use Rattle.registry.specs.Execution.{IsUnchanged}
+use Rattle.registry.specs.Execution.{IsUnchanged, ShowsBacklog}
+use Rattle.registry.specs.declared.backlog.Backlog.{Backlog}
 use Rattle.script.specs.declared.exit.Exit.{Exit}
 use Rattle.script.specs.declared.exit.Exit.TheVariants as exits
 use Rattle.script.specs.Deposits.{IsCarriedOut}
@@ -106,31 +107,28 @@ DoesStatement p x clock later old new before after end =
 
 -- ---- figures
 
--- the text of the registry's clock
-abbrev pub IsClock : (old new : BookState) → ℕ → Type 0
-IsClock old new clock = new.is_clean ≡ true → clock ≡ max first_moment old.content.registry.clock
-
--- some figures, with a clock at their end
-abbrev pub IsFigures : ℕ → (before after : Option (List ℕ)) → RequestEnd → Type 0
-IsFigures clock before after end =
-    ((text : List ℕ) × IsSent (response outcomes.Done kinds.Prometheus (text ++ clock_figure clock)) before after end)
+-- some figures, with those of a registry at their end
+abbrev pub IsFigures : Backlog → (before after : Option (List ℕ)) → RequestEnd → Type 0
+IsFigures backlog before after end =
+    ((text : List ℕ) × IsSent (response outcomes.Done kinds.Prometheus (text ++ registry_figures backlog)) before after end)
     ⊎ IsSent (refusal outcomes.Failed) before after end
 
--- figures with the registry's clock, or that there are none
-abbrev pub SendsFigures : (old new : BookState) → (before after : Option (List ℕ)) → RequestEnd → Type 0
-SendsFigures old new before after end =
-    ((clock : ℕ) × IsClock old new clock × IsFigures clock before after end)
-    ⊎ IsSent (refusal outcomes.Failed) before after end
+-- figures with those of the registry at one moment, or that there are none; the registry stays as it is
+abbrev pub DoesMetrics : PolicyRules → (clock later : Option (List ℕ)) → (old new : BookState)
+    → (before after : Option (List ℕ)) → RequestEnd → Type 0
+DoesMetrics p clock later old new before after end =
+    (moment : ℕ) × Tells clock later moment × IsUnchanged old new
+    × (((backlog : Backlog) × ShowsBacklog p moment backlog old new × IsFigures backlog before after end)
+    ⊎ IsSent (refusal outcomes.Failed) before after end)
 
 -- ---- all that is asked
 
--- What is done for what is asked. For figures the registry's clock is looked at, and what is refused does nothing.
+-- What is done for what is asked; what is refused does nothing.
 abbrev pub Does : PolicyRules → Asked → List ℕ → (clock later : Option (List ℕ)) → (old new : BookState)
     → (before after : Option (List ℕ)) → RequestEnd → Type 0
 Does p (Order n) body clock later old new before after end = DoesOrder p body clock later old new before after end
 Does p Zone body clock later old new before after end = DoesZone p clock later old new
-Does p Metrics body clock later old new before after end =
-    (later ≡ clock) × Passes p first_moment old new × SendsFigures old new before after end
+Does p Metrics body clock later old new before after end = DoesMetrics p clock later old new before after end
 Does p (Statement extract) body clock later old new before after end = DoesStatement p extract clock later old new before after end
 Does p (Refused why) body clock later old new before after end =
     (later ≡ clock) × (new ≡ old) × IsSent (refusal (outcome_of why)) before after end

@@ -4,7 +4,7 @@ ghost use Rattle.operator.specs.Answers.{refusal, response};
 ghost use Rattle.operator.specs.Operations.{Does, IsSent, Operates};
 ghost use Rattle.operator.specs.Operations as spec;
 ghost use Rattle.server.specs.Http.{Passes};
-ghost use Rattle.frames.specs.Clocks.{Tells, first_moment};
+ghost use Rattle.registry.specs.Execution.{IsUnchanged, ShowsBacklog};
 ghost use Rattle.books.specs.Book.{Follows};
 
 use crate::answer::{Kind, Outcome, outcome_of, response};
@@ -18,7 +18,7 @@ use basis::registrar::RegistrarNo;
 use books::Book;
 use calendar::Moment;
 use frames::Clock;
-use registry::Registry;
+use registry::{Backlog, Registry};
 use server::{ZoneExportFault, zone_on};
 use statements::{Extract, statement};
 use std::alloc::Global;
@@ -82,7 +82,7 @@ fn answer<W: Write, C: Clock, F: Figures, B: Book + Drop>(
     match asked {
         Asked::Order(_) => answer_order(alloc, body, writer, clock, registry),
         Asked::Zone => answer_zone(alloc, writer, clock, registry),
-        Asked::Metrics => answer_metrics(alloc, figures, writer, registry),
+        Asked::Metrics => answer_metrics(alloc, figures, writer, clock, registry),
         Asked::Statement(extract) => answer_statement(alloc, extract, writer, clock, registry),
         Asked::Refused(why) => refuse(alloc, outcome_of(why), writer),
     }
@@ -214,36 +214,37 @@ fn lines_at<B: Book + Drop>(
     registry.lines(registrar, moment).ok()
 }
 
-/// Sends figures of the program and of the registry's clock.
-fn answer_metrics<W: Write, F: Figures, B: Book + Drop>(
+/// Sends figures of the program and of the registry at the clock's moment.
+fn answer_metrics<W: Write, C: Clock, F: Figures, B: Book + Drop>(
     alloc: Global,
     figures: &F,
     writer: &mut W,
+    clock: &mut C,
     registry: &mut Registry<B>,
 ) -> RequestEnd
-    ensures passes { Passes registry.old.policy first_moment (B.state registry.old.book)
-        (B.state registry.new.book) }
-    ensures sends { spec.SendsFigures (B.state registry.old.book) (B.state registry.new.book)
-        (W.contents writer.old) (W.contents writer.new) result }
+    ensures does { spec.DoesMetrics registry.old.policy (C.moments clock.old) (C.moments clock.new)
+        (B.state registry.old.book) (B.state registry.new.book) (W.contents writer.old)
+        (W.contents writer.new) result }
     ensures follows { Follows (B.state registry.old.book) (B.state registry.new.book) }
     ensures policy { registry.new.policy ≡ registry.old.policy }
 {
-    match clock_of(registry) {
-        Some(now) => send_figures(alloc, figures, now, writer),
+    let moment = clock.moment();
+    match backlog_at(registry, moment) {
+        Some(backlog) => send_figures(alloc, figures, backlog, writer),
         None => refuse(alloc, Outcome::Failed, writer),
     }
 }
 
-/// Sends figures of the program and of a clock.
+/// Sends figures of the program and of a registry.
 fn send_figures<W: Write, F: Figures>(
     alloc: Global,
     figures: &F,
-    clock: Moment,
+    backlog: Backlog,
     writer: &mut W,
 ) -> RequestEnd
-    ensures { spec.IsFigures clock (W.contents writer.old) (W.contents writer.new) result }
+    ensures { spec.IsFigures backlog (W.contents writer.old) (W.contents writer.new) result }
 {
-    match figures_of(alloc, figures, clock) {
+    match figures_of(alloc, figures, backlog) {
         Ok(text) => send(
             alloc,
             Outcome::Done,
@@ -255,15 +256,15 @@ fn send_figures<W: Write, F: Figures>(
     }
 }
 
-/// The registry's clock: what it shows at the first moment of all.
-fn clock_of<B: Book + Drop>(registry: &mut Registry<B>) -> Option<Moment>
-    ensures told { IfSome result (λ clock. spec.IsClock (B.state registry.old.book)
-        (B.state registry.new.book) clock) }
-    ensures passes { Passes registry.old.policy first_moment (B.state registry.old.book)
-        (B.state registry.new.book) }
+/// What waits in the registry at a moment.
+fn backlog_at<B: Book + Drop>(registry: &mut Registry<B>, moment: Moment) -> Option<Backlog>
+    ensures told { IfSome result (λ backlog. ShowsBacklog registry.old.policy moment backlog
+        (B.state registry.old.book) (B.state registry.new.book)) }
+    ensures same { IsUnchanged (B.state registry.old.book) (B.state registry.new.book) }
+    ensures follows { Follows (B.state registry.old.book) (B.state registry.new.book) }
     ensures policy { registry.new.policy ≡ registry.old.policy }
 {
-    registry.greet(Moment::first()).ok()
+    registry.backlog(moment).ok()
 }
 
 /// Answers that nothing is done.

@@ -1,9 +1,8 @@
 -- Reading the entries of a list one after the other.
-use Rattle.std.proofs.Common.{◌≡◌, Bool, true, false, ◌||◌, ◌&&◌, ℕ, suc, ◌+◌, ◌<◌, ◌≤◌, List, [], ◌∷◌, ◌++◌, map, length, take, drop, get_or, min, ◌-◌, Some, None, Result, Ok, Err, refl, sym, ap, subst, ◌∙◌, append_assoc, arith}
-use Rattle.std.proofs.lemmas.List.{map-id, append-nil, drop_more, take_all, length-drop}
-use Rattle.std.proofs.lemmas.Slice.Zip.{length-zip}
+use Rattle.std.proofs.Common.{◌≡◌, Bool, true, false, ◌||◌, ◌&&◌, ℕ, suc, ◌+◌, ◌<◌, ◌≤◌, List, [], ◌∷◌, ◌++◌, map, length, take, drop, get_or, ◌-◌, Some, None, Result, Ok, Err, refl, sym, ap, subst, ◌∙◌, append_assoc, arith}
+use Rattle.std.proofs.lemmas.List.{append-nil, drop_more, take_all, length-drop}
 use Rattle.std.specs.Cmp.Lexicographic.{nat_list_eq_equiv}
-use Rattle.std.specs.List.{AllByRecursion, IsDistinct, list_all, list_any, zip}
+use Rattle.std.specs.List.{AllByRecursion, IsDistinct, list_all, list_any}
 use Rattle.names.specs.Labels.{is_label}
 use Rattle.names.specs.Canonical.{reads_as_itself}
 use Rattle.std.specs.Str.{bytes_eq}
@@ -13,8 +12,7 @@ use Rattle.toml.specs.declared.value.Value.{Value}
 use Rattle.policy.specs.declared.key.Key.{Key}
 use Rattle.policy.specs.declared.fault.PolicyFault.{PolicyFault}
 use Rattle.policy.specs.declared.fault.PolicyFault.TheVariants as told
-use Rattle.policy.specs.Reading.{first_twice, ◌>>=◌, Fails, as_text, text_in, texts_in, values_of, registrar_of}
-use Rattle.policy.specs.Rules.{ids_of}
+use Rattle.policy.specs.Reading.{first_twice, ◌>>=◌, Fails, as_text, text_in, texts_in, values_of}
 
 pub values_of-items_of : (ds : List Data) → values_of (items_of ds) ≡ ds
 values_of-items_of [] = refl
@@ -97,7 +95,7 @@ apart id (o ∷ os) none =
     let parts = or_false (bytes_eq o id) (list_any (λ o. bytes_eq o id) os) none in
     (nat_list_eq_equiv.symm id o ∙ parts.0, apart id os parts.1)
 
-distinct_ids : (ids : List (List ℕ)) → first_twice ids ≡ None → IsDistinct bytes_eq ids
+pub distinct_ids : (ids : List (List ℕ)) → first_twice ids ≡ None → IsDistinct bytes_eq ids
 unfolding first_twice IsDistinct
 distinct_ids [] e = tt
 distinct_ids (id ∷ ids) e = by (list_any (λ o. bytes_eq o id) ids) refl (distinct_ids ids)
@@ -106,24 +104,9 @@ distinct_ids (id ∷ ids) e = by (list_any (λ o. bytes_eq o id) ids) refl (dist
     by true found rest = absurd (let never = rw found at e in cc)
     by false none rest = (apart id ids none, rest (rw none at e))
 
-ids_of-paired : (ids passwords : List (List ℕ)) → length ids ≤ length passwords → ids_of (map registrar_of (zip ids passwords)) ≡ ids
-ids_of-paired [] passwords h = refl
-ids_of-paired (id ∷ ids) [] h = absurd (omega arith)
-ids_of-paired (id ∷ ids) (p ∷ ps) h = ap (λ rest. id ∷ rest) (ids_of-paired ids ps (omega arith))
-
-pub distinct-paired : (ids passwords : List (List ℕ)) → length ids ≤ length passwords → first_twice ids ≡ None → IsDistinct bytes_eq (ids_of (map registrar_of (zip ids passwords)))
-distinct-paired ids passwords h none = subst (IsDistinct bytes_eq) (sym (ids_of-paired ids passwords h)) (distinct_ids ids none)
-
 -- all from an index on, as a slice gives it
 pub all_after : {A : Type 0} (xs : List A) (n : ℕ) → take (length xs - n) (drop n xs) ≡ drop n xs
 all_after xs n = take_all (length xs - n) (drop n xs) (omega (arith, length-drop n xs))
-
-pub map-same : {A : Type 0} (xs ys : List A) → map (λ x. x) xs ≡ ys → xs ≡ ys
-map-same xs ys e = sym (map-id xs) ∙ e
-
--- each id has a password
-pub length-paired : (ids passwords : List (List ℕ)) → length (map registrar_of (zip ids passwords)) ≡ min (length ids) (length passwords)
-length-paired ids passwords = length_of_map registrar_of (zip ids passwords) ∙ length-zip ids passwords
 
 -- a label that reads as itself is one
 pub is_label-reads : (text : List ℕ) → reads_as_itself text ≡ true → is_label text ≡ true

@@ -3,7 +3,7 @@ use Rattle.std.specs.Prelude.{◌≡◌, ℕ, ℤ, pos, Bool, true, false, not, 
 use Rattle.std.specs.Char.{is_ascii_alphanumeric}
 use Rattle.std.specs.FinSet.{from_list}
 use Rattle.std.specs.Int.{is_in_range}
-use Rattle.std.specs.List.{list_any, list_all, zip}
+use Rattle.std.specs.List.{list_any, list_all}
 use Rattle.std.specs.Str.{bytes_eq, is_utf8}
 use Rattle.toml.specs.Parse.{parse_document}
 use Rattle.toml.specs.Data.{Data, Members, Items, no_items, item, get_member, as_integer, as_str, as_table, as_array}
@@ -24,7 +24,8 @@ use Rattle.policy.specs.declared.schedule.DatedDays.{DatedDays}
 use Rattle.policy.specs.declared.schedule.Schedule.{Schedule}
 use Rattle.policy.specs.declared.prices.Prices.{Prices}
 use Rattle.policy.specs.declared.soa.Soa.{Soa}
-use Rattle.policy.specs.declared.registrar.Registrar.{Registrar}
+use Rattle.policy.specs.declared.registrar.Registrars.{Registrars}
+use Rattle.policy.specs.declared.policy.PolicyFile.{PolicyFile}
 use Rattle.policy.specs.Rules.{PolicyRules}
 use Rattle.policy.specs.Keys.{table_of, name_of}
 
@@ -338,27 +339,27 @@ abbrev pub unless_twice : {A : Type 0} → Option (List ℕ) → A → Result A 
 unless_twice None x = Ok x
 unless_twice (Some id) x = Err (Twice id)
 
-abbrev pub registrar_of : List ℕ × List ℕ → Registrar
-registrar_of pair = record { id = pair.0; password = pair.1 }
-
-unfoldable pub registrars_at : Members → Result (List Registrar) PolicyFault
+unfoldable pub registrars_at : Members → Result Registrars PolicyFault
 registrars_at doc = do
   entries ← entries_at doc
   ids ← column RegistrarId entries
   passwords ← column RegistrarPassword entries
-  unless_twice (first_twice ids) (map registrar_of (zip ids passwords))
+  unless_twice (first_twice ids) (record { ids = ids; passwords = passwords })
 
 -- ---- the policy
 
-unfoldable pub rules_at : Members → Result PolicyRules PolicyFault
-rules_at doc = do
+unfoldable pub file_at : Members → Result PolicyFile PolicyFault
+file_at doc = do
   label ← text_at doc Zone
   reserved ← labels_at doc Reserved
   days ← schedule_at doc
   prices ← prices_at doc
   soa ← soa_at doc
   registrars ← registrars_at doc
-  Ok (record { zone = record { label = label; reserved = from_list reserved }; days = days; prices = prices; soa = soa; registrars = registrars })
+  Ok (record {
+    policy = record { zone = record { label = label; reserved = from_list reserved }; days = days; prices = prices; soa = soa; ids = registrars.ids };
+    passwords = registrars.passwords;
+  })
 
 abbrev pub or_not_toml : Option Members → Result Members PolicyFault
 or_not_toml (Some doc) = Ok doc
@@ -368,7 +369,13 @@ or_not_toml None = Err NotToml
 unfoldable pub document_of : List ℕ → Result Members PolicyFault
 document_of bytes = if is_utf8 bytes then or_not_toml (parse_document bytes) else Err NotToml
 
+unfoldable pub file_of : List ℕ → Result PolicyFile PolicyFault
+file_of bytes = do
+  doc ← document_of bytes
+  file_at doc
+
+-- without the passwords
 unfoldable pub policy_of : List ℕ → Result PolicyRules PolicyFault
 policy_of bytes = do
-  doc ← document_of bytes
-  rules_at doc
+  file ← file_of bytes
+  Ok file.policy

@@ -1,5 +1,5 @@
 -- The values of a policy, and what is asked of them.
-use Rattle.std.specs.Prelude.{ℕ, zero, suc, ◌+◌, ◌≤◌, ◌<◌, nat_le, Bool, ◌&&◌, if◌then◌else◌, List, [], ◌∷◌, fold, length, map, position, slice_get, Option, None, option_map}
+use Rattle.std.specs.Prelude.{ℕ, zero, suc, ◌+◌, ◌≤◌, ◌<◌, nat_le, Bool, false, if◌then◌else◌, List, [], ◌∷◌, fold, length, map, position, slice_get, Option, Some, None, option_map}
 use Rattle.std.specs.List.{AllByRecursion, IsDistinct}
 use Rattle.std.specs.Str.{bytes_eq}
 use Rattle.names.specs.Zone.{ZoneRules}
@@ -10,15 +10,15 @@ use Rattle.policy.specs.declared.days.Period.{Period}
 use Rattle.policy.specs.declared.days.Period.TheVariants.{Add, AutoRenew, Renew, Transfer, Redemption, Restore, PendingDelete, Answer, Lock}
 use Rattle.policy.specs.declared.prices.Prices.{Prices}
 use Rattle.policy.specs.declared.soa.Soa.{Soa}
-use Rattle.policy.specs.declared.registrar.Registrar.{Registrar}
 
+-- what the registry is run by: no password is in it
 pub record PolicyRules : Type 0 where
   pub zone : ZoneRules
   pub days : Schedule
   pub prices : Prices
   pub soa : Soa
-  -- in the order of the file
-  pub registrars : List Registrar
+  -- the ids of the registrars, in the order of the file
+  pub ids : List (List ℕ)
 
 -- ---- lengths of days, and prices
 
@@ -93,47 +93,54 @@ pub record AreTimes (soa : Soa) : Type 0 where
 
 -- ---- registrars
 
-abbrev pub ids_of : List Registrar → List (List ℕ)
-ids_of registrars = map (λ (registrar : Registrar). registrar.id) registrars
-
 -- from 1 to 1,000
 abbrev pub IsRegistrarCount : ℕ → Type 0
 IsRegistrarCount n = (1 ≤ n) × (n ≤ 1000)
 
 -- a registrar's place, counted from 1
 abbrev pub IsRegistrar : PolicyRules → ℕ → Type 0
-IsRegistrar p place = (1 ≤ place) × (place ≤ length p.registrars)
+IsRegistrar p place = (1 ≤ place) × (place ≤ length p.ids)
 
-abbrev pub has_id : List ℕ → Registrar → Bool
-has_id id registrar = bytes_eq registrar.id id
+abbrev pub has_id : List ℕ → List ℕ → Bool
+has_id id own = bytes_eq own id
 
-abbrev pub has_login : List ℕ → List ℕ → Registrar → Bool
-has_login id password registrar = has_id id registrar && bytes_eq registrar.password password
-
--- the place of the first registrar that passes the test
-abbrev pub place_where : (Registrar → Bool) → PolicyRules → Option ℕ
-place_where test p = option_map (λ index. index + 1) (position test p.registrars)
-
+-- the place of the registrar with this id
 abbrev pub place_of : List ℕ → PolicyRules → Option ℕ
-place_of id p = place_where (has_id id) p
-
-abbrev pub place_of_login : List ℕ → List ℕ → PolicyRules → Option ℕ
-place_of_login id password p = place_where (has_login id password) p
+place_of id p = option_map (λ index. index + 1) (position (has_id id) p.ids)
 
 -- the id of the registrar at a place
 abbrev pub id_at : PolicyRules → ℕ → Option (List ℕ)
 id_at p zero = None
-id_at p (suc index) = option_map (λ (registrar : Registrar). registrar.id) (slice_get p.registrars index)
+id_at p (suc index) = slice_get p.ids index
+
+-- ---- passwords, in the order of the registrars' places
+
+abbrev pub password_at : List (List ℕ) → ℕ → Option (List ℕ)
+password_at passwords zero = None
+password_at passwords (suc index) = slice_get passwords index
+
+abbrev pub is_text : List ℕ → Option (List ℕ) → Bool
+is_text text None = false
+is_text text (Some own) = bytes_eq own text
+
+-- who logs in with this password, of the registrar at this place, if there is one
+abbrev pub login_at : List (List ℕ) → List ℕ → Option ℕ → Option ℕ
+login_at passwords password None = None
+login_at passwords password (Some place) =
+    if is_text password (password_at passwords place) then Some place else None
+
+abbrev pub place_of_login : List ℕ → List ℕ → PolicyRules → List (List ℕ) → Option ℕ
+place_of_login id password p passwords = login_at passwords password (place_of id p)
 
 -- ---- what is true of every policy
 
-pub record AreSound (days : Schedule) (prices : Prices) (soa : Soa) (registrars : List Registrar) : Type 0 where
+pub record AreSound (days : Schedule) (prices : Prices) (soa : Soa) (ids : List (List ℕ)) : Type 0 where
   pub days_in_range : IsSchedule days
   pub prices_in_range : ArePrices prices
   pub times_in_range : AreTimes soa
-  pub count : IsRegistrarCount (length registrars)
+  pub count : IsRegistrarCount (length ids)
   -- no two registrars have one id
-  pub distinct : IsDistinct bytes_eq (ids_of registrars)
+  pub distinct : IsDistinct bytes_eq ids
 
 abbrev pub IsSound : PolicyRules → Type 0
-IsSound p = AreSound p.days p.prices p.soa p.registrars
+IsSound p = AreSound p.days p.prices p.soa p.ids

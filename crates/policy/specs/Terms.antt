@@ -9,10 +9,9 @@ use Rattle.policy.specs.declared.schedule.Schedule.{Schedule}
 use Rattle.policy.specs.declared.prices.Prices.{Prices}
 use Rattle.policy.specs.declared.terms.Terms.{Terms}
 use Rattle.policy.specs.Rules.{PolicyRules}
-pub use Rattle.policy.specs.Rules.{ids_of}
 
 abbrev pub terms_of : PolicyRules → Terms
-terms_of p = record { zone = p.zone.label; reserved = p.zone.reserved; days = p.days; prices = p.prices; ids = ids_of p.registrars }
+terms_of p = record { zone = p.zone.label; reserved = p.zone.reserved; days = p.days; prices = p.prices; ids = p.ids }
 
 abbrev pub same_days : Days → Days → Bool
 same_days a b =

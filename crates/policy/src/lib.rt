@@ -1,7 +1,7 @@
 //! The policy of the registry, which the operator writes in a TOML file: the zone, its periods in days,
 //! its prices in cents, its start of authority, and the registrars that may log in.
 //!
-//! [`Policy::read`] reads a whole file, or returns its first fault, in the order of [`Key`]. Every key
+//! [`PolicyFile::read`] reads a whole file, or returns its first fault, in the order of [`Key`]. Every key
 //! is required; other keys are ignored. [`Terms`] are the part of a policy that a registry keeps as long
 //! as it lives, with two exceptions: registrars may be added at the end, and new periods may begin
 //! later. Reading takes time linear in the file, except that each id is compared with those after it (at
@@ -13,6 +13,7 @@ mod days;
 mod document;
 mod fault;
 mod key;
+mod passwords;
 mod policy;
 mod prices;
 mod registrar;
@@ -24,9 +25,9 @@ mod texts;
 pub use days::{Days, Period};
 pub use fault::PolicyFault;
 pub use key::Key;
-pub use policy::Policy;
+pub use passwords::Passwords;
+pub use policy::{Policy, PolicyFile};
 pub use prices::Prices;
-pub use registrar::Registrar;
 pub use schedule::{DatedDays, Schedule};
 pub use soa::Soa;
 pub use terms::Terms;

@@ -4,15 +4,16 @@ ghost use Rattle.toml.specs.View.{table_view};
 ghost use Rattle.policy.specs.Reading as spec;
 ghost use Rattle.policy.specs.Reading.{Gives};
 ghost use Rattle.policy.specs.Rules.{AreTimes, IsRegistrar, IsPrice, IsRegistrarCount, IsSound, id_at, place_of, place_of_login};
-ghost use Rattle.policy.specs.Terms.{ids_of, terms_of};
+ghost use Rattle.policy.specs.Terms.{terms_of};
 
 use crate::dated::schedule_at;
 use crate::document::document_of;
+use crate::passwords::Passwords;
 use crate::prices::prices_at;
-use crate::registrar::{index_of, index_of_login, number_at, registrars_at};
+use crate::registrar::{index_of, number_at, registrars_at};
 use crate::soa::soa_at;
 use crate::texts::{labels_at, text_at};
-use crate::{Key, PolicyFault, Prices, Registrar, Schedule, Soa, Terms};
+use crate::{Key, PolicyFault, Prices, Schedule, Soa, Terms};
 use basis::list::Seq;
 use basis::registrar::RegistrarNo;
 use basis::text::Text;
@@ -28,7 +29,7 @@ pub struct Policy {
     days: Schedule,
     prices: Prices,
     soa: Soa,
-    registrars: Seq<Registrar>,
+    ids: Seq<Text>,
 }
 
 impl Model for Policy {
@@ -40,15 +41,15 @@ impl Model for Policy {
 
     ghost coded = { Prim.hlevel (codes, names_code) };
 
-    ghost view = { λ p. record { zone = p.zone; days = p.days; prices = p.prices; soa = p.soa; registrars = p.registrars } };
+    ghost view = { λ p. record { zone = p.zone; days = p.days; prices = p.prices; soa = p.soa; ids = p.ids } };
 
-    ghost invariant = { λ p. AreSound p.days p.prices p.soa p.registrars };
+    ghost invariant = { λ p. AreSound p.days p.prices p.soa p.ids };
 }
 
-#[tactic(auto, unfolding(crate::specs::Reading::rules_at))]
-fn rules_at(alloc: Global, document: &Table) -> Result<Policy, PolicyFault>
-    ensures read { Gives (λ policy. policy) result (spec.rules_at (table_view document.now)) }
-    ensures sound { IfOk result IsSound }
+#[tactic(auto, unfolding(crate::specs::Reading::file_at))]
+fn file_at(alloc: Global, document: &Table) -> Result<PolicyFile, PolicyFault>
+    ensures read { Gives (λ file. file) result (spec.file_at (table_view document.now)) }
+    ensures sound { IfOk result (λ file. IsSound file.policy) }
 {
     let label = text_at(alloc, document, Key::Zone)?;
     let reserved = labels_at(alloc, document, Key::Reserved)?;
@@ -56,41 +57,53 @@ fn rules_at(alloc: Global, document: &Table) -> Result<Policy, PolicyFault>
     let prices = prices_at(document)?;
     let soa = soa_at(alloc, document)?;
     let registrars = registrars_at(alloc, document)?;
-    Ok(Policy {
-        zone: Zone::new(label, Seq::from_vec(reserved)),
-        days,
-        prices,
-        soa,
-        registrars,
+    Ok(PolicyFile {
+        policy: Policy {
+            zone: Zone::new(label, Seq::from_vec(reserved)),
+            days,
+            prices,
+            soa,
+            ids: registrars.ids,
+        },
+        passwords: Passwords::new(registrars.passwords),
     })
 }
 
-/// The ids of registrars, in their order.
-fn copied_ids(alloc: Global, registrars: &[Registrar]) -> Result<Vec<Text>, AllocError>
-    ensures { IfOk result (λ ids. ids.items ≡ ids_of registrars.now) }
-{
-    let mut ids = Vec::new(alloc);
-    for registrar in registrars {
-        ids.push(registrar.id.clone()?)?;
+/// What a policy's file holds.
+#[derive(Drop)]
+pub struct PolicyFile {
+    pub policy: Policy,
+    pub passwords: Passwords,
+}
+
+impl PolicyFile {
+    /// What a file holds, or its first fault in the order of [`Key`]. A key's fault is found before
+    /// that of the next key, and of several registrars one that lacks a key before all that is wrong
+    /// with the key's values.
+    #[tactic(auto, unfolding(crate::specs::Reading::file_of))]
+    pub fn read(alloc: Global, bytes: &[u8]) -> Result<PolicyFile, PolicyFault>
+        ensures read { Gives (λ file. file) result (spec.file_of bytes.now) }
+        ensures sound { IfOk result (λ file. IsSound file.policy) }
+    {
+        let document = document_of(alloc, bytes)?;
+        file_at(alloc, &document)
     }
-    Ok(ids)
 }
 
 impl Policy {
-    /// The policy that a file holds, or its first fault in the order of [`Key`]. A key's fault is
-    /// found before that of the next key, and of several registrars one that lacks a key before
-    /// all that is wrong with the key's values.
+    /// The policy of a file, where nobody logs in.
     #[tactic(auto, unfolding(crate::specs::Reading::policy_of))]
     pub fn read(alloc: Global, bytes: &[u8]) -> Result<Policy, PolicyFault>
         ensures read { Gives (λ policy. policy) result (spec.policy_of bytes.now) }
         ensures sound { IfOk result IsSound }
     {
-        let document = document_of(alloc, bytes)?;
-        rules_at(alloc, &document)
+        let file = PolicyFile::read(alloc, bytes)?;
+        Ok(file.policy)
     }
 
-    /// Every policy's values are within their ranges, and no two of its registrars have one id.
-    pub fn is_sound(&self)
+    /// Does nothing. It tells a proof that every policy's values are within their ranges, and that no two of
+    /// its registrars have one id.
+    pub fn show_sound(&self)
         ensures { IsSound self.now }
     {
         let _ = &self.days;
@@ -144,10 +157,10 @@ impl Policy {
 
     /// How many registrars there are, from 1 to 1,000.
     pub fn registrars(&self) -> u32
-        ensures value { result ≡ length self.now.registrars }
+        ensures value { result ≡ length self.now.ids }
         ensures range { IsRegistrarCount result }
     {
-        self.registrars.as_slice().len() as u32
+        self.ids.as_slice().len() as u32
     }
 
     /// The registrar with this id.
@@ -155,17 +168,21 @@ impl Policy {
         ensures value { result ≡ place_of id.now self.now }
         ensures place { IfSome result (IsRegistrar self.now) }
     {
-        let index = index_of(self.registrars.as_slice(), id)?;
+        let index = index_of(self.ids.as_slice(), id)?;
         Some(number_at(index))
     }
 
     /// The registrar with this id and password.
-    pub fn login(&self, id: &str, password: &str) -> Option<RegistrarNo>
-        ensures value { result ≡ place_of_login id.now password.now self.now }
+    pub fn login(&self, passwords: &Passwords, id: &str, password: &str) -> Option<RegistrarNo>
+        ensures value { result ≡ place_of_login id.now password.now self.now passwords.now }
         ensures place { IfSome result (IsRegistrar self.now) }
     {
-        let index = index_of_login(self.registrars.as_slice(), id, password)?;
-        Some(number_at(index))
+        let registrar = self.find(id)?;
+        if passwords.has(registrar, password) {
+            Some(registrar)
+        } else {
+            None
+        }
     }
 
     /// The id of a registrar. None where the policy has no such place.
@@ -173,8 +190,7 @@ impl Policy {
         ensures { option_copied result ≡ id_at self.now registrar }
     {
         let index = registrar.place().checked_sub(1)?;
-        let found = self.registrars.as_slice().get(index as usize)?;
-        Some(&found.id)
+        self.ids.as_slice().get(index as usize)
     }
 
     /// What a registry's book is used under.
@@ -186,7 +202,7 @@ impl Policy {
             reserved: self.zone.reserved().clone()?,
             days: self.days.clone()?,
             prices: self.prices,
-            ids: Seq::from_vec(copied_ids(alloc, self.registrars.as_slice())?),
+            ids: self.ids.clone()?,
         })
     }
 }

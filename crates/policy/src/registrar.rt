@@ -1,11 +1,11 @@
 //! The registrars that may log in.
 ghost use Rattle.std.specs.Prelude.{◌≡◌, ◌+◌, ◌<◌, length, map, position, option_copied, IfOk, IfSome};
-ghost use Rattle.std.specs.List.{IsDistinct, list_any, zip};
+ghost use Rattle.std.specs.List.{IsDistinct, list_any};
 ghost use Rattle.std.specs.Str.{bytes_eq};
 ghost use Rattle.toml.specs.View.{view, table_view};
 ghost use Rattle.policy.specs.Reading as spec;
 ghost use Rattle.policy.specs.Reading.{Gives};
-ghost use Rattle.policy.specs.Rules.{IsRegistrarCount, has_id, has_login, ids_of};
+ghost use Rattle.policy.specs.Rules.{IsRegistrarCount, has_id};
 
 use crate::document::{any_lacks, as_values, get};
 use crate::texts::texts_in;
@@ -13,17 +13,19 @@ use crate::{Key, PolicyFault};
 use basis::list::Seq;
 use basis::registrar::RegistrarNo;
 use basis::text::Text;
-use std::alloc::{AllocError, Global};
+use std::alloc::Global;
 use toml::{Table, Value};
 
 /// The most registrars.
 const MOST_REGISTRARS: usize = 1_000;
 
-/// A registrar: 3 to 16 letters, digits and hyphens, and its password of 6 to 16 bytes.
+/// The registrars of a policy's file, in its order.
 #[derive(Drop)]
-pub struct Registrar {
-    pub id: Text,
-    pub password: Text,
+pub(crate) struct Registrars {
+    /// The id of each: 3 to 16 letters, digits and hyphens.
+    pub(crate) ids: Seq<Text>,
+    /// The password of each: 6 to 16 bytes.
+    pub(crate) passwords: Seq<Text>,
 }
 
 /// The registrar at an index of the list.
@@ -34,24 +36,12 @@ pub(crate) fn number_at(index: usize) -> RegistrarNo
     RegistrarNo::of_place(index as u32 + 1)
 }
 
-/// The index of the registrar with this id.
-pub(crate) fn index_of(registrars: &[Registrar], id: &str) -> Option<usize>
-    ensures value { result ≡ position (has_id id.now) registrars.now }
-    ensures bound { IfSome result (λ index. index < length registrars.now) }
+/// The index of an id.
+pub(crate) fn index_of(ids: &[Text], id: &str) -> Option<usize>
+    ensures value { result ≡ position (has_id id.now) ids.now }
+    ensures bound { IfSome result (λ index. index < length ids.now) }
 {
-    registrars
-        .iter()
-        .position(|registrar| registrar.id.as_str() == id)
-}
-
-/// The index of the registrar with this id and password.
-pub(crate) fn index_of_login(registrars: &[Registrar], id: &str, password: &str) -> Option<usize>
-    ensures value { result ≡ position (has_login id.now password.now) registrars.now }
-    ensures bound { IfSome result (λ index. index < length registrars.now) }
-{
-    registrars.iter().position(|registrar| {
-        registrar.id.as_str() == id && registrar.password.as_str() == password
-    })
+    ids.iter().position(|own| own.as_str() == id)
 }
 
 /// The texts of one key in all entries.
@@ -105,25 +95,13 @@ fn first_twice(ids: &[Text]) -> Option<&Text>
     None
 }
 
-/// Each id with the password at the same place.
-fn paired(alloc: Global, ids: Vec<Text>, passwords: Vec<Text>) -> Result<Vec<Registrar>, AllocError>
-    ensures { IfOk result (λ registrars. registrars.items
-        ≡ map spec.registrar_of (zip ids.items passwords.items)) }
-{
-    let mut registrars = Vec::new(alloc);
-    for (id, password) in ids.into_iter().zip(passwords) {
-        registrars.push(Registrar { id, password })?;
-    }
-    Ok(registrars)
-}
-
 /// The array `registrar`.
 #[tactic(auto, unfolding(crate::specs::Reading::registrars_at))]
-pub(crate) fn registrars_at(alloc: Global, document: &Table) -> Result<Seq<Registrar>, PolicyFault>
+pub(crate) fn registrars_at(alloc: Global, document: &Table) -> Result<Registrars, PolicyFault>
     ensures read { Gives (λ registrars. registrars) result
         (spec.registrars_at (table_view document.now)) }
-    ensures count { IfOk result (λ registrars. IsRegistrarCount (length registrars)) }
-    ensures distinct { IfOk result (λ registrars. IsDistinct bytes_eq (ids_of registrars)) }
+    ensures count { IfOk result (λ registrars. IsRegistrarCount (length registrars.ids)) }
+    ensures distinct { IfOk result (λ registrars. IsDistinct bytes_eq registrars.ids) }
 {
     let entries = entries_at(document)?;
     let ids = column(alloc, entries, Key::RegistrarId)?;
@@ -131,5 +109,8 @@ pub(crate) fn registrars_at(alloc: Global, document: &Table) -> Result<Seq<Regis
     if let Some(id) = first_twice(&ids) {
         return Err(PolicyFault::Twice(id.clone()?));
     }
-    Ok(Seq::from_vec(paired(alloc, ids, passwords)?))
+    Ok(Registrars {
+        ids: Seq::from_vec(ids),
+        passwords: Seq::from_vec(passwords),
+    })
 }

@@ -42,18 +42,18 @@ use Rattle.registry.specs.Lapsing.{dues_lapsed}
 
 -- ---- one object
 
-gifts : (p : PolicyRules) (xs : List Posting) (s : Registry) → changed_all p (map posting_change xs) s ≡ record s { accounts = fold posted s.accounts xs }
-gifts p [] s = refl
-gifts p (x ∷ xs) s = gifts p xs (changed p (posting_change x) s)
+postings-made : (p : PolicyRules) (xs : List Posting) (s : Registry) → changed_all p (map posting_change xs) s ≡ record s { accounts = fold posted s.accounts xs }
+postings-made p [] s = refl
+postings-made p (x ∷ xs) s = postings-made p xs (changed p (posting_change x) s)
 
 module _ (p : PolicyRules) (t : ℕ) (name : List ℕ) (s : Registry) where
   contact-one : (o : Option Contact) → changed_all p (lapse_changes p t name (option_map objects.Contact o)) s ≡ with_contact_lapsed t name o s
   contact-one None = refl
-  contact-one (Some c) = gifts p (lapse_contact t c).postings (changed p (LapseContact name (lapse_contact t c).object) s)
+  contact-one (Some c) = postings-made p (lapse_contact t c).postings (changed p (LapseContact name (lapse_contact t c).object) s)
 
   domain-one : (o : Option Domain) → changed_all p (lapse_changes p t name (option_map objects.Domain o)) s ≡ with_domain_lapsed p t name o s
   domain-one None = refl
-  domain-one (Some d) = gifts p (lapse_domain p t d).postings (changed p (LapseDomain name (lapse_domain p t d).object) s)
+  domain-one (Some d) = postings-made p (lapse_domain p t d).postings (changed p (LapseDomain name (lapse_domain p t d).object) s)
 
   host-one : (o : Option Host) → changed_all p (lapse_changes p t name (option_map objects.Host o)) s ≡ s
   host-one None = refl

@@ -4,6 +4,7 @@ pub mod OpenedLemmas
 pub mod StepLemmas
 pub mod LapsingLemmas
 pub mod LapseSteps
+mod BacklogSteps
 pub mod CrashLemmas
 pub mod Answering
 pub mod CallsKept

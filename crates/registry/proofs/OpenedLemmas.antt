@@ -1,6 +1,5 @@
 -- What is opened is a registry of the policy.
 use Rattle.std.proofs.Common.{◌≡◌, ◌↔◌, ◌⊎◌, inl, inr, ⊎_elim, ℕ, zero, suc, ◌+◌, ◌≤◌, Bool, true, false, cond, List, [], ◌∷◌, ◌++◌, length, Option, Some, None, IsSome, is_some, refl, sym, ap, subst, ◌∙◌, arith, length-append}
-use lib.ListN.{length-map}
 use Rattle.std.specs.Prelude.{fold, unwrap_or}
 use Rattle.std.specs.List.{All}
 use Rattle.std.proofs.lemmas.List.Elements.{All-nil}
@@ -16,9 +15,8 @@ use Rattle.accounts.specs.Entries.{entered, posted}
 use Rattle.basis.specs.Sweeps.{change_at}
 use Rattle.basis.proofs.ChangeLaws.{change_at-commutes}
 use Rattle.lifecycle.specs.Lapse.{lapse, lapse_contact}
-use Rattle.policy.specs.declared.registrar.Registrar.{Registrar}
 use Rattle.policy.specs.Rules.{PolicyRules, IsRegistrar, length_of}
-use Rattle.policy.specs.Terms.{Continues, DaysContinue, ids_of, terms_of}
+use Rattle.policy.specs.Terms.{Continues, DaysContinue, terms_of}
 use Rattle.policy.proofs.ScheduleLemmas.{continues-itself, in-force-same}
 use Rattle.policy.proofs.TermsLemmas.{continues-Decides}
 use Rattle.registry.specs.Opening.{KeepsLengths, Opens, OpensAsItWas, continues_earlier, goes_on, opened, openings}
@@ -108,9 +106,9 @@ places-after (suc n) r s =
 
 -- ---- a registry is opened under a policy that continues its own
 
-kept-opened : (p q : PolicyRules) (s : Registry) → q.zone ≡ p.zone → length q.registrars ≤ length p.registrars → IsRegistry q s → IsRegistry p (changed_all p (openings (length p.registrars)) s)
+kept-opened : (p q : PolicyRules) (s : Registry) → q.zone ≡ p.zone → length q.ids ≤ length p.ids → IsRegistry q s → IsRegistry p (changed_all p (openings (length p.ids)) s)
 kept-opened p q s zone more is =
-    let n : ℕ = length p.registrars in
+    let n : ℕ = length p.ids in
     let grows : Grows q p s (record s { accounts = accounts-after n s }) = record {
       zone = zone;
       place = λ r place. (place.0, omega (arith, place.1, more));
@@ -132,7 +130,7 @@ kept-opened p q s zone more is =
 -- ---- what was never opened is the registry of a policy without registrars
 
 abbrev without_registrars : PolicyRules → PolicyRules
-without_registrars p = record p { registrars = [] }
+without_registrars p = record p { ids = [] }
 
 nothing-at : {K X : Type 0} (R : K → K → Ordering) (k : K) (x : X) → get (empty {X = X} {R = R}) k ≡ Some x → ⊥
 nothing-at R k x at = let never : None ≡ Some x = sym (get-empty R k) ∙ at in cc
@@ -173,11 +171,9 @@ blank-is p = record { clock = omega arith; objects = no-objects p; lines = no-li
 
 -- ---- a book is opened
 
-fewer : (p q : PolicyRules) (added : List (List ℕ)) → ids_of p.registrars ≡ ids_of q.registrars ++ added → length q.registrars ≤ length p.registrars
+fewer : (p q : PolicyRules) (added : List (List ℕ)) → p.ids ≡ q.ids ++ added → length q.ids ≤ length p.ids
 fewer p q added ids =
-    let whole : length (ids_of p.registrars) ≡ length (ids_of q.registrars) + length added = ap length ids ∙ length-append (ids_of q.registrars) added in
-    let of_p : length (ids_of p.registrars) ≡ length p.registrars = length-map p.registrars (λ (registrar : Registrar). registrar.id) in
-    let of_q : length (ids_of q.registrars) ≡ length q.registrars = length-map q.registrars (λ (registrar : Registrar). registrar.id) in
+    let whole : length p.ids ≡ length q.ids + length added = ap length ids ∙ length-append q.ids added in
     omega arith
 
 -- tables that begin later than the clock change no length of a period that began by then
@@ -186,14 +182,14 @@ agree-until clock p q continues period m le = ap (length_of period) (in-force-sa
 
 -- so by now the registry is what it was under the other policy, once accounts are opened
 now-same : (p q : PolicyRules) (s : Registry) → DaysContinue s.clock p.days q.days → p.prices ≡ q.prices
-    → now p (changed_all p (openings (length p.registrars)) s) ≡ changed_all p (openings (length p.registrars)) (now q s)
+    → now p (changed_all p (openings (length p.ids)) s) ≡ changed_all p (openings (length p.ids)) (now q s)
 now-same p q s days prices =
-    let n : ℕ = length p.registrars in
+    let n : ℕ = length p.ids in
     now-opened p n s ∙ ap (changed_all p (openings n)) (same-lapse s.clock p q (agree-until s.clock p q days) prices s.clock s (omega arith))
 
 -- a registry that is well formed now under one policy, once it is opened under another
-now-kept-opened : (p q : PolicyRules) (s : Registry) → q.zone ≡ p.zone → DaysContinue s.clock p.days q.days → p.prices ≡ q.prices → length q.registrars ≤ length p.registrars → IsRegistry q (now q s)
-    → IsRegistry p (now p (changed_all p (openings (length p.registrars)) s))
+now-kept-opened : (p q : PolicyRules) (s : Registry) → q.zone ≡ p.zone → DaysContinue s.clock p.days q.days → p.prices ≡ q.prices → length q.ids ≤ length p.ids → IsRegistry q (now q s)
+    → IsRegistry p (now p (changed_all p (openings (length p.ids)) s))
 now-kept-opened p q s zone days prices more is = subst (IsRegistry p) (sym (now-same p q s days prices)) (kept-opened p q (now q s) zone more is)
 
 -- a policy under which a book goes on that was opened under another continues that one

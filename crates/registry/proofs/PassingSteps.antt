@@ -103,30 +103,7 @@ module _ (p : PolicyRules) (moment : ℕ) (before : Registry) where
   passed everything = passed-all (dues_lapsed p u (due_by p u (at u before)) (at u before))
       (all-lapsed p u (at u before) refl ∙ same-lapse p u before) refl
 
--- and where the clock stands there, it has lapsed without its moving
-passed-there : (p : PolicyRules) (what : Extent) (t : ℕ) (s : Registry) → s.clock ≡ t
-    → IsPassed p what t s (dues_lapsed p t (due_in p what t s) s) (max t s.clock)
-passed-there p what t s stands =
-    let same : max t s.clock ≡ t = omega (arith, stands) in
-    let there : at t s ≡ s = ap (λ (u : ℕ). at u s) (sym stands) in
-    subst (λ (after : Registry). IsPassed p what t s after (max t s.clock))
-    ((λ i. dues_lapsed p (same i) (due_in p what (same i) (at (same i) s)) (at (same i) s))
-    ∙ (λ i. dues_lapsed p t (due_in p what t (there i)) (there i)))
-    (passed p t s what)
-
 -- ---- of a book
-
--- what is asked for lapses where the clock stands
-pub catches-up : (p : PolicyRules) (what : Extent) (t : ℕ) (old new : BookState)
-    → (old.is_clean ≡ true → old.content.registry.clock ≡ t)
-    → BookWrites old new (with_dues_lapsed p t (due_in p what t old.content.registry) old.content)
-    × BookStays old new → new.is_clean ≡ true
-    → IsPassed p what t old.content.registry new.content.registry (max t old.content.registry.clock)
-catches-up p what t old new stands lapses clean =
-    subst (λ (after : Registry). IsPassed p what t old.content.registry after
-    (max t old.content.registry.clock)) (sym
-    (ap (λ (held : Stored). held.registry) (lapses.0.content clean)))
-    (passed-there p what t old.content.registry (stands (lapses.1.clean clean)))
 
 -- where the clock has moved, and it lapses there, time passes
 pub passes : (p : PolicyRules) (what : Extent) (moment clock : ℕ) (old mid new : BookState)
@@ -256,18 +233,3 @@ module _ {X : Type 0} (p : PolicyRules) (find : Registry → X) (what : Extent) 
     left = is.future ∙ sym (now-lapsed p moment before);
     waits = is.waits;
   }
-
--- where the clock was moved before: both moments are the clock's
-pub then-looked-up : {X : Type 0} (p : PolicyRules) (find : Registry → X)
-    (lapses : ℕ → Registry → Registry) (moment clock : ℕ) (before mid : Registry)
-    → IsPassed p nothing moment before mid clock → (after : Registry) (found : X)
-    → IsLookUp p find lapses clock mid after found → IsLookUp p find lapses moment before after found
-then-looked-up p find lapses moment clock before mid is after found step =
-    let late : max clock mid.clock ≡ mid.clock = omega (arith, is.told, is.clock) in
-    let same : lapsed p clock mid ≡ lapsed p moment before = ap (λ (u : ℕ). lapse p u mid) late
-    ∙ is.future in
-    record {
-      told = step.told ∙ ap find same;
-      left = step.left ∙ ap (now p) same;
-      waits = step.waits ∙ (λ i. lapses ((late ∙ is.clock) i) (at ((late ∙ is.clock) i) (is.waits i)));
-    }

@@ -29,19 +29,6 @@ within-on old mid new first then = record {
   stays = stays-on old mid new first.stays then.stays;
 }
 
-pub within-itself : (s : BookState) → s.is_open ≡ true → IsWithin s s
-within-itself s is_open = record {
-  counted = refl;
-  opened = is_open;
-  before = λ clean. refl;
-  terms = λ clean. refl;
-  stays = record {
-    clean = λ clean. clean;
-    answers = λ was. was;
-    leaves = record { honest = λ honest. honest; same = refl; ready = refl };
-  };
-}
-
 -- a change of the registry alone
 pub written : (old new : BookState) (held : Stored) → held.terms ≡ old.content.terms
     → BookWrites old new held → BookStays old new → IsWithin old new

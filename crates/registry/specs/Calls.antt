@@ -38,7 +38,7 @@ abbrev pub LooksUpKeeping : {A : Type 0} → PolicyRules → ℕ → (Stored →
     → Result A Fault → PolicyRules → BookState → BookState → Type 0
 LooksUpKeeping p moment makes result after old new = CallKeeps p moment look_up (λ found. shown (public_part p (lapsed p moment old.content.registry))) makes result after old new
 
--- The same of a call inside, of which what is kept follows.
+-- The same of a call that changes nothing, and of one inside: all else that is kept follows.
 pub record StepKeeps {A : Type 0} (p : PolicyRules) (makes : Stored → Stored → Type 0) (result : Result A Fault) (after : PolicyRules) (old new : BookState) : Type 0 where
   pub policy : after ≡ p
   pub follows : Follows old new

@@ -8,6 +8,7 @@ use Rattle.protocol.specs.declared.order.Order.TheVariants.{Deposit, Status}
 use Rattle.protocol.specs.Orders.{name_ordered}
 use Rattle.policy.specs.Rules.{PolicyRules}
 use Rattle.registry.specs.Lapsing.{dues_lapsed}
+use Rattle.registry.specs.declared.backlog.Backlog.{Backlog}
 use Rattle.registry.specs.declared.fault.Fault.{Fault}
 use Rattle.registry.specs.declared.fault.Fault.TheVariants as faults
 use Rattle.registry.specs.declared.command.Prepared.{Prepared}
@@ -79,6 +80,13 @@ pub record IsSettlement (p : PolicyRules) (moment at_most : ℕ) (before after :
   pub left : after ≡ dues_lapsed p (max moment before.clock) (take at_most (due_by p (max moment before.clock) before)) (at (max moment before.clock) before)
   pub unnoticed : now p after ≡ lapsed p moment before
 
+-- Nothing is done, and no time passes. What is told is the clock, and how many objects are due by the moment, or by the
+-- clock if that is later, that haven't lapsed.
+pub record IsBacklog (p : PolicyRules) (moment : ℕ) (before after : Registry) (found : Backlog) : Type 0 where
+  pub clock : found.clock ≡ before.clock
+  pub due : found.due ≡ length (due_by p (max moment before.clock) before)
+  pub left : after ≡ before
+
 -- a book's registry takes the step, if nothing wrong was taken from what keeps it
 abbrev pub Steps : PolicyRules → ℕ → Command → ℕ → Reply → BookState → BookState → Type 0
 Steps p r c moment reply old new =
@@ -96,6 +104,10 @@ abbrev pub Settles : PolicyRules → ℕ → ℕ → ℕ → BookState → BookS
 Settles p moment at_most done old new =
     new.is_clean ≡ true
     → IsSettlement p moment at_most old.content.registry new.content.registry done
+
+abbrev pub ShowsBacklog : PolicyRules → ℕ → Backlog → BookState → BookState → Type 0
+ShowsBacklog p moment found old new =
+    new.is_clean ≡ true → IsBacklog p moment old.content.registry new.content.registry found
 
 -- the step is isolated, if nothing wrong was taken from what keeps the book
 abbrev pub Isolates : PolicyRules → ℕ → Command → ℕ → Reply → BookState → BookState → Type 0

@@ -28,7 +28,7 @@ openings (suc n) = openings n ++ OpenAccount (suc n) ∷ []
 
 -- what an opened book holds: the registrars have accounts, and the policy's terms are put down
 abbrev pub opened : PolicyRules → Stored → Stored
-opened p s = record { registry = changed_all p (openings (length p.registrars)) s.registry; terms = Some (terms_of p) }
+opened p s = record { registry = changed_all p (openings (length p.ids)) s.registry; terms = Some (terms_of p) }
 
 -- every period that began by the clock has the length that it had under the earlier policy
 abbrev pub KeepsLengths : PolicyRules → Stored → Type 0
@@ -41,7 +41,7 @@ KeepsLengths p before =
 abbrev pub OpensAsItWas : PolicyRules → Stored → Stored → Type 0
 OpensAsItWas p before after =
     (q : PolicyRules) → before.terms ≡ Some (terms_of q)
-    → now p after.registry ≡ changed_all p (openings (length p.registrars)) (now q before.registry)
+    → now p after.registry ≡ changed_all p (openings (length p.ids)) (now q before.registry)
 
 pub record Opens (p : PolicyRules) (old new : BookState) : Type 0 where
   pub counted : NoRefusal old new

@@ -10,24 +10,24 @@ ghost use Rattle.rules.specs.Conditions.{host_name_after};
 use protocol::{Command, Request, TransferOp};
 
 /// A command asks for ten years at most, and its names were read.
-pub(crate) fn can_be_asked(command: &Command)
+pub(crate) fn show_can_be_asked(command: &Command)
     ensures { CanBeAsked command.now }
 {
     match command {
         Command::Bad { .. } => {}
-        Command::Asked { request, .. } => is_askable(request),
+        Command::Asked { request, .. } => show_is_askable(request),
     }
 }
 
-fn is_askable(request: &Request)
+fn show_is_askable(request: &Request)
     ensures { IsAskable request.now }
 {
-    asks_ten_years(request);
-    domain_is_canonical(request);
-    host_is_canonical(request);
+    show_ten_years(request);
+    show_canonical_domain(request);
+    show_canonical_host(request);
 }
 
-fn asks_ten_years(request: &Request)
+fn show_ten_years(request: &Request)
     ensures { (asks_of request.now).years ≤ 10 }
 {
     match request {
@@ -37,12 +37,12 @@ fn asks_ten_years(request: &Request)
         Request::RenewDomain { years, .. } => {
             years.number();
         }
-        Request::TransferDomain { op, .. } => transfer_asks_ten_years(*op),
+        Request::TransferDomain { op, .. } => show_transfer_years(*op),
         _ => {}
     }
 }
 
-fn transfer_asks_ten_years(op: TransferOp)
+fn show_transfer_years(op: TransferOp)
     ensures { transfer_years op ≤ 10 }
 {
     match op {
@@ -55,7 +55,7 @@ fn transfer_asks_ten_years(op: TransferOp)
 }
 
 /// The name of the domain was read.
-fn domain_is_canonical(request: &Request)
+fn show_canonical_domain(request: &Request)
     ensures { IfSome (slice_get (domains_asked request.now) 0) IsCanonical }
 {
     if let Some(name) = request.domains().first() {
@@ -64,7 +64,7 @@ fn domain_is_canonical(request: &Request)
 }
 
 /// The name that the host has afterwards was read.
-fn host_is_canonical(request: &Request)
+fn show_canonical_host(request: &Request)
     ensures { IfSome (host_name_after request.now) IsCanonical }
 {
     let name = match request.new_host() {

@@ -39,7 +39,7 @@ pub(crate) trait LookUp {
     ghost awaits: { Self → Extent };
 
     /// Once that has lapsed, it is what it is once all has that is due.
-    ghost stands: { (it : Self) → IsAsNow (awaits it) (finds it) };
+    ghost is_as_now: { (it : Self) → IsAsNow (awaits it) (finds it) };
 
     /// What lapses before.
     fn scope(&self) -> Scope<'_>
@@ -62,7 +62,7 @@ impl LookUp for DomainAt<'_> {
 
     ghost awaits = { λ it. about kinds.Domain it.0.now };
 
-    ghost stands = { λ it p s. laws.domain-face-now p it.0.now s };
+    ghost is_as_now = { λ it p s. laws.domain-face-now p it.0.now s };
 
     fn scope(&self) -> Scope<'_> {
         Scope::Object(ObjectKind::Domain, self.0)
@@ -88,7 +88,7 @@ impl LookUp for HostAt<'_> {
 
     ghost awaits = { λ it. about kinds.Host it.0.now };
 
-    ghost stands = { λ it p s. laws.host-face-now p it.0.now s };
+    ghost is_as_now = { λ it p s. laws.host-face-now p it.0.now s };
 
     fn scope(&self) -> Scope<'_> {
         Scope::Object(ObjectKind::Host, self.0)
@@ -110,7 +110,7 @@ impl LookUp for ContactAt<'_> {
 
     ghost awaits = { λ it. about kinds.Contact it.0.now };
 
-    ghost stands = { λ it p s. laws.contact-face-now p it.0.now s };
+    ghost is_as_now = { λ it p s. laws.contact-face-now p it.0.now s };
 
     fn scope(&self) -> Scope<'_> {
         Scope::Object(ObjectKind::Contact, self.0)
@@ -132,7 +132,7 @@ impl LookUp for Zoned {
 
     ghost awaits = { λ _. everything };
 
-    ghost stands = { λ _ p s. laws.zone-now p s };
+    ghost is_as_now = { λ _ p s. laws.zone-now p s };
 
     fn scope(&self) -> Scope<'_> {
         Scope::All
@@ -154,7 +154,7 @@ impl LookUp for LinesOf {
 
     ghost awaits = { λ it. concerning (Some it.0) (named_by balance_command) };
 
-    ghost stands = { λ it p s. laws.lines-now p it.0 s };
+    ghost is_as_now = { λ it p s. laws.lines-now p it.0 s };
 
     fn scope(&self) -> Scope<'_> {
         Scope::Registrar(self.0)

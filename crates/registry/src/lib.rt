@@ -4,6 +4,7 @@
 #![tactic(auto)]
 
 mod askable;
+mod backlog;
 mod command;
 mod faces;
 mod fault;
@@ -18,6 +19,7 @@ mod settlement;
 mod transaction;
 mod work;
 
+pub use backlog::Backlog;
 pub use fault::{Fault, OpenFault};
 pub use laws::look_ups_are_public;
 pub use registry::Registry;

@@ -10,6 +10,7 @@ ghost use Rattle.isolation.specs.Runs as two_runs;
 ghost use Rattle.registry.specs.Calls.{CallKeeps, IsOpenedAs, IsRefused, LooksUpKeeping, StepKeeps};
 ghost use Rattle.registry.specs.Crashes.{Makes};
 ghost use Rattle.registry.specs.Execution.{Fails, Greets, Isolates, OrderSteps, Settles, Steps};
+ghost use Rattle.registry.specs.Execution.{IsBacklog, ShowsBacklog};
 ghost use Rattle.registry.specs.Execution.{last_call};
 ghost use Rattle.registry.specs.Execution.{IsGreetingStep, IsOrderStep, IsSettlement, IsStep};
 ghost use Rattle.registry.specs.Faces.{IsLookUp, LooksUp};
@@ -22,7 +23,8 @@ ghost use Rattle.model.specs.Registry.{account_of};
 ghost use Rattle.model.specs.Zone.{zone_data};
 ghost use Rattle.books.specs.Faces.{contact_face_at, domain_face_at, host_face_at};
 
-use crate::askable::can_be_asked;
+use crate::askable::show_can_be_asked;
+use crate::backlog::{Backlog, BacklogWork};
 use crate::command::CommandWork;
 use crate::faces::{ContactAt, DomainAt, HostAt, LinesOf, LookUp, LookUpWork, Zoned};
 use crate::fault::{Fault, OpenFault};
@@ -66,13 +68,13 @@ pub struct Registry<B: Book> {
 
 impl<B: Book + Drop> Registry<B> {
     /// Opens a book under a policy, and the accounts of the registrars that have none yet. A book
-    /// that was used under another zone, other reserved labels, lengths of periods or prices, or
-    /// whose earlier registrars aren't the first of the policy, is refused (`OpenFault::Policy`);
-    /// so is what isn't a book of this form (`OpenFault::Schema`). Tables of lengths may have been
-    /// added after the earlier ones, each of which begins later than the book's clock. What is
-    /// refused is handed back as it was. Each period that began by the clock keeps its length, and
-    /// by now the registry is what it was under the earlier policy. A new book, or one of a well
-    /// formed registry, is opened as a well formed registry.
+    /// is refused if it was used under another zone, reserved labels, lengths of periods or prices,
+    /// or if its registrars aren't the first of the policy (`OpenFault::Policy`). What isn't a book
+    /// of this form is refused too (`OpenFault::Schema`). Tables of lengths may have been added after
+    /// the earlier ones, if each begins later than the book's clock. What is refused is given back as
+    /// it was. Each period that began by the clock keeps its length, and the registry is now what it
+    /// was under the earlier policy. A new book, or one of a well formed registry, is opened as a
+    /// well formed registry.
     pub fn open(alloc: Global, book: B, policy: Policy) -> Result<Registry<B>, (OpenFault, B)>
         requires { (B.state book).is_open ≡ false }
         ensures opened { IfOk result (λ registry. IsOpenedAs policy registry.policy (B.state book)
@@ -85,7 +87,7 @@ impl<B: Book + Drop> Registry<B> {
             (B.state refusal.1)) }
     {
         let mut book = book;
-        policy.is_sound();
+        policy.show_sound();
         match open_in(&mut book, alloc, &policy) {
             Ok(()) => Ok(Registry {
                 book,
@@ -136,7 +138,7 @@ impl<B: Book + Drop> Registry<B> {
         if is_late(moment) {
             return Err(Fault::Moment);
         }
-        can_be_asked(command);
+        show_can_be_asked(command);
         self.transact(&CommandWork {
             caller,
             command,
@@ -145,10 +147,10 @@ impl<B: Book + Drop> Registry<B> {
     }
 
     /// Carries out an order of the operator at a moment; one before the clock counts as the clock.
-    /// It is answered `Completed`, `ParameterRange` where the cents of a deposit aren't 1 to 10^12,
-    /// `ObjectMissing` where its registrar or its object isn't there or its name doesn't read,
-    /// `StatusProhibits` where it comes too late, or `ParameterPolicy` where a status is amiss.
-    /// A well formed registry stays well formed.
+    /// The code is `ParameterRange` if the cents of a deposit aren't 1 to 10^12, and `ObjectMissing`
+    /// if there is no such registrar or object or the name doesn't read. It is `StatusProhibits` if
+    /// the deletion or transfer that a status prohibits has begun, `ParameterPolicy` if a status is
+    /// amiss, and else `Completed`.
     #[tactic(auto, using(crate::proofs::CallsKept::kept_late))]
     pub fn operator(&mut self, order: &Order, moment: Moment) -> Result<Code, Fault>
         ensures step { IfOk result (λ code. OrderSteps self.old.policy order.now moment code
@@ -186,10 +188,9 @@ impl<B: Book + Drop> Registry<B> {
         self.transact(&GreetingWork { moment })
     }
 
-    /// Lets objects lapse that are due by a moment, the first so many by due moment, contacts
-    /// first, by name, and gives how many they were; one moment before the clock counts as the
-    /// clock. No later call can tell whether it was done, but this one. A well formed registry
-    /// stays well formed.
+    /// Lets the first so many objects lapse that are due by a moment: by due moment, contacts
+    /// first, by name. It gives how many they were. A moment before the clock counts as the clock.
+    /// No other call can tell later whether it was done.
     #[tactic(auto, using(crate::proofs::CallsKept::kept_late))]
     pub fn settle(&mut self, moment: Moment, at_most: u32) -> Result<u32, Fault>
         ensures step { IfOk result (λ done. Settles self.old.policy moment at_most done
@@ -205,6 +206,19 @@ impl<B: Book + Drop> Registry<B> {
             return Err(Fault::Moment);
         }
         self.transact(&SettlementWork { moment, at_most })
+    }
+
+    /// How many objects are due by a moment that haven't lapsed yet, and the clock; one moment before the clock counts
+    /// as the clock. No time passes, and nothing else is done.
+    pub fn backlog(&mut self, moment: Moment) -> Result<Backlog, Fault>
+        ensures step { IfOk result (λ found. ShowsBacklog self.old.policy moment found
+            (B.state self.old.book) (B.state self.new.book)) }
+        ensures fault { IfErr result (λ fault. Fails fault (B.state self.old.book)
+            (B.state self.new.book)) }
+        ensures keeps { StepKeeps self.old.policy (Makes (IsBacklog self.old.policy moment)) result
+            self.new.policy (B.state self.old.book) (B.state self.new.book) }
+    {
+        self.transact(&BacklogWork { moment })
     }
 
     /// What everyone may know of the domain under a name at a moment; a moment before the clock

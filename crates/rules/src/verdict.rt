@@ -1,4 +1,4 @@
-//! What a command is answered.
+//! The verdict on a command: the code and the data of its reply.
 ghost use Rattle.std.specs.Prelude.{◌≡◌, IfOk, None};
 ghost use Rattle.rules.specs.Laws.{AnswersLawfully};
 ghost use Rattle.rules.specs.Verdicts.{judged};

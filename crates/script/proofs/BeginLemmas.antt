@@ -107,20 +107,6 @@ pub write_front : {X E : Type 0} (result : Result X E) (a b : Option (List ℕ))
 write_front (Ok x) a b bytes wrote = tt
 write_front (Err e) a b bytes (n, wrote) = taken_front a b bytes n wrote
 
--- all that was pending was written, and nothing is any more
-pub room_made : {X E : Type 0} (result : Result X E) (a b : Option (List ℕ)) (pending none : List ℕ) → none ≡ [] → OnOk result (Appends a b pending) → OnOk result (Keeps (append_known a pending) (append_known b none))
-room_made (Ok x) a b pending none is wrote = append_known-moved a b pending none pending wrote (sym (ap (λ (l : List ℕ). pending ++ l) is ∙ append-nil pending))
-room_made (Err e) a b pending none is wrote = tt
-
-emptied : (a b : Option (List ℕ)) (front none : List ℕ) → none ≡ [] → Appends a b front → Appends a (append_known b none) front
-emptied None b front none is wrote = tt
-emptied (Some x) None front none is wrote = absurd wrote
-emptied (Some x) (Some y) front none is wrote = ap (λ (l : List ℕ). y ++ l) is ∙ append-nil y ∙ wrote
-
-pub room_begun : {X E : Type 0} (result : Result X E) (a b : Option (List ℕ)) (pending none : List ℕ) → none ≡ [] → OnErr result (AppendsFront a b pending) → OnErr result (AppendsFront a (append_known b none) pending)
-room_begun (Ok x) a b pending none is wrote = tt
-room_begun (Err e) a b pending none is (front, rest, wrote, split) = (front, rest, emptied a b front none is wrote, split)
-
 -- no room was made
 pub unroomed : (a b : Option (List ℕ)) (pending line : List ℕ) → AppendsFront a b pending → AppendsFront a b (pending ++ line)
 unroomed a b pending line front = front_of_more a b pending line front
@@ -135,15 +121,6 @@ line_begun (Some x) (Some y) pending roomed new line same (front, rest, grew, is
   ap (λ (l : List ℕ). y ++ l) grew ∙ sym (append_assoc y roomed front) ∙ ap (λ (l : List ℕ). l ++ front) same ∙ append_assoc x pending front,
   ap (λ (l : List ℕ). pending ++ l) is ∙ sym (append_assoc pending front rest),
 )
-
-pub line_printed : (a b : Option (List ℕ)) (pending roomed new line : List ℕ) → Keeps (append_known a pending) (append_known b roomed) → new ≡ roomed ++ line → Appends (append_known a pending) (append_known b new) line
-line_printed None b pending roomed new line same grew = tt
-line_printed (Some x) None pending roomed new line same grew = absurd same
-line_printed (Some x) (Some y) pending roomed new line same grew = ap (λ (l : List ℕ). y ++ l) grew ∙ sym (append_assoc y roomed line) ∙ ap (λ (l : List ℕ). l ++ line) same
-
--- the line feed finds no memory
-pub no_line_feed : (pending new text : List ℕ) → new ≡ pending ++ text → AppendsFront (Some pending) (Some new) (text ++ codes "\n")
-no_line_feed pending new text grew = (text, codes "\n", grew, refl)
 
 pub no_text : (pending new text : List ℕ) → new ≡ pending → AppendsFront (Some pending) (Some new) text
 no_text pending new text same = ([], text, same ∙ sym (append-nil pending), refl)

@@ -21,9 +21,3 @@ pub takes_no_more : (a b c : Option (List ℕ)) (reads : ℕ) → TakesUpTo (655
 takes_no_more a b c reads before kept =
     let few : length before.0 ≤ 65536 * reads = before.2 in
     (before.0, Consumes-kept a b c before.0 before.1 kept, omega arith)
-
--- so many reads take no more than a greater number of bytes
-pub takes_within : (a b : Option (List ℕ)) (most more : ℕ) → most ≤ more → TakesUpTo most a b → TakesUpTo more a b
-takes_within a b most more fits before =
-    let few : length before.0 ≤ most = before.2 in
-    (before.0, before.1, omega arith)

@@ -33,37 +33,43 @@ decides is (Some bytes) (Some rest) zero (byte ∷ more) one c end e = rw (c, en
 decides is (Some bytes) (Some rest) (suc count) (byte ∷ more) one c end e = rw c e
 
 -- a session of a peer that answers as a registry does, from when nobody is logged in
-pub served : {S : Type 0} (policy : S → PolicyRules) (desk : S → Desk) (answers : S → ℕ → List ℕ → Outcome → S → Type 0)
-    → ((old new : S) (moment : ℕ) (payload : List ℕ) (outcome : Outcome) → answers old moment payload outcome new → AnswersAt (policy old) (desk old) moment payload outcome (desk new) × (policy new ≡ policy old))
-    → (p : PolicyRules) (old new : BookState) (before : SessionState S) (written : List ℕ) (after : SessionState S) (end : SessionEnd) → policy before.peer ≡ p → desk before.peer ≡ record { caller = None; book = old }
-    → (desk after.peer).book ≡ new → Session answers before written after end → (policy after.peer ≡ p) × IsServed p before.input before.clock old written after.clock new end
-served {S} policy desk answers are p old new before written after end kept start left s =
-    let taken = session_taken desk K answers (AnswersAt p) (λ x y moment payload outcome k a. keeps x y moment payload outcome k (are x y moment payload outcome a)) before written after end (kept, from) s in
-    let from_start = subst (λ (d : Desk). Session (AnswersAt p) (record { input = before.input; clock = before.clock; peer = d }) written (taken_for desk after) end) start taken.1 in
-    let is : IsServed p before.input before.clock old written after.clock (desk after.peer).book end = record { rest = after.input; caller = (desk after.peer).caller; session = from_start; follows = taken.0.1 } in
-    (taken.0.0, subst (λ (b : BookState). IsServed p before.input before.clock old written after.clock b end) left is)
+pub served : {S : Type 0} (policy : S → PolicyRules) (passwords : S → List (List ℕ)) (desk : S → Desk) (answers : S → ℕ → List ℕ → Outcome → S → Type 0)
+    → ((old new : S) (moment : ℕ) (payload : List ℕ) (outcome : Outcome) → answers old moment payload outcome new
+    → AnswersAt (policy old) (passwords old) (desk old) moment payload outcome (desk new) × (policy new ≡ policy old) × (passwords new ≡ passwords old))
+    → (p : PolicyRules) (g : List (List ℕ)) (old new : BookState) (before : SessionState S) (written : List ℕ) (after : SessionState S) (end : SessionEnd)
+    → policy before.peer ≡ p → passwords before.peer ≡ g → desk before.peer ≡ record { caller = None; book = old }
+    → (desk after.peer).book ≡ new → Session answers before written after end → (policy after.peer ≡ p) × IsServed p g before.input before.clock old written after.clock new end
+served {S} policy passwords desk answers are p g old new before written after end kept known start left s =
+    let taken = session_taken desk K answers (AnswersAt p g) (λ x y moment payload outcome k a. keeps x y moment payload outcome k (are x y moment payload outcome a)) before written after end (kept, known, from) s in
+    let from_start = subst (λ (d : Desk). Session (AnswersAt p g) (record { input = before.input; clock = before.clock; peer = d }) written (taken_for desk after) end) start taken.1 in
+    let is : IsServed p g before.input before.clock old written after.clock (desk after.peer).book end = record { rest = after.input; caller = (desk after.peer).caller; session = from_start; follows = taken.0.2 } in
+    (taken.0.0, subst (λ (b : BookState). IsServed p g before.input before.clock old written after.clock b end) left is)
   where
     K : S → Type 0
-    K x = (policy x ≡ p) × Follows old (desk x).book
+    K x = (policy x ≡ p) × (passwords x ≡ g) × Follows old (desk x).book
 
     from : Follows old (desk before.peer).book
     from = same_follows old (desk before.peer).book (ap (λ (d : Desk). d.book) start)
 
-    keeps : (x y : S) (moment : ℕ) (payload : List ℕ) (outcome : Outcome) → K x → AnswersAt (policy x) (desk x) moment payload outcome (desk y) × (policy y ≡ policy x)
-        → K y × AnswersAt p (desk x) moment payload outcome (desk y)
+    keeps : (x y : S) (moment : ℕ) (payload : List ℕ) (outcome : Outcome) → K x
+        → AnswersAt (policy x) (passwords x) (desk x) moment payload outcome (desk y) × (policy y ≡ policy x) × (passwords y ≡ passwords x)
+        → K y × AnswersAt p g (desk x) moment payload outcome (desk y)
     keeps x y moment payload outcome k a =
-        let next = answers_follow (policy x) (desk x).caller payload moment (desk x).book outcome (desk y).book (desk y).caller a.0 in
-        ((a.1 ∙ k.0, follows_on old (desk x).book (desk y).book k.1 next), subst (λ (q : PolicyRules). AnswersAt q (desk x) moment payload outcome (desk y)) k.0 a.0)
+        let next = answers_follow (policy x) (passwords x) (desk x).caller payload moment (desk x).book outcome (desk y).book (desk y).caller a.0 in (
+          (a.1 ∙ k.0, a.2 ∙ k.1, follows_on old (desk x).book (desk y).book k.2 next),
+          subst (λ (h : List (List ℕ)). AnswersAt p h (desk x) moment payload outcome (desk y)) k.1
+              (subst (λ (q : PolicyRules). AnswersAt q (passwords x) (desk x) moment payload outcome (desk y)) k.0 a.0),
+        )
 
 -- a connection whose input begins as a frame does
-pub serves_session : (p : PolicyRules) (input taken clock : Option (List ℕ)) (old : BookState) (before after later : Option (List ℕ)) (new : BookState) (end : ConnectionEnd) → IfSome input (λ bytes. begins_frame bytes ≡ true) → Agrees input taken
-    → (how : SessionEnd) × (end ≡ ends.Session how) × Writes before after (λ written. IsServed p taken clock old written later new how) → Serves p input clock old before after later new end
-serves_session p input taken clock old before after later new end begins agrees s = rw s.1 (begins, taken, agrees, s.2)
+pub serves_session : (p : PolicyRules) (g : List (List ℕ)) (input taken clock : Option (List ℕ)) (old : BookState) (before after later : Option (List ℕ)) (new : BookState) (end : ConnectionEnd) → IfSome input (λ bytes. begins_frame bytes ≡ true) → Agrees input taken
+    → (how : SessionEnd) × (end ≡ ends.Session how) × Writes before after (λ written. IsServed p g taken clock old written later new how) → Serves p g input clock old before after later new end
+serves_session p g input taken clock old before after later new end begins agrees s = rw s.1 (begins, taken, agrees, s.2)
 
 -- one whose input doesn't
-pub serves_request : (p : PolicyRules) (input taken clock : Option (List ℕ)) (old : BookState) (before after later : Option (List ℕ)) (new : BookState) (end : ConnectionEnd) → IfSome input (λ bytes. begins_frame bytes ≡ false) → Agrees input taken
-    → (how : HttpEnd) × (end ≡ ends.Http how) × AnswersHttp p taken clock old before after later new how → Serves p input clock old before after later new end
-serves_request p input taken clock old before after later new end begins agrees s = rw s.1 (begins, taken, agrees, s.2)
+pub serves_request : (p : PolicyRules) (g : List (List ℕ)) (input taken clock : Option (List ℕ)) (old : BookState) (before after later : Option (List ℕ)) (new : BookState) (end : ConnectionEnd) → IfSome input (λ bytes. begins_frame bytes ≡ false) → Agrees input taken
+    → (how : HttpEnd) × (end ≡ ends.Http how) × AnswersHttp p taken clock old before after later new how → Serves p g input clock old before after later new end
+serves_request p g input taken clock old before after later new end begins agrees s = rw s.1 (begins, taken, agrees, s.2)
 
 -- ---- what was taken wrongly isn't forgotten
 
@@ -76,10 +82,10 @@ answer_follows p input clock old before after later new http.Answered answers = 
 answer_follows p input clock old before after later new http.Unanswered answers = ask_follows p clock old later new answers.1
 answer_follows p input clock old before after later new http.WriteFault answers = answers.2.1.passes.follows
 
-pub connection_follows : (p : PolicyRules) (input clock : Option (List ℕ)) (old : BookState) (before after later : Option (List ℕ)) (new : BookState) (end : ConnectionEnd) → Serves p input clock old before after later new end → Follows old new
-connection_follows p input clock old before after later new (ends.Session end) serves = serves.3.2.follows
-connection_follows p input clock old before after later new (ends.Http end) serves = answer_follows p serves.1 clock old before after later new end serves.3
-connection_follows p input clock old before after later new ends.Unread serves = same_follows old new serves.2
+pub connection_follows : (p : PolicyRules) (g : List (List ℕ)) (input clock : Option (List ℕ)) (old : BookState) (before after later : Option (List ℕ)) (new : BookState) (end : ConnectionEnd) → Serves p g input clock old before after later new end → Follows old new
+connection_follows p g input clock old before after later new (ends.Session end) serves = serves.3.2.follows
+connection_follows p g input clock old before after later new (ends.Http end) serves = answer_follows p serves.1 clock old before after later new end serves.3
+connection_follows p g input clock old before after later new ends.Unread serves = same_follows old new serves.2
 
 -- ---- frames
 

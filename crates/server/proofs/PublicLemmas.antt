@@ -8,7 +8,7 @@ use Rattle.rdap.proofs.AnswerLemmas.{one_answer}
 use Rattle.rdap.specs.Answering.{Faces, IsAnswer}
 use Rattle.registry.specs.Faces.{ArePublic}
 use Rattle.registry.proofs.PublicLemmas.{look-ups-are-public}
-use Rattle.server.specs.HandOver.{text_of}
+use Rattle.server.specs.ZoneExport.{text_of}
 use Rattle.server.specs.Http.{faces_at}
 use Rattle.server.specs.Public.{PublicPartsLookSame, PublicTextsAgree}
 

@@ -28,18 +28,18 @@ pub record Desk : Type 0 where
   pub caller : Option ℕ
   pub book : BookState
 
--- what is made of a payload under a policy
-abbrev pub AnswersAt : PolicyRules → Desk → ℕ → List ℕ → Outcome → Desk → Type 0
-AnswersAt p old moment payload outcome new =
-    Answers p old.caller payload moment old.book outcome new.book new.caller
+-- what is made of a payload under a policy, where registrars log in by these passwords
+abbrev pub AnswersAt : PolicyRules → List (List ℕ) → Desk → ℕ → List ℕ → Outcome → Desk → Type 0
+AnswersAt p passwords old moment payload outcome new =
+    Answers p passwords old.caller payload moment old.book outcome new.book new.caller
 
 -- A session of EPP with a registry, from when nobody is logged in: what it writes, what the book and
 -- the clock are then, and how it ends. What is taken wrongly in it isn't forgotten, so that behind a book
 -- from which nothing wrong was taken stands such a one before each of its frames.
-pub record IsServed (p : PolicyRules) (input clock : Option (List ℕ)) (old : BookState) (written : List ℕ) (later : Option (List ℕ)) (new : BookState) (end : SessionEnd) : Type 0 where
+pub record IsServed (p : PolicyRules) (passwords : List (List ℕ)) (input clock : Option (List ℕ)) (old : BookState) (written : List ℕ) (later : Option (List ℕ)) (new : BookState) (end : SessionEnd) : Type 0 where
   pub rest : Option (List ℕ)
   pub caller : Option ℕ
-  pub session : Session (AnswersAt p) (record { input = input; clock = clock; peer = record { caller = None; book = old } }) written
+  pub session : Session (AnswersAt p passwords) (record { input = input; clock = clock; peer = record { caller = None; book = old } }) written
       (record { input = rest; clock = later; peer = record { caller = caller; book = new } }) end
   pub follows : Follows old new
 
@@ -52,15 +52,15 @@ abbrev pub IsLeft : (before after clock later : Option (List ℕ)) → BookState
 IsLeft before after clock later old new = Appends before after [] × (later ≡ clock) × (new ≡ old)
 
 -- A connection: a session of EPP where its input begins as a frame does, and else a request of HTTP.
-abbrev pub Serves : PolicyRules → (input clock : Option (List ℕ)) → BookState
+abbrev pub Serves : PolicyRules → List (List ℕ) → (input clock : Option (List ℕ)) → BookState
     → (before after later : Option (List ℕ)) → BookState → ConnectionEnd → Type 0
-Serves p input clock old before after later new (ends.Session end) =
+Serves p passwords input clock old before after later new (ends.Session end) =
     IfSome input (λ bytes. begins_frame bytes ≡ true)
     × (taken : Option (List ℕ)) × Agrees input taken
-    × Writes before after (λ written. IsServed p taken clock old written later new end)
-Serves p input clock old before after later new (ends.Http end) =
+    × Writes before after (λ written. IsServed p passwords taken clock old written later new end)
+Serves p passwords input clock old before after later new (ends.Http end) =
     IfSome input (λ bytes. begins_frame bytes ≡ false)
     × (taken : Option (List ℕ)) × Agrees input taken
     × AnswersHttp p taken clock old before after later new end
-Serves p input clock old before after later new ends.Unread =
+Serves p passwords input clock old before after later new ends.Unread =
     IsLeft before after clock later old new

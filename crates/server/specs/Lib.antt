@@ -2,7 +2,7 @@ pub mod Clocks
 pub mod Http
 pub mod Connections
 pub mod Listening
-pub mod HandOver
+pub mod ZoneExport
 pub mod Public
 pub mod SessionRuns
 pub mod inner

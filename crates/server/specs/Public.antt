@@ -6,7 +6,7 @@ use Rattle.model.specs.Registry.{Registry}
 use Rattle.model.specs.Zone.{zone_data}
 use Rattle.policy.specs.Rules.{PolicyRules}
 use Rattle.rdap.specs.Answering.{IsAnswer}
-use Rattle.server.specs.HandOver.{zone_at}
+use Rattle.server.specs.ZoneExport.{zone_at}
 use Rattle.server.specs.Http.{faces_at}
 
 -- two registries of which everyone may know the same at a moment

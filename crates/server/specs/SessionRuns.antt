@@ -5,7 +5,7 @@ use Rattle.eppcommands.specs.Session.{before_login, in_session}
 use Rattle.frames.specs.Clocks as clocks
 use Rattle.frames.specs.Frames.{frame, Takes, bad_length, closed, cut, front, over}
 use Rattle.frames.specs.Texts.{closing_text}
-use Rattle.eppwire.specs.Answers.{Tells, caller_of, greeting_outcome, login_code, nobodys_outcome, reply_outcome}
+use Rattle.eppwire.specs.Answers.{Tells, caller_of, greeting_outcome, login_code, anonymous_outcome, reply_outcome}
 use Rattle.model.specs.Lapse.{now}
 use Rattle.model.specs.Registry.{Registry}
 use Rattle.policy.specs.Rules.{PolicyRules}
@@ -51,14 +51,14 @@ asked_by caller turn = if has_failed turn.outcome then [] else map (λ q. (turn.
 
 -- ---- who sends the next one
 
-abbrev pub caller_with : PolicyRules → BeforeLogin → Option ℕ
-caller_with p before.Hello = None
-caller_with p (before.Login cl_trid c) = caller_of p c
-caller_with p (before.Refused cl_trid fault) = None
+abbrev pub caller_with : PolicyRules → List (List ℕ) → BeforeLogin → Option ℕ
+caller_with p passwords before.Hello = None
+caller_with p passwords (before.Login cl_trid c) = caller_of p passwords c
+caller_with p passwords (before.Refused cl_trid fault) = None
 
-abbrev pub caller_after : PolicyRules → Option ℕ → Turn → Option ℕ
-caller_after p None turn = if has_failed turn.outcome then None else caller_with p (before_login turn.payload)
-caller_after p (Some r) turn = Some r
+abbrev pub caller_after : PolicyRules → List (List ℕ) → Option ℕ → Turn → Option ℕ
+caller_after p passwords None turn = if has_failed turn.outcome then None else caller_with p passwords (before_login turn.payload)
+caller_after p passwords (Some r) turn = Some r
 
 -- ---- what is sent for the answers
 
@@ -73,33 +73,33 @@ abbrev pub first_told : List Answer → Outcome
 first_told [] = failed
 first_told (a ∷ answers) = outcome_told a
 
-abbrev pub outcome_before : PolicyRules → BeforeLogin → List Answer → Outcome
-outcome_before p before.Hello answers = first_told answers
-outcome_before p (before.Login cl_trid c) answers = nobodys_outcome cl_trid (login_code p c)
-outcome_before p (before.Refused cl_trid fault) answers =
-    nobodys_outcome cl_trid (code_of_form fault)
+abbrev pub outcome_before : PolicyRules → List (List ℕ) → BeforeLogin → List Answer → Outcome
+outcome_before p passwords before.Hello answers = first_told answers
+outcome_before p passwords (before.Login cl_trid c) answers = anonymous_outcome cl_trid (login_code p passwords c)
+outcome_before p passwords (before.Refused cl_trid fault) answers =
+    anonymous_outcome cl_trid (code_of_form fault)
 
 -- of a frame, by the answers to what it asks
-abbrev pub outcome_by : PolicyRules → Option ℕ → List ℕ → List Answer → Outcome
-outcome_by p None payload answers = outcome_before p (before_login payload) answers
-outcome_by p (Some r) payload answers = first_told answers
+abbrev pub outcome_by : PolicyRules → List (List ℕ) → Option ℕ → List ℕ → List Answer → Outcome
+outcome_by p passwords None payload answers = outcome_before p passwords (before_login payload) answers
+outcome_by p passwords (Some r) payload answers = first_told answers
 
 -- ---- frames one after another
 
 -- Each asks what it asks, and a frame that didn't fail is sent what the answers come to, unless that found no memory.
-abbrev pub AreAnswered : PolicyRules → Option ℕ → List Turn → Registry → Registry → Type 0
-AreAnswered p caller [] old new = new ≡ old
-AreAnswered p caller (turn ∷ turns) old new =
+abbrev pub AreAnswered : PolicyRules → List (List ℕ) → Option ℕ → List Turn → Registry → Registry → Type 0
+AreAnswered p passwords caller [] old new = new ≡ old
+AreAnswered p passwords caller (turn ∷ turns) old new =
     (answers : List Answer) × (between : Registry)
     × IsRun p (asked_by caller turn) answers old between
-    × (has_failed turn.outcome ≡ false → Tells (outcome_by p caller turn.payload answers) turn.outcome)
-    × AreAnswered p (caller_after p caller turn) turns between new
+    × (has_failed turn.outcome ≡ false → Tells (outcome_by p passwords caller turn.payload answers) turn.outcome)
+    × AreAnswered p passwords (caller_after p passwords caller turn) turns between new
 
 -- all that they ask
-abbrev pub asked_over : PolicyRules → Option ℕ → List Turn → List (ℕ × Question)
-asked_over p caller [] = []
-asked_over p caller (turn ∷ turns) =
-    asked_by caller turn ++ asked_over p (caller_after p caller turn) turns
+abbrev pub asked_over : PolicyRules → List (List ℕ) → Option ℕ → List Turn → List (ℕ × Question)
+asked_over p passwords caller [] = []
+asked_over p passwords caller (turn ∷ turns) =
+    asked_by caller turn ++ asked_over p passwords (caller_after p passwords caller turn) turns
 
 -- The frames are the first of the input, and come at the moments of the clock, where these are known; and then this is
 -- left of both.
@@ -134,12 +134,12 @@ IsWritten WriteFault turns written =
 
 -- The frames of a session, the last among them: its input has them, its clock tells their moments, and they are
 -- answered one after another, to the byte.
-pub record IsAnsweredAll (p : PolicyRules) (old : SessionState Desk) (written : List ℕ) (end : SessionEnd) (new : SessionState Desk) : Type 0 where
+pub record IsAnsweredAll (p : PolicyRules) (passwords : List (List ℕ)) (old : SessionState Desk) (written : List ℕ) (end : SessionEnd) (new : SessionState Desk) : Type 0 where
   pub turns : List Turn
   pub rest : Option (List ℕ)
   pub heard : AreHeard turns old.input old.clock rest new.clock
   pub left : IsLeftAt end rest
-  pub answered : AreAnswered p old.peer.caller turns old.peer.book.content.registry new.peer.book.content.registry
+  pub answered : AreAnswered p passwords old.peer.caller turns old.peer.book.content.registry new.peer.book.content.registry
   pub bytes : IsWritten end turns written
 
 -- ---- laws
@@ -147,16 +147,23 @@ pub record IsAnsweredAll (p : PolicyRules) (old : SessionState Desk) (written : 
 -- A session with the book of a registry, from which nothing wrong was taken by its end, is its frames answered.
 abbrev pub SessionsAreAnswered : Type 0
 SessionsAreAnswered =
-    (p : PolicyRules) (old new : SessionState Desk) (written : List ℕ) (end : SessionEnd)
-    → Session (AnswersAt p) old written new end → new.peer.book.is_clean ≡ true
-    → IsAnsweredAll p old written end new
+    (p : PolicyRules) (passwords : List (List ℕ)) (old new : SessionState Desk) (written : List ℕ) (end : SessionEnd)
+    → Session (AnswersAt p passwords) old written new end → new.peer.book.is_clean ≡ true
+    → IsAnsweredAll p passwords old written end new
 
 -- Frames that are answered one after another are a run, so that the laws of runs say of sessions what they say.
 abbrev pub SessionsAreRuns : Type 0
 SessionsAreRuns =
-    (p : PolicyRules) (caller : Option ℕ) (turns : List Turn) (old new : Registry)
-    → AreAnswered p caller turns old new
-    → (answers : List Answer) × IsRun p (asked_over p caller turns) answers old new
+    (p : PolicyRules) (passwords : List (List ℕ)) (caller : Option ℕ) (turns : List Turn) (old new : Registry)
+    → AreAnswered p passwords caller turns old new
+    → (answers : List Answer) × IsRun p (asked_over p passwords caller turns) answers old new
+
+-- Whoever is logged in is answered the same, whatever the passwords are.
+abbrev pub PasswordsAreForLogins : Type 0
+PasswordsAreForLogins =
+    (p : PolicyRules) (passwords others : List (List ℕ)) (r : ℕ) (turns : List Turn)
+    (old new : Registry)
+    → AreAnswered p passwords (Some r) turns old new → AreAnswered p others (Some r) turns old new
 
 -- it was carried out, and its text found memory
 abbrev pub has_text : Outcome → Bool
@@ -176,8 +183,8 @@ said turns = map (λ turn. (turn.moment, turn.payload)) turns
 -- sent a text, each is sent the same bytes, and what is left is the same now.
 abbrev pub SessionsAreSentTheSame : Type 0
 SessionsAreSentTheSame =
-    (p : PolicyRules) (caller : Option ℕ) (xs ys : List Turn) (s t x y : Registry)
-    → now p s ≡ now p t → AreAnswered p caller xs s x → AreAnswered p caller ys t y
+    (p : PolicyRules) (passwords : List (List ℕ)) (caller : Option ℕ) (xs ys : List Turn) (s t x y : Registry)
+    → now p s ≡ now p t → AreAnswered p passwords caller xs s x → AreAnswered p passwords caller ys t y
     → said xs ≡ said ys → are_sent xs ≡ true → are_sent ys ≡ true → (xs ≡ ys) × (now p x ≡ now p y)
 
 -- no read and no write of the session failed, and there was memory for its last text
@@ -191,8 +198,8 @@ is_calm WriteFault = false
 is_calm Lost = false
 
 -- A session that nothing disturbed, with these bytes as its input, at these moments.
-pub record IsUndisturbed (p : PolicyRules) (input clock : List ℕ) (old : SessionState Desk) (written : List ℕ) (new : SessionState Desk) (end : SessionEnd) : Type 0 where
-  pub session : Session (AnswersAt p) old written new end
+pub record IsUndisturbed (p : PolicyRules) (passwords : List (List ℕ)) (input clock : List ℕ) (old : SessionState Desk) (written : List ℕ) (new : SessionState Desk) (end : SessionEnd) : Type 0 where
+  pub session : Session (AnswersAt p passwords) old written new end
   pub input_is : old.input ≡ Some input
   pub clock_is : old.clock ≡ Some clock
   pub clean : new.peer.book.is_clean ≡ true
@@ -204,10 +211,10 @@ pub record IsUndisturbed (p : PolicyRules) (input clock : List ℕ) (old : Sessi
 -- same now.
 abbrev pub SessionsAreAlike : Type 0
 SessionsAreAlike =
-    (p : PolicyRules) (input clock : List ℕ) (old other new another : SessionState Desk)
+    (p : PolicyRules) (passwords : List (List ℕ)) (input clock : List ℕ) (old other new another : SessionState Desk)
     (written sent : List ℕ) (end ending : SessionEnd)
-    → IsUndisturbed p input clock old written new end
-    → IsUndisturbed p input clock other sent another ending → old.peer.caller ≡ other.peer.caller
+    → IsUndisturbed p passwords input clock old written new end
+    → IsUndisturbed p passwords input clock other sent another ending → old.peer.caller ≡ other.peer.caller
     → now p old.peer.book.content.registry ≡ now p other.peer.book.content.registry
     → (written ≡ sent) × (end ≡ ending)
     × (now p new.peer.book.content.registry ≡ now p another.peer.book.content.registry)

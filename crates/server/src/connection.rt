@@ -13,6 +13,7 @@ use crate::http::{HttpEnd, serve_http};
 use books::Book;
 use eppwire::Connection;
 use frames::{Clock, SessionEnd, serve_session};
+use policy::Passwords;
 use rdap::Routes;
 use registry::Registry;
 use std::alloc::Global;
@@ -49,8 +50,9 @@ pub fn serve_one<R: Read, W: Write, C: Clock, B: Book + Drop>(
     writer: &mut W,
     clock: &mut C,
     registry: Registry<B>,
+    passwords: &Passwords,
 ) -> Served<B>
-    ensures served { Serves registry.policy (R.remaining reader.old) (C.moments clock.old)
+    ensures served { Serves registry.policy passwords.now (R.remaining reader.old) (C.moments clock.old)
         (B.state registry.book) (W.contents writer.old) (W.contents writer.new)
         (C.moments clock.new) (B.state result.registry.book) result.end }
     ensures follows { Follows (B.state registry.book) (B.state result.registry.book) }
@@ -74,7 +76,14 @@ pub fn serve_one<R: Read, W: Write, C: Clock, B: Book + Drop>(
             registry,
         );
     }
-    serve_epp(alloc, &mut first.chain(reader), writer, clock, registry)
+    serve_epp(
+        alloc,
+        &mut first.chain(reader),
+        writer,
+        clock,
+        registry,
+        passwords,
+    )
 }
 
 /// Whether an input begins as a frame does.
@@ -94,14 +103,15 @@ fn serve_epp<R: Read, W: Write, C: Clock, B: Book + Drop>(
     writer: &mut W,
     clock: &mut C,
     registry: Registry<B>,
+    passwords: &Passwords,
 ) -> Served<B>
     ensures served { (end : SessionEnd) × (result.end ≡ ends.Session end)
         × Writes (W.contents writer.old) (W.contents writer.new)
-        (λ written. IsServed registry.policy (R.remaining reader.old) (C.moments clock.old)
+        (λ written. IsServed registry.policy passwords.now (R.remaining reader.old) (C.moments clock.old)
         (B.state registry.book) written (C.moments clock.new) (B.state result.registry.book) end) }
     ensures policy { result.registry.policy ≡ registry.policy }
 {
-    let mut connection = Connection::new(alloc, registry);
+    let mut connection = Connection::new(alloc, registry, passwords);
     let end = serve_session(alloc, reader, writer, clock, &mut connection);
     Served {
         registry: connection.into_registry(),

@@ -17,5 +17,7 @@ pub use clock::MachineClock;
 pub use closing::{let_go, let_go_with_more};
 pub use connection::{ConnectionEnd, Served, serve_one};
 pub use http::HttpEnd;
-pub use laws::{frames_begin_connections, public_texts_agree, sessions_are_runs};
+pub use laws::{
+    frames_begin_connections, passwords_are_for_logins, public_texts_agree, sessions_are_runs,
+};
 pub use zone::{ZoneExportFault, zone_on};

@@ -1,7 +1,7 @@
 //! The zone of a registry, as an office hands it to its name servers.
 ghost use Rattle.std.specs.Prelude.{◌≡◌, true, OnOk, OnErr};
 ghost use Rattle.std.specs.Io.KnownBytes.{Appends};
-ghost use Rattle.server.specs.HandOver.{serial_of, text_of, zone_at};
+ghost use Rattle.server.specs.ZoneExport.{serial_of, text_of, zone_at};
 ghost use Rattle.server.specs.Http.{Passes};
 ghost use Rattle.server.specs.declared.zone.ZoneExportFault.TheVariants as faults;
 ghost use Rattle.zonefile.specs.ZoneText.{AppendsBeginning};

@@ -84,7 +84,7 @@ pub fn take_line<S: Alter>(
         return Ok(());
     };
     let row = paid_back(row, &line)?;
-    store.whole();
+    store.show_whole();
     remove(store, number, &row)?;
     Ok(())
 }

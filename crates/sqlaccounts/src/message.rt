@@ -1,4 +1,4 @@
-//! Messages that wait.
+//! How many messages wait for a registrar, in rows.
 ghost use Rattle.std.specs.Prelude.{◌≡◌, Some, pos, length};
 ghost use Rattle.std.specs.Option.{option_map_or};
 ghost use Rattle.sqlaccounts.specs.Accounts.{account_of, sums_are_right};

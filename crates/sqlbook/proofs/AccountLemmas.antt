@@ -74,9 +74,9 @@ same-ids (a ∷ xs) (b ∷ bs) ua ub same ids =
     let one = not-below b bs in-b.0 ub in-b.1 in
     let two = not-below a xs in-a.0 ua in-a.1 in
     let number : a.id ≡ b.id = level a.id b.id (λ l. one (subst (λ k. k <ℤ b.id) (sym in-b.2) l)) (λ l. two (subst (λ k. k <ℤ a.id) (sym in-a.2) l)) in
-    let stands : a.ident ≡ b.ident = same_some a.ident b.ident (sym (here a xs) ∙ same a.id ∙ ap (stand (b ∷ bs)) number ∙ here b bs) in
+    let book_state : a.ident ≡ b.ident = same_some a.ident b.ident (sym (here a xs) ∙ same a.id ∙ ap (stand (b ∷ bs)) number ∙ here b bs) in
     let rest : (id : ℤ) → stand xs id ≡ stand bs id = tails number in
-    go stands number (same-ids xs bs ua.1 ub.1 rest)
+    go book_state number (same-ids xs bs ua.1 ub.1 rest)
   where
     level : (x y : ℤ) → (x <ℤ y → ⊥) → (y <ℤ x → ⊥) → x ≡ y
     level x y f g = by_lt_z x y (λ l. absurd (f l)) (λ up. by_lt_z y x (λ l. absurd (g l)) (λ down. omega (arith, ints, up, down)))

@@ -6,7 +6,7 @@ use Rattle.sqlite_trees.specs.Objects.{catalog_tree}
 use Rattle.sqlite_trees.specs.Tree.{Trees}
 use Rattle.sqlrows.specs.Columns.{no_schema}
 use Rattle.books.specs.Book.{BookState, Stored, nothing}
-use Rattle.books.specs.Kept.{stands}
+use Rattle.books.specs.Kept.{book_state}
 use Rattle.sqltables.specs.Adoption.{IsAdopted, IsTakenAs}
 use Rattle.sqltables.specs.Content.{Content}
 use Rattle.sqltables.specs.Readiness.{IsKnownAs}
@@ -52,7 +52,7 @@ module _ (trees : Trees) (rows : StateOf Content) (adopted : IsAdopted trees row
   right-rows : rows.is_clean ≡ true → are_all_right are_right rows.crash_leaves ≡ true → are_right rows.content ≡ true
   right-rows clean e = (and_parts (are_right rows.content) true (subst (λ (leaves : List (Remains Content)). are_all_right are_right leaves ≡ true) (adopted.leaves clean) e)).0
 
-  pub taken_from : (refused : ℕ) → refused ≡ 0 → IsTakenFrom trees (stands (as_book stored_of are_right rows) refused)
+  pub taken_from : (refused : ℕ) → refused ≡ 0 → IsTakenFrom trees (book_state (as_book stored_of are_right rows) refused)
   taken_from refused none = record {
     idle = adopted.idle;
     before = ap stored_of adopted.before;

@@ -12,7 +12,7 @@ use Rattle.sqlite.specs.Held.{AreDatabases}
 use Rattle.sqlite.proofs.Theorems.{opens_again}
 use Rattle.std.specs.Bool.{IsTrue}
 use Rattle.policy.specs.declared.terms.Terms.{Terms}
-use Rattle.books.specs.Kept.{stands}
+use Rattle.books.specs.Kept.{book_state}
 use Rattle.sqltables.specs.Adoption.{IsAdopted}
 use Rattle.sqltables.specs.Content.{Content}
 use Rattle.sqltables.specs.Meta.{Meta}
@@ -45,13 +45,13 @@ numbered-if xs terms [] is e some = absurd (let never : ◌≡◌ {A = Option Te
 numbered-if xs terms (meta ∷ more) is e some = e
 
 found-again : (new : StateOf Content) (refused : ℕ) (left : Remains Content) → are_right left.content ≡ true → new.is_clean ≡ true → new.before ≡ new.content
-    → rows.IsFoundAgain left.readiness left.content new.readiness new.content → IsFoundAgain left.readiness (stored_of left.content) (stands (as_book stored_of are_right new) refused)
+    → rows.IsFoundAgain left.readiness left.content new.readiness new.content → IsFoundAgain left.readiness (stored_of left.content) (book_state (as_book stored_of are_right new) refused)
 found-again new refused left right clean home found = go left.readiness found
   where
     whole : new.content ≡ left.content → (new.is_clean && are_right new.before) ≡ true
     whole same = ap (λ b. b && are_right new.before) clean ∙ ap are_right (home ∙ same) ∙ right
 
-    go : (r : Ready) → rows.IsFoundAgain r left.content new.readiness new.content → IsFoundAgain r (stored_of left.content) (stands (as_book stored_of are_right new) refused)
+    go : (r : Ready) → rows.IsFoundAgain r left.content new.readiness new.content → IsFoundAgain r (stored_of left.content) (book_state (as_book stored_of are_right new) refused)
     go Empty it = record { ready = it.0; content = ap stored_of it.1; clean = whole it.1 }
     go Used it = λ terms some.
         let same = it (numbered-if left.content terms left.content.metas refl (and_parts (may_be_numbered left.content.metas) _ right).0 some) in
@@ -62,7 +62,7 @@ found-again new refused left right clean home found = go left.readiness found
 -- adopted is one that the connection of the other allowed.
 pub book-reopened : (old : StateOf Content) (may_leave : Trees → Type 0) (refused again : ℕ) → Covers old.crash_leaves may_leave → (as_book stored_of are_right old).is_honest ≡ true
     → (trees : Trees) → may_leave trees → (new : StateOf Content) → IsAdopted trees new → new.is_clean ≡ true
-    → IsReopened (stands (as_book stored_of are_right old) refused) (stands (as_book stored_of are_right new) again)
+    → IsReopened (book_state (as_book stored_of are_right old) refused) (book_state (as_book stored_of are_right new) again)
 book-reopened old may_leave refused again covers honest trees may new adopted sure =
     let it = reopened old.crash_leaves may_leave trees new covers may adopted sure in
     let right = one-right old.crash_leaves it.0 it.1 (and_parts old.is_honest (are_all_right are_right old.crash_leaves) honest).1 in
@@ -72,6 +72,6 @@ book-reopened old may_leave refused again covers honest trees may new adopted su
 pub file-reopened : {D : Type 0} {g : Ghosts D} (it : FileStore D g) → IsTrue (view it).is_numbered → AreDatabases (recovers it)
     → (old : StateOf Content) (refused again : ℕ) → Covers old.crash_leaves (recovers it) → (as_book stored_of are_right old).is_honest ≡ true
     → (image : Image) → (files.state it).may_leave image → (trees : Trees) → IsFoundIn image trees → (new : StateOf Content) → IsAdopted trees new → new.is_clean ≡ true
-    → ∥ IsReopened (stands (as_book stored_of are_right old) refused) (stands (as_book stored_of are_right new) again) ∥₁
+    → ∥ IsReopened (book_state (as_book stored_of are_right old) refused) (book_state (as_book stored_of are_right new) again) ∥₁
 file-reopened it numbered sound old refused again covers honest image may trees found new adopted sure =
     ∥∥₁_map (opens_again it numbered sound image may) (λ db. book-reopened old (recovers it) refused again covers honest trees (subst (recovers it) (sym (found db.0 db.2)) db.1) new adopted sure)

@@ -3,7 +3,7 @@ use Rattle.std.specs.Prelude.{◌≡◌, ◌≢◌, ℕ, true, false, [], ◌∷
 use Rattle.sqlite_trees.specs.Objects.{catalog_tree}
 use Rattle.sqlite_trees.specs.Tree.{Trees}
 use Rattle.books.specs.Book.{BookState, Stored, nothing}
-use Rattle.books.specs.Kept.{stands}
+use Rattle.books.specs.Kept.{book_state}
 use Rattle.sqltables.specs.Adoption.{IsAdopted}
 use Rattle.sqltables.specs.Content.{Content}
 use Rattle.sqltables.specs.Decoding.{contents}
@@ -50,9 +50,9 @@ IsFoundNew trees s =
 -- A book over rows that were taken up of these trees, which are a registry's of this program or nothing's yet: what
 -- the book is and what the rows are; and it answers where its disk told the truth and the stored sums are right.
 pub record IsAdoptedBook (trees : Trees) (rows : StateOf Content) (refused : ℕ) : Type 0 where
-  pub book : IsTakenFrom trees (stands (as_book stored_of are_right rows) refused)
+  pub book : IsTakenFrom trees (book_state (as_book stored_of are_right rows) refused)
   pub adopted : IsAdopted trees rows
   pub ours : rows.readiness ≢ Other
   pub answers : rows.is_honest ≡ true → are_right rows.content ≡ true
-      → (stands (as_book stored_of are_right rows) refused).is_clean ≡ true
-  pub fresh : IsFoundNew trees (stands (as_book stored_of are_right rows) refused)
+      → (book_state (as_book stored_of are_right rows) refused).is_clean ≡ true
+  pub fresh : IsFoundNew trees (book_state (as_book stored_of are_right rows) refused)

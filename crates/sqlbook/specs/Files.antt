@@ -8,7 +8,7 @@ use Rattle.sqlite_trees.specs.Objects.{catalog_tree}
 use Rattle.sqlite_trees.specs.Tree.{Trees}
 use Rattle.sqlite.specs.Files.{AreFoundIn, HoldsDatabase}
 use Rattle.books.specs.Book.{BookState}
-use Rattle.books.specs.Kept.{stands}
+use Rattle.books.specs.Kept.{book_state}
 use Rattle.sqltables.specs.Adoption.{IsAdopted}
 use Rattle.sqltables.specs.Content.{Content}
 use Rattle.sqltables.specs.Stored.{fresh}
@@ -27,7 +27,7 @@ abbrev pub IsLeftIn : {D : Type 0} → Ghosts D → Files D → BookState → Ty
 IsLeftIn g files old =
     (image : Image) → outcomes g files.log files.db image → (trees : Trees) → IsFoundIn image trees
     → (new : StateOf Content) (again : ℕ) → IsAdopted trees new → new.is_clean ≡ true
-    → ∥ IsReopened old (stands (as_book stored_of are_right new) again) ∥₁
+    → ∥ IsReopened old (book_state (as_book stored_of are_right new) again) ∥₁
 
 -- Rows that were adopted from files which hold this: a database that was found, or nothing, of which nothing is seen.
 pub record AreTakenIn (image : Image) (s : StateOf Content) : Type 0 where

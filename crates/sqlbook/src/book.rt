@@ -1,7 +1,7 @@
 //! Books in the rows of a database.
 ghost use Rattle.std.specs.Prelude.{◌≡◌, true, IfErr, IfOk};
 ghost use Rattle.sqlite.specs.Held.{state};
-ghost use Rattle.books.specs.Kept.{stands};
+ghost use Rattle.books.specs.Kept.{book_state};
 ghost use Rattle.sqlite.specs.State.{HasCleanDisk};
 ghost use Rattle.sqlite_trees.specs.Tree.{Trees};
 ghost use Rattle.sqlite_trees.specs.View.{IsClean};
@@ -29,19 +29,19 @@ pub type MemoryBook = SqlBook<MemStore, InMemory>;
 /// A book in memory, with nothing in it, which was never opened. What it may refuse is want of memory
 /// or room.
 pub fn in_memory(alloc: Global) -> Result<SqlBook<MemStore, InMemory>, BookFault>
-    ensures { IfOk result (λ book. IsUnused (stands (as_book stored_of are_right book.records.store)
+    ensures { IfOk result (λ book. IsUnused (book_state (as_book stored_of are_right book.records.store)
         book.refused)) }
 {
     let store = RowStore::in_memory(alloc)?;
     Ok(Kept::over(SqlRecords {
         store,
         alloc,
-        origin: InMemory,
+        provenance: InMemory,
     }))
 }
 
 /// Does nothing. It tells a proof that nothing wrong is ever taken from a book in memory.
-pub fn stays_clean(book: &MemoryBook)
+pub fn show_clean(book: &MemoryBook)
     ensures { (⟦<MemoryBook as Book>⟧.state book.now).is_clean ≡ true }
 {}
 
@@ -52,12 +52,12 @@ fn over_rows<S: Alter>(store: RowStore<S>, alloc: Global) -> SqlBook<S, OnDisk>
     ensures refused { result.refused ≡ 0 }
     ensures honest { store.is_clean ≡ true → store.is_honest ≡ true }
 {
-    store.rests();
-    store.told_truth();
+    store.show_rest();
+    store.show_honest();
     Kept::over(SqlRecords {
         store,
         alloc,
-        origin: OnDisk,
+        provenance: OnDisk,
     })
 }
 

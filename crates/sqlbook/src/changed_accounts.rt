@@ -22,9 +22,9 @@ pub fn open_account<S: Alter>(
     ensures { MakesAs result stored_of are_right (tables.account_opened registrar
         (stored_of store.old.content)) store.old store.new }
 {
-    store.whole();
+    store.show_whole();
     sqlaccounts::open_account(store, alloc, registrar)?;
-    store.whole();
+    store.show_whole();
     Ok(())
 }
 
@@ -38,9 +38,9 @@ pub fn set_counters<S: Alter>(
     ensures { MakesAs result stored_of are_right (tables.counters_set registrar counters
         (stored_of store.old.content)) store.old store.new }
 {
-    store.whole();
+    store.show_whole();
     sqlaccounts::set_counters(store, registrar, counters)?;
-    store.whole();
+    store.show_whole();
     Ok(())
 }
 
@@ -55,11 +55,11 @@ pub fn add_line<S: Alter>(
     ensures { MakesAs result stored_of are_right (tables.line_added registrar line
         (stored_of store.old.content)) store.old store.new }
 {
-    store.whole();
+    store.show_whole();
     let days = sqlterms::days(store, alloc)?;
     let ends = maybe_grace_end(&line, &days);
     sqlaccounts::add_line(store, registrar, line, ends)?;
-    store.whole();
+    store.show_whole();
     Ok(())
 }
 
@@ -73,9 +73,9 @@ pub fn take_line<S: Alter>(
     ensures { MakesAs result stored_of are_right (tables.line_taken registrar line
         (stored_of store.old.content)) store.old store.new }
 {
-    store.whole();
+    store.show_whole();
     sqlaccounts::take_line(store, registrar, line)?;
-    store.whole();
+    store.show_whole();
     Ok(())
 }
 
@@ -90,9 +90,9 @@ pub fn put_message<S: Alter>(
     ensures { MakesAs result stored_of are_right (tables.message_put registrar message
         (stored_of store.old.content)) store.old store.new }
 {
-    store.whole();
+    store.show_whole();
     sqlaccounts::put_message(store, alloc, registrar, message)?;
-    store.whole();
+    store.show_whole();
     Ok(())
 }
 
@@ -107,8 +107,8 @@ pub fn take_message<S: Alter>(
     ensures { MakesAs result stored_of are_right (tables.message_taken registrar message
         (stored_of store.old.content)) store.old store.new }
 {
-    store.whole();
+    store.show_whole();
     sqlaccounts::take_message(store, alloc, registrar, message)?;
-    store.whole();
+    store.show_whole();
     Ok(())
 }

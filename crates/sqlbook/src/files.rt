@@ -1,7 +1,7 @@
 //! The files under a book, given back.
 ghost use Rattle.std.specs.Prelude.{◌≡◌, true};
 ghost use Rattle.sqlite_wal.specs.Reads.{AreClean};
-ghost use Rattle.books.specs.Kept.{stands};
+ghost use Rattle.books.specs.Kept.{book_state};
 ghost use Rattle.sqlbook.specs.Meaning.{are_right, stored_of};
 ghost use Rattle.sqlbook.specs.Files.{IsLeftIn};
 ghost use Rattle.sqlbook.specs.AsBook.{as_book};
@@ -18,7 +18,7 @@ pub fn into_files<D: Disk + Drop, O: Provenance<FileStore<D>> + Drop>(
 ) -> Files<D>
     ensures { AreClean D.Disk result.log result.db
         → (as_book stored_of are_right book.records.store).is_honest ≡ true
-        → IsLeftIn D.Disk result (stands (as_book stored_of are_right book.records.store)
+        → IsLeftIn D.Disk result (book_state (as_book stored_of are_right book.records.store)
         book.refused) }
 {
     into_connection(book).into_store().close()

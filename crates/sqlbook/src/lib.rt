@@ -14,7 +14,7 @@ mod records;
 mod redating;
 mod renaming;
 
-pub use book::{MemoryBook, SqlBook, adopt, in_memory, into_connection, stays_clean, taken};
+pub use book::{MemoryBook, SqlBook, adopt, in_memory, into_connection, show_clean, taken};
 pub use changed_terms::set_terms;
 pub use files::into_files;
 pub use graces::grace_end;

@@ -10,7 +10,7 @@ pub trait Provenance<S: Alter> {
     ghost is_made: { Bool };
 
     /// Does nothing. It tells a proof that of rows that were made here nothing wrong is ever taken.
-    fn rests(store: &RowStore<S>)
+    fn show_clean(store: &RowStore<S>)
         ensures { is_made ≡ true → store.now.is_clean ≡ true };
 }
 
@@ -21,8 +21,8 @@ pub struct InMemory;
 impl Provenance<MemStore> for InMemory {
     ghost is_made = { true };
 
-    fn rests(store: &RowStore<MemStore>) {
-        store.stays_clean();
+    fn show_clean(store: &RowStore<MemStore>) {
+        store.show_clean();
     }
 }
 
@@ -33,5 +33,5 @@ pub struct OnDisk;
 impl<S: Alter> Provenance<S> for OnDisk {
     ghost is_made = { false };
 
-    fn rests(_store: &RowStore<S>) {}
+    fn show_clean(_store: &RowStore<S>) {}
 }

@@ -30,7 +30,7 @@ use std::alloc::Global;
 pub struct SqlRecords<S: Alter, O: Provenance<S>> {
     pub(crate) store: RowStore<S>,
     pub(crate) alloc: Global,
-    pub(crate) origin: O,
+    pub(crate) provenance: O,
     ghost steady: { IsBetweenCalls O.is_made are_right store },
 }
 
@@ -50,8 +50,8 @@ fn rollback<S: Alter, O: Provenance<S>>(store: &mut RowStore<S>)
     ensures clean { O.is_made ≡ true → store.new.is_clean ≡ true }
 {
     store.back();
-    store.rests();
-    O::rests(store);
+    store.show_rest();
+    O::show_clean(store);
 }
 
 /// What a call on rows said. After a fault the transaction is undone.
@@ -67,8 +67,8 @@ fn rollback_on_fault<S: Alter, O: Provenance<S>, T>(
     if said.is_err() {
         store.back();
     }
-    store.rests();
-    O::rests(store);
+    store.show_rest();
+    O::show_clean(store);
     said
 }
 

@@ -6,7 +6,7 @@ ghost use Rattle.lifecycle.specs.Periods.{rules_with};
 ghost use Rattle.sqlrows.specs.Meanings.{Changes};
 ghost use Rattle.states.specs.States.{FindsSome};
 ghost use Rattle.sqlbook.specs.inner.Replacing.{IsCheckedDomain, IsExchangedThere, IsReplaced};
-ghost use Rattle.sqlbook.specs.inner.Suiting.{MeansSame};
+ghost use Rattle.sqlbook.specs.inner.Suiting.{MeansSame, earlier_end};
 
 use crate::changed_domains::{exchange, sponsor_of};
 use basis::text::Text;
@@ -80,7 +80,8 @@ fn redate_one<S: Alter>(
 
 /// The earlier of the two ends of a domain's deletion, if it is deleted.
 fn earlier_end(domain: &Domain, days: &Schedule, others: &Schedule) -> Option<Moment>
-    ensures { IfSome result (λ due. int_le (numbers.moment_column due)
+    ensures exactly { result ≡ earlier_end days.now others.now domain.now }
+    ensures bound { IfSome result (λ due. int_le (numbers.moment_column due)
         (pos (lapse.due_at (rules_with days.now) domain.now)) ≡ true) }
 {
     let Some(deletion) = &domain.deletion else {
@@ -117,7 +118,7 @@ fn exchange_there<S: Alter>(
     requires { store.old.is_open ≡ true }
     ensures { Changes result (IsExchangedThere name.now days.now after.now due) store.old store.new }
 {
-    store.whole();
+    store.show_whole();
     let before = found(store, alloc, name, days)?;
     let exchanged = exchange(store, alloc, name, &before, after, due);
     drop(before);

@@ -35,9 +35,6 @@ module _ (lower domain : List ℕ) where
       ap (λ (n : ℕ). get_or under n 0 == 46) (let at : length under - length domain - 1 ≡ length lower = omega (arith, long) in at)
       ∙ ap (λ (b : ℕ). b == 46) (get_or-append_seam lower 46 domain 0)
 
-  lies_below : is_below domain under ≡ true
-  lies_below = λ i. lt-ltb (length domain) (length under) (omega (arith, long)) i && ends i && dotted i
-
 -- what it is below
 front_of : (domain host : List ℕ) → is_below domain host ≡ true → (front : List ℕ) × (host ≡ front ++ 46 ∷ domain)
 front_of domain host below =
@@ -83,24 +80,6 @@ labels_append (b ∷ bs) rest =
     ap (λ (t : List (List ℕ)). cond (dot b) ([] ∷ t) (onto_first b t)) (labels_append bs rest)
     ∙ split_by b (dot b) (labels_of bs) (labels_of rest) some.0 some.1 some.2
 
-last_of : (xs ys : List (List ℕ)) → length ys ≡ 2 → last_two (xs ++ ys) ≡ ys
-last_of xs ys two = drop_at xs ys (length (xs ++ ys) - 2) (let at : length xs ≡ length (xs ++ ys) - 2 = omega (arith, length-append xs ys) in at)
-
-above_under : (front domain : List ℕ) → count_by dot domain ≡ 1 → above (front ++ 46 ∷ domain) ≡ domain
-unfolding above
-above_under front domain one =
-    ap (λ (t : List (List ℕ)). join_with_byte 46 (last_two t)) (labels_append front domain)
-    ∙ ap (join_with_byte 46) (last_of (labels_of front) (labels_of domain) (omega (arith, length-slice_split dot domain)))
-    ∙ join_with_byte-slice_split 46 domain
-
--- a host below a domain with one dot has it above it, and is another name
-pub below_above : (domain host : List ℕ) → count_by (λ b. b == 46) domain ≡ 1 → is_below domain host ≡ true → (above host ≡ domain) × (host ≢ domain)
-below_above domain host one below =
-    let front = front_of domain host below in (
-      ap above front.1 ∙ above_under front.0 domain one,
-      λ same. let even : length domain ≡ length (front.0 ++ 46 ∷ domain) = ap length (sym same ∙ front.1) in omega (arith, even, length-append front.0 (46 ∷ domain)),
-    )
-
 last_of_more : (xs ys : List (List ℕ)) → 2 ≤ length ys → last_two (xs ++ ys) ≡ last_two ys
 last_of_more xs ys two =
     ap (λ (n : ℕ). drop n (xs ++ ys)) (let at : length (xs ++ ys) - 2 ≡ length xs + (length ys - 2) = omega (arith, length-append xs ys) in at)
@@ -120,26 +99,6 @@ same_above domain host dotted below =
 joined : (x : List ℕ) (xs : List (List ℕ)) (y : List ℕ) (ys : List (List ℕ)) → join_with_byte 46 ((x ∷ xs) ++ y ∷ ys) ≡ join_with_byte 46 (x ∷ xs) ++ 46 ∷ join_with_byte 46 (y ∷ ys)
 joined x [] y ys = refl
 joined x (z ∷ zs) y ys = ap (λ (t : List ℕ). x ++ 46 ∷ t) (joined z zs y ys) ∙ sym (append_assoc x (46 ∷ join_with_byte 46 (z ∷ zs)) (46 ∷ join_with_byte 46 (y ∷ ys)))
-
--- the labels before the last two, and these
-below_by : (domain host : List ℕ) (before last : List (List ℕ)) → join_with_byte 46 (before ++ last) ≡ host → join_with_byte 46 last ≡ domain → host ≢ domain → 0 < length last → is_below domain host ≡ true
-below_by domain host [] last whole end other some = absurd (other (sym whole ∙ end))
-below_by domain host (x ∷ xs) [] whole end other some = absurd (omega arith)
-below_by domain host (x ∷ xs) (y ∷ ys) whole end other some =
-    let spelled : join_with_byte 46 (x ∷ xs) ++ 46 ∷ domain ≡ host = ap (λ (t : List ℕ). join_with_byte 46 (x ∷ xs) ++ 46 ∷ t) (sym end) ∙ sym (joined x xs y ys) ∙ whole in
-    ap (is_below domain) (sym spelled) ∙ lies_below (join_with_byte 46 (x ∷ xs)) domain
-
-some_last : (labels : List (List ℕ)) → 0 < length labels → 0 < length (last_two labels)
-some_last labels some = omega (arith, length-drop (length labels - 2) labels)
-
--- a host with a name above it that is another lies below it
-pub above_below : (domain host : List ℕ) → above host ≡ domain → host ≢ domain → is_below domain host ≡ true
-unfolding above
-above_below domain host is other =
-    let labels : List (List ℕ) = labels_of host in
-    below_by domain host (take (length labels - 2) labels) (last_two labels)
-    (ap (join_with_byte 46) (take-append-drop (length labels - 2) labels) ∙ join_with_byte-slice_split 46 host)
-    is other (some_last labels (omega (arith, length-slice_split dot host)))
 
 -- ---- computed
 

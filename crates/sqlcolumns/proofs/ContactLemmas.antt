@@ -48,18 +48,6 @@ is_read row transfer c e =
       made = sym (λ i. contact_with row (registration_of (due.1 i)) ((due.1 i).statuses) (street_in row.postal.street) transfer) ∙ due.1;
     }
 
--- what is read was written so
-pub contact_written : (row : table.Contact) (transfer : Option Transfer) (c : Contact) → contact_in row transfer ≡ Some c → contact_row row.id c ≡ Some row
-contact_written row transfer c e =
-    let read = is_read row transfer c e in
-    let street = street_in row.postal.street in
-    let made : Contact = contact_with row (registration_of c) c.statuses street transfer in
-    sym (ap (contact_row row.id) read.made)
-    ∙ (λ i. registration_written kinds.Contact (columns_of row) (registration_of c) read.registration i >>= (λ x.
-    (street_written row.postal.street i >>= (λ s. Some (postal_with (postal_in row.postal street) s))) >>= (λ p.
-    Some (row_with row.id made x p))))
-    ∙ (λ i. Some (record row { statuses = statuses_written row.statuses c.statuses read.statuses i; due = read.due i }))
-
 -- with this transfer
 pub contact_transfer : (row : table.Contact) (transfer : Option Transfer) (c : Contact) → contact_in row transfer ≡ Some c → c.transfer ≡ transfer
 contact_transfer row transfer c e = sym (ap (λ (x : Contact). x.transfer) (is_read row transfer c e).made)

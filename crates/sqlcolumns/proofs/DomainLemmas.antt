@@ -52,14 +52,6 @@ no_deletion deleted restore_requested e =
     let some : ◌≡◌ {A = Option Deletion} (Some (record { deleted = m.given; restore_requested = r.given })) None = same_some _ _ r.rest in
     cc
 
-pub deletion_written : (deleted restore_requested : Option ℤ) (d : Option Deletion) → deletion_in deleted restore_requested ≡ Some d → deletion_columns d ≡ record { deleted = deleted; restore_requested = restore_requested }
-deletion_written None None d e = sym (ap deletion_columns (same_some None d e))
-deletion_written None (Some r) d e = cc
-deletion_written (Some m) r None e = absurd (no_deletion m r e)
-deletion_written (Some m) r (Some d) e =
-    let read = deletion_read m r d e in
-    λ i. record { deleted = Some (moment_written m d.deleted read.deleted_is i); restore_requested = maybe_moment_written r d.restore_requested read.restore_requested_is i }
-
 pub deletion_is : (deleted restore_requested : Option ℤ) (d : Option Deletion) → deletion_in deleted restore_requested ≡ Some d → IfSome d IsDeletion
 deletion_is None None None e = tt
 deletion_is None None (Some d) e = cc
@@ -105,24 +97,6 @@ is_read row links transfer d e =
       deletion = x.is ∙ λ i. Some ((same i).deletion);
       made = sym (λ i. domain_with row (registration_of (same i)) ((same i).years) ((same i).statuses) ((same i).deletion) links transfer) ∙ same;
     }
-
--- what is read was written so
-pub domain_written : (row : table.Domain) (links : Links) (transfer : Option Transfer) (d : Domain) (due : ℕ) → moment_column due ≡ row.due → domain_in row links transfer ≡ Some d → domain_row row.id row.registrant due d ≡ Some row
-domain_written row links transfer d due due_is e =
-    let read = is_read row links transfer d e in
-    let made : Domain = domain_with row (registration_of d) d.years d.statuses d.deletion links transfer in
-    sym (ap (domain_row row.id row.registrant due) read.made)
-    ∙ (λ i. registration_written kinds.Domain (columns_of row) (registration_of d) read.registration i >>= (λ x.
-    Some (row_with row.id row.registrant due made x (deletion_written row.deleted row.restore_requested d.deletion read.deletion i))))
-    ∙ (λ i. Some (record row {
-      years = years_written row.years d.years read.years i;
-      statuses = statuses_written row.statuses d.statuses read.statuses i;
-      due = due_is i;
-    }))
-
--- with these links and this transfer
-pub domain_links : (row : table.Domain) (links : Links) (transfer : Option Transfer) (d : Domain) → domain_in row links transfer ≡ Some d → d.links ≡ links
-domain_links row links transfer d e = sym (ap (λ (x : Domain). x.links) (is_read row links transfer d e).made)
 
 pub domain_transfer : (row : table.Domain) (links : Links) (transfer : Option Transfer) (d : Domain) → domain_in row links transfer ≡ Some d → d.transfer ≡ transfer
 domain_transfer row links transfer d e = sym (ap (λ (x : Domain). x.transfer) (is_read row links transfer d e).made)

@@ -70,12 +70,6 @@ registrar_is c place e =
 pub maybe_registrar_back : (place : Option ℕ) → IfSome place IsPlace → maybe_registrar_in (maybe_registrar_column place) ≡ Some place
 maybe_registrar_back place is = maybe_back registrar_column registrar_in IsPlace registrar_back place is
 
-pub maybe_registrar_written : (c : Option ℤ) (place : Option ℕ) → maybe_registrar_in c ≡ Some place → maybe_registrar_column place ≡ c
-maybe_registrar_written c place e = maybe_written registrar_column registrar_in registrar_written c place e
-
-pub maybe_registrar_is : (c : Option ℤ) (place : Option ℕ) → maybe_registrar_in c ≡ Some place → IfSome place IsPlace
-maybe_registrar_is c place e = maybe_is registrar_in IsPlace registrar_is c place e
-
 pub years_back : (years : ℕ) → years < 2 ^ 32 → years_in (years_column years) ≡ Some years
 years_back years small = passed years (is_years years) (lt-ltb years 4_294_967_296 small)
 

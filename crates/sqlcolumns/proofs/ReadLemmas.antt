@@ -20,10 +20,6 @@ pub same_some : {A : Type 0} (a b : A) → Some a ≡ Some b → a ≡ b
 unfolding some_or
 same_some a b e = ap (some_or a) e
 
--- what holds of all that is read holds of this
-pub of_read : {X : Type 0} (P : X → Type 0) (read : Option X) (x : X) → IfSome read P → read ≡ Some x → P x
-of_read P read x all e = subst (λ r. IfSome r P) e all
-
 -- and what holds of this, however it is read, holds of all
 pub all_read : {X : Type 0} (P : X → Type 0) (read : Option X) → ((x : X) → read ≡ Some x → P x) → IfSome read P
 all_read P None each = tt

@@ -7,7 +7,7 @@ use Rattle.objects.specs.declared.transfer.Transfer.{Transfer}
 use Rattle.objects.specs.Transfers.{is_incoming, is_pending_state}
 use Rattle.sqlderived.specs.declared.holders.Holders.{Holders}
 use Rattle.sqlderived.specs.Held.{counts_one, counts_where, is_held_by}
-use Rattle.sqlderived.specs.inner.Holders.{incoming_of, incoming_without, is_in, maybe_parties_of, sponsor_without}
+use Rattle.sqlderived.specs.inner.Holders.{incoming_of, incoming_without, is_in, maybe_holders_of, sponsor_without}
 
 -- ---- the parties of a domain hold it
 
@@ -19,7 +19,7 @@ incoming-is r (Some t) = go (is_pending_state t.state)
     go true = refl
     go false = refl
 
-pub held-by : (r : ℕ) (d : Option Domain) → counts_where (is_held_by r) d ≡ counts_one (is_in r (maybe_parties_of d))
+pub held-by : (r : ℕ) (d : Option Domain) → counts_where (is_held_by r) d ≡ counts_one (is_in r (maybe_holders_of d))
 held-by r None = refl
 held-by r (Some d) = ap (λ b. counts_one ((d.sponsor == r) || b)) (sym (incoming-is r d.transfer))
 

@@ -120,26 +120,6 @@ held-kept old mid new before after name counted was is accounts =
         (λ i. count (is_held_by r) (values ((is ∙ ap (λ m. put m name after) mid-is) i)) + counts_where (is_held_by r) (sym was i))
         ∙ count-put (is_held_by r) (domains_of old) name after
 
--- the same where the domain is put first
-pub held-kept-behind : (old mid new : Content) (before after : Option Domain) (name : List ℕ)
-    → get (domains_of old) name ≡ before → domains_of mid ≡ put (domains_of old) name after → mid.accounts ≡ old.accounts → IsRecounted before after mid new
-    → helds_are_right new ≡ helds_are_right old
-held-kept-behind old mid new before after name was is accounts counted =
-    counted-right old new (λ r. counts_where (is_held_by r) before) (λ r. counts_where (is_held_by r) after) domains
-    (λ id. subst (λ o. AreAlike o (row_of new id)) (rows id) (counted.rows id))
-    (λ r. subst (λ o. AreCounted (counts_where (is_held_by r) before) (counts_where (is_held_by r) after) o (row_of new (pos r))) (rows (pos r)) (counted.helds r))
-  where
-    rows : (id : ℤ) → row_of mid id ≡ row_of old id
-    rows id = ap (λ xs. get_by key xs id) accounts
-
-    new-is : domains_of new ≡ domains_of mid
-    new-is = ap domains_of counted.rest
-
-    domains : (r : ℕ) → held_of new r + counts_where (is_held_by r) before ≡ held_of old r + counts_where (is_held_by r) after
-    domains r =
-        (λ i. count (is_held_by r) (values ((new-is ∙ is) i)) + counts_where (is_held_by r) (sym was i))
-        ∙ count-put (is_held_by r) (domains_of old) name after
-
 -- ---- other changes
 
 abbrev column : Option table.Account → Option ℤ
@@ -199,7 +179,3 @@ module _ (old new : Content) (r : ℕ) (whole : IsWhole old) (it : IsOpened r ol
 
   pub opening-kept : helds_are_right new ≡ helds_are_right old
   opening-kept = right-alike old new (λ id. opened-at id _ refl)
-
--- where nothing is held
-pub nothing-right : helds_are_right no_content ≡ true
-nothing-right = refl

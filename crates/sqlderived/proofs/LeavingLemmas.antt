@@ -3,7 +3,7 @@ use Rattle.std.proofs.Common.{◌≡◌, ℕ, ◌+◌, ◌&&◌, ◌==◌, not, 
 use Rattle.objects.specs.declared.domain.Domain.{Domain}
 use Rattle.sqlderived.specs.declared.holders.Holders.{Holders}
 use Rattle.sqlderived.specs.Held.{counts_one, counts_where, is_held_by}
-use Rattle.sqlderived.specs.inner.Holders.{incoming_without, is_in, maybe_parties_of, sponsor_without}
+use Rattle.sqlderived.specs.inner.Holders.{incoming_without, is_in, maybe_holders_of, sponsor_without}
 use Rattle.sqlderived.specs.inner.Recounts.{IsCountedAnew, IsRecounted}
 use Rattle.sqlderived.proofs.HolderLemmas.{balanced, held-by, leaving}
 use Rattle.sqlderived.proofs.RecountLemmas.{anew-as, anew-on}
@@ -33,8 +33,8 @@ module _ (first others : Option Holders) (s i : Option ℕ) (xs ys zs : Content)
       anew-as (λ r. 0 + 0) (λ r. counts s r + counts i r) (λ r. 0) (λ r. counts_one (is_in r first && not (is_in r others))) xs zs (λ r. more-same _ _ (both r))
       (anew-on (λ r. 0) (counts s) (λ r. 0) (counts i) xs ys zs one two)
 
-module _ (before after : Option Domain) (p q : Option Holders) (xs ys zs : Content) (first : p ≡ maybe_parties_of before) (second : q ≡ maybe_parties_of after) where
-  held : (r : ℕ) (d : Option Domain) (o : Option Holders) → o ≡ maybe_parties_of d → counts_where (is_held_by r) d ≡ counts_one (is_in r o)
+module _ (before after : Option Domain) (p q : Option Holders) (xs ys zs : Content) (first : p ≡ maybe_holders_of before) (second : q ≡ maybe_holders_of after) where
+  held : (r : ℕ) (d : Option Domain) (o : Option Holders) → o ≡ maybe_holders_of d → counts_where (is_held_by r) d ≡ counts_one (is_in r o)
   held r d o e = held-by r d ∙ ap (λ x. counts_one (is_in r x)) (sym e)
 
   pub recounted : IsCountedAnew (λ r. counts_one (is_in r p && not (is_in r q))) (λ r. 0) xs ys → IsCountedAnew (λ r. 0) (λ r. counts_one (is_in r q && not (is_in r p))) ys zs → IsRecounted before after xs zs

@@ -66,15 +66,6 @@ counted-as l m p q (Some a) (Some b) same e = record { rest = e.rest; held = sum
 
 -- ---- all rows
 
-pub anew-itself : (xs : Content) → IsCountedAnew (λ r. 0) (λ r. 0) xs xs
-anew-itself xs = record {
-  accounts = refl;
-  sums = refl;
-  rows = λ id. alike-itself (row_of xs id);
-  helds = λ r. counted-itself (row_of xs (pos r));
-  rest = refl;
-}
-
 pub anew-on : (l m p q : ℕ → ℕ) (xs ys zs : Content) → IsCountedAnew l m xs ys → IsCountedAnew p q ys zs → IsCountedAnew (λ r. l r + p r) (λ r. m r + q r) xs zs
 anew-on l m p q xs ys zs one two = record {
   accounts = two.accounts ∙ one.accounts;

@@ -1,9 +1,13 @@
 -- Columns that are right under two schedules.
-use Rattle.std.proofs.Common.{◌≡◌, ◌&&◌, pos, Bool, true, int_le, List, [], ◌∷◌, filter, Option, Some, None, refl, sym, ap, ◌∙◌}
+use Rattle.std.proofs.Common.{◌≡◌, ◌&&◌, ◌==◌, ℕ, nat_le, ℤ, pos, negsuc, Bool, true, false, cond, int_eq, int_le, List, [], ◌∷◌, filter, Option, Some, None, refl, sym, ap, ◌∙◌, true≢false, arith}
 use Rattle.std.proofs.lemmas.Bool.{and_parts}
+use Rattle.std.proofs.lemmas.Bool.Decides.{nat_tests}
+use Rattle.std.proofs.lemmas.Int.{ints}
 use Rattle.std.specs.List.{list_all}
 use Rattle.std.specs.Option.{option_map_or}
+use Rattle.calendar.specs.Moment.{capped, is_moment}
 use Rattle.sqlcolumns.specs.Domains.{deletion_in}
+use Rattle.sqlcolumns.specs.Numbers.{moment_in}
 use Rattle.sqlcolumns.proofs.DomainLemmas.{deletion_reads}
 use Rattle.sqlcolumns.proofs.ReadLemmas.{step}
 use Rattle.lifecycle.specs.Lapse.{due_at, due_of}
@@ -18,7 +22,7 @@ use Rattle.sqltables.specs.Transfer.{transfer_with_domain}
 use Rattle.sqlobjects.specs.Objects.{last_transfer}
 use Rattle.sqldomains.specs.Domains.{domain_of, links_of}
 use Rattle.sqlderived.specs.Dues.{is_due_right}
-use Rattle.sqlderived.specs.Redates.{is_end_right, of_deletion}
+use Rattle.sqlderived.specs.Redates.{is_end, is_end_right, is_timed, is_timely, of_deletion}
 
 -- a domain that reads is deleted as its row says
 deletion-read : (xs : Content) (row : Domain) (d : object.Domain) → domain_of xs row ≡ Some d
@@ -64,3 +68,46 @@ module _ (before after : Schedule) (xs : Content) where
   pub dues-by-both : list_all (is_end_right before) xs.domains ≡ true → list_all (is_end_right after) xs.domains ≡ true
       → list_all (is_due_right after xs) xs.domains ≡ list_all (is_due_right before xs) xs.domains
   dues-by-both were are = all-right xs.domains were are
+
+-- ---- what is checked of the columns
+
+module _ (asked : ℕ → Deletion → Bool) (wanted : ℤ → Deletion → Bool) (so : (n : ℕ) (x : Deletion) → asked n x ≡ true → wanted (pos n) x ≡ true) where
+  by-moment : (n : ℕ) (b : Bool) (c : Option (Option Deletion)) → option_map_or (λ due. of_deletion (asked due) c) (cond b (Some n) None) false ≡ true → of_deletion (wanted (pos n)) c ≡ true
+  by-moment n false c e = absurd (true≢false (sym e))
+  by-moment n true None e = refl
+  by-moment n true (Some None) e = refl
+  by-moment n true (Some (Some x)) e = so n x e
+
+  by-column : (column : ℤ) (c : Option (Option Deletion)) → option_map_or (λ due. of_deletion (asked due) c) (moment_in column) false ≡ true → of_deletion (wanted column) c ≡ true
+  by-column (pos n) c e = by-moment n (is_moment n) c e
+  by-column (negsuc n) c e = absurd (true≢false (sym e))
+
+no-later : (n m : ℕ) → nat_le n (capped m) ≡ true → nat_le n m ≡ true
+no-later n m e = grind (arith, nat_tests, e)
+
+timely-right : (days : Schedule) (row : Domain) → is_timely days row ≡ true → is_end_right days row ≡ true
+timely-right days row =
+    by-column (λ due x. nat_le due (capped (purge_at (rules_with days) x))) (λ column x. int_le column (pos (purge_at (rules_with days) x)))
+    (λ n x e. no-later n (purge_at (rules_with days) x) e) row.due (deletion_in row.deleted row.restore_requested)
+
+same-column : (n m : ℕ) → (n == m) ≡ true → int_eq (pos n) (pos m) ≡ true
+same-column n m e = grind (arith, nat_tests, ints, e)
+
+timed-right : (days : Schedule) (row : Domain) → is_timed days row ≡ true → is_end days row ≡ true
+timed-right days row =
+    by-column (λ due x. due == capped (purge_at (rules_with days) x)) (λ column x. int_eq column (pos (capped (purge_at (rules_with days) x))))
+    (λ n x e. same-column n (capped (purge_at (rules_with days) x)) e) row.due (deletion_in row.deleted row.restore_requested)
+
+all-weaker : (P Q : Domain → Bool) → ((row : Domain) → P row ≡ true → Q row ≡ true) → (rows : List Domain) → list_all P rows ≡ true → list_all Q rows ≡ true
+all-weaker P Q f [] e = refl
+all-weaker P Q f (row ∷ rows) e =
+    let parts = and_parts (P row) (list_all P rows) e in
+    let here = f row parts.0 in
+    let rest = all-weaker P Q f rows parts.1 in
+    λ i. here i && rest i
+
+pub all-timely : (days : Schedule) (rows : List Domain) → list_all (is_timely days) rows ≡ true → list_all (is_end_right days) rows ≡ true
+all-timely days = all-weaker (is_timely days) (is_end_right days) (timely-right days)
+
+pub all-timed : (days : Schedule) (rows : List Domain) → list_all (is_timed days) rows ≡ true → list_all (is_end days) rows ≡ true
+all-timed days = all-weaker (is_timed days) (is_end days) (timed-right days)

@@ -14,8 +14,8 @@ pub(crate) struct Holders {
 }
 
 /// Who holds a domain, if there is one.
-pub(crate) fn parties_of(domain: &Option<Domain>) -> Option<Holders>
-    ensures { result ≡ spec.maybe_parties_of domain.now }
+pub(crate) fn holders_of(domain: &Option<Domain>) -> Option<Holders>
+    ensures { result ≡ spec.maybe_holders_of domain.now }
 {
     match domain {
         None => None,

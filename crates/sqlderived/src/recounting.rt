@@ -6,7 +6,7 @@ ghost use Rattle.sqlderived.specs.Held.{counts_one, counts_where};
 ghost use Rattle.sqlderived.specs.inner.Holders.{is_in};
 ghost use Rattle.sqlderived.specs.inner.Recounts.{IsCounted, IsCountedAnew, IsRecounted};
 
-use crate::holders::{Holders, incoming_without, parties_of, sponsor_without};
+use crate::holders::{Holders, holders_of, incoming_without, sponsor_without};
 use basis::registrar::RegistrarNo;
 use objects::Domain;
 use sqlaccounts::found_row;
@@ -24,8 +24,8 @@ pub fn recount<S: Alter>(
     requires { store.old.is_open ≡ true }
     ensures { Changes result (IsRecounted before.now after.now) store.old store.new }
 {
-    let before = parties_of(before);
-    let after = parties_of(after);
+    let before = holders_of(before);
+    let after = holders_of(after);
     leave(store, &before, &after)?;
     join(store, &before, &after)?;
     Ok(())

@@ -1,6 +1,6 @@
 //! When deleted domains are due: when they are purged. PendingDelete may begin after the clock, and so
 //! under lengths that the book is opened under only later.
-ghost use Rattle.std.specs.Prelude.{◌≡◌, true, ⊤, int_le, pos};
+ghost use Rattle.std.specs.Prelude.{◌≡◌, true, false, int_le, pos, IfOk, Ok, Err};
 ghost use Rattle.std.specs.FinMap.{get};
 ghost use Rattle.std.specs.List.{list_all};
 ghost use Rattle.calendar.specs.Moment.{capped};
@@ -14,7 +14,7 @@ ghost use Rattle.sqlderived.specs.Dues.{is_due_right};
 ghost use Rattle.sqlderived.specs.Redates as spec;
 ghost use Rattle.sqlite_rules.specs.Lists.{Has};
 ghost use Rattle.sqltables.specs.Domain as table;
-ghost use Rattle.states.specs.States.{FindsSome};
+ghost use Rattle.states.specs.States.{Finds, FindsSome};
 
 use crate::checking::due_in;
 use basis::list::Seq;
@@ -59,26 +59,21 @@ pub fn ends_come<S: Alter>(store: &mut RowStore<S>, days: &Schedule) -> Result<(
         store.new }
 {
     let rows = store.all_domains()?;
-    if all_right(rows.as_slice(), days) {
+    if all_timely(rows.as_slice(), days) {
         Ok(())
     } else {
         Err(BookFault::Store)
     }
 }
 
-fn all_right(rows: &[DomainRow], days: &Schedule) -> bool
-    ensures { result ≡ true → list_all (spec.is_end_right days.now) rows.now ≡ true }
+fn all_timely(rows: &[DomainRow], days: &Schedule) -> bool
+    ensures { result ≡ list_all (spec.is_timely days.now) rows.now }
 {
-    for row in rows {
-        if !is_right(row, days) {
-            return false;
-        }
-    }
-    true
+    rows.iter().all(|row| is_timely(row, days))
 }
 
-fn is_right(row: &DomainRow, days: &Schedule) -> bool
-    ensures { result ≡ true → spec.is_end_right days.now row.now ≡ true }
+fn is_timely(row: &DomainRow, days: &Schedule) -> bool
+    ensures { result ≡ spec.is_timely days.now row.now }
 {
     let Some(due) = moment_of_column(row.due) else {
         return false;
@@ -95,26 +90,21 @@ pub fn ends_are<S: Alter>(store: &mut RowStore<S>, days: &Schedule) -> Result<()
         store.new }
 {
     let rows = store.all_domains()?;
-    if all_are(rows.as_slice(), days) {
+    if all_timed(rows.as_slice(), days) {
         Ok(())
     } else {
         Err(BookFault::Store)
     }
 }
 
-fn all_are(rows: &[DomainRow], days: &Schedule) -> bool
-    ensures { result ≡ true → list_all (spec.is_end days.now) rows.now ≡ true }
+fn all_timed(rows: &[DomainRow], days: &Schedule) -> bool
+    ensures { result ≡ list_all (spec.is_timed days.now) rows.now }
 {
-    for row in rows {
-        if !is_end(row, days) {
-            return false;
-        }
-    }
-    true
+    rows.iter().all(|row| is_timed(row, days))
 }
 
-fn is_end(row: &DomainRow, days: &Schedule) -> bool
-    ensures { result ≡ true → spec.is_end days.now row.now ≡ true }
+fn is_timed(row: &DomainRow, days: &Schedule) -> bool
+    ensures { result ≡ spec.is_timed days.now row.now }
 {
     let Some(due) = moment_of_column(row.due) else {
         return false;
@@ -132,15 +122,17 @@ pub fn deleted_names<S: Alter>(
     store: &mut RowStore<S>,
     alloc: Global,
 ) -> Result<Seq<Text>, BookFault>
-    ensures { FindsSome result (λ names. ⊤) store.old store.new }
+    ensures { Finds result (spec.deleted_names store.old.content.domains) store.old store.new }
 {
     let rows = store.all_domains()?;
-    Ok(names_of_deleted(alloc, rows.as_slice())?)
+    Ok(names_of_deleted(alloc, rows)?)
 }
 
-fn names_of_deleted(alloc: Global, rows: &[DomainRow]) -> Result<Seq<Text>, AllocError> {
+fn names_of_deleted(alloc: Global, rows: Seq<DomainRow>) -> Result<Seq<Text>, AllocError>
+    ensures { IfOk result (λ names. names ≡ spec.deleted_names rows) }
+{
     let mut names = Seq::new(alloc);
-    for row in rows {
+    for row in rows.into_vec() {
         if row.deleted.is_some() {
             names.push(Text::from_str(alloc, row.name.as_str())?)?;
         }

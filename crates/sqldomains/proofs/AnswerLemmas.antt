@@ -40,10 +40,6 @@ has-taken (x ∷ all) row e = inl cc
 pub first-in : {R : Type 0} (p : R → Bool) (xs : List R) (row : R) → take 1 (filter p xs) ≡ row ∷ [] → Has xs row
 first-in p xs row e = (has-filter p xs row (has-taken (filter p xs) row e)).0
 
-pub none-taken : {R : Type 0} (all : List R) → take 1 all ≡ [] → all ≡ []
-none-taken [] e = refl
-none-taken (x ∷ all) e = cc
-
 -- ---- contacts
 
 pub number-of-contact : (xs : Content) (given name : List ℕ) (rows : List contact_table.Contact) (row : Option contact_table.Contact) (id : Option ℤ) → given ≡ name → rows ≡ filter (contact_table.contact_with_name given) xs.contacts → rows ≡ rows_of row

@@ -63,7 +63,3 @@ module _ (xs m : Content) (beside : DerivedColumns) (d : Domain) (row : table.Do
     links = ap (λ (x : Content). filter (link_with_domain row.id) x.links) placed.rest ∙ no-links;
     transfers = ap (λ (x : Content). filter (transfer_with_domain row.id) x.transfers) placed.rest ∙ no-transfers;
   }
-
--- a domain that has no transfer has none
-pub none-put : (id : ℤ) (xs : Content) → filter (transfer_with_domain id) xs.transfers ≡ [] → IsTransferPut (transferable.Domain id) None xs xs
-none-put id xs none = record { last = ap last_transfer none; kept = record { others = λ other e. refl; rest = refl } }

@@ -1,25 +1,30 @@
 -- A row of a table in which no name comes twice, put or added.
-use Rattle.std.proofs.Common.{◌≡◌, ℕ, ℤ, List, [], ◌∷◌, ◌++◌, filter, Option, Some, None, sym, ap, subst, ◌∙◌}
+use Rattle.std.proofs.Common.{◌≡◌, inl, ℕ, ℤ, List, [], ◌∷◌, ◌++◌, filter, Option, Some, None, refl, sym, ap, subst, ◌∙◌}
+use Rattle.sqlite_rules.specs.Lists.{Has}
 use Rattle.sqlite_keyed.specs.Keyed.{insert_by, next_key}
 use Rattle.sqlite_typed.specs.Tests.{bytes_eq}
 use Rattle.sqltables.specs.Content.{Content}
 use Rattle.sqltables.specs.inner.Whole.{IsWhole}
 use Rattle.sqlrows.specs.Read.{rows_of}
-use Rattle.sqlobjects.specs.inner.Stages.{IsPlaced, IsPlacedAt, IsRowPlaced, NamedTable, rows_named, with_last, with_row}
-use Rattle.sqlobjects.proofs.PutLemmas.{found-added, placed-added, placed-put}
+use Rattle.sqlobjects.specs.inner.Stages.{IsPlaced, IsPlacedAt, IsRowPlaced, NamedTable, rows_named, with_last, with_replaced}
+use Rattle.sqlrows.proofs.ReplaceLemmas.{replaced-is-put}
+use Rattle.sqlobjects.proofs.PutLemmas.{found-added, has-filter, placed-added, placed-put}
 
 module _ {R : Type 0} (t : NamedTable R) where
   -- in the place of the row of its name
-  pub put-placed : (xs : Content) (found given row : R) → row ≡ t.numbered given (t.key found) → IsPlacedAt t (Some found) given row xs (with_row t row xs)
-  put-placed xs found given row is whole there =
+  pub replaced-placed : (xs : Content) (found given row : R) → row ≡ t.numbered given (t.key found) → IsPlacedAt t (Some found) given row xs (with_replaced t row xs)
+  replaced-placed xs found given row is whole there =
       let number : t.key row ≡ t.key found = ap t.key is ∙ t.number_is given (t.key found) in
       let name : t.name row ≡ t.name given = ap t.name is ∙ t.name_is given (t.key found) in
       let all : List R = insert_by t.key (t.rows xs) row in
-      record {
+      let has = has-filter (λ r. bytes_eq (t.name r) (t.name given)) (t.rows xs) found (subst (λ rows. Has rows found) (sym there) (inl refl)) in
+      let put : t.with_rows all xs ≡ with_replaced t row xs =
+      ap (λ l. t.with_rows l xs) (sym (replaced-is-put t.key (t.rows xs) found row (λ it. t.numbered row (t.key it)) (t.keyed xs whole) has.0 (sym number) (λ it e. ap (t.numbered row) e ∙ t.itself row))) in
+      subst (IsRowPlaced t (λ it. it ≡ t.numbered given (t.key it)) (t.name given) row xs) put (record {
         is = is ∙ ap (t.numbered given) (sym number);
         rows = subst (IsPlaced t.name (t.name given) row (t.rows xs)) (sym (t.rows_are all xs)) (placed-put t.key t.name (t.name given) (t.rows xs) found there (t.keyed xs whole) row number name);
         rest = ap (λ l. t.with_rows l xs) (sym (t.rows_are all xs));
-      }
+      })
 
   -- after the others, and found again
   pub added-placed : (xs m : Content) (given row : R) → m ≡ with_last t given xs → rows_named t (t.name given) m ≡ row ∷ [] → IsPlacedAt t None given row xs m

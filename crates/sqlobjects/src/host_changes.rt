@@ -33,10 +33,10 @@ fn put<S: Alter>(store: &mut RowStore<S>, alloc: Global, host: &Host) -> Result<
     if !is_host(host) {
         return Err(BookFault::Store);
     }
-    store.whole();
+    store.show_whole();
     let row = place(store, alloc, host)?;
     put_addresses(store, alloc, &row, host.addresses.as_slice())?;
-    store.whole();
+    store.show_whole();
     Ok(())
 }
 
@@ -49,9 +49,9 @@ pub fn drop_host<S: Alter>(
     requires { store.old.is_open ≡ true }
     ensures { Changes result (IsHostPut name None) store.old store.new }
 {
-    store.whole();
+    store.show_whole();
     let row = row_to_change(store, &name)?;
     remove_found(store, row)?;
-    store.whole();
+    store.show_whole();
     Ok(())
 }

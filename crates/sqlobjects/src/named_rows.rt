@@ -16,7 +16,7 @@ use states::BookFault;
 pub trait NamedRow: Sized + Drop {
     ghost use Rattle.std.specs.Prelude.{◌≡◌, true};
     ghost use Rattle.states.specs.States.{Finds, Makes};
-    ghost use Rattle.sqlobjects.specs.inner.Stages.{NamedTable, rows_named, with_last, with_row};
+    ghost use Rattle.sqlobjects.specs.inner.Stages.{NamedTable, rows_named, with_last, with_replaced};
 
     /// Its table.
     ghost table: { NamedTable Self };
@@ -32,10 +32,10 @@ pub trait NamedRow: Sized + Drop {
     fn by_name<S: Alter>(store: &mut RowStore<S>, name: &str) -> Result<Seq<Self>, BookFault>
         ensures { Finds result (rows_named table name.now store.old.content) store.old store.new };
 
-    /// Puts it in the place of the row with its number, or after all others.
-    fn put<S: Alter>(&self, store: &mut RowStore<S>) -> Result<(), BookFault>
+    /// Puts it in the place of the row with its number, if there is one.
+    fn replace<S: Alter>(&self, store: &mut RowStore<S>) -> Result<(), BookFault>
         requires { store.old.is_open ≡ true }
-        ensures { Makes result (with_row table self.now store.old.content) store.old store.new };
+        ensures { Makes result (with_replaced table self.now store.old.content) store.old store.new };
 
     /// Adds it at the end, with the number after the last one.
     fn append<S: Alter>(&self, store: &mut RowStore<S>) -> Result<(), BookFault>
@@ -63,8 +63,8 @@ impl NamedRow for ContactRow {
         store.contacts_by_name(name)
     }
 
-    fn put<S: Alter>(&self, store: &mut RowStore<S>) -> Result<(), BookFault> {
-        store.put_contact(self)
+    fn replace<S: Alter>(&self, store: &mut RowStore<S>) -> Result<(), BookFault> {
+        store.replace_contact(self)
     }
 
     fn append<S: Alter>(&self, store: &mut RowStore<S>) -> Result<(), BookFault> {
@@ -89,8 +89,8 @@ impl NamedRow for HostRow {
         store.hosts_by_name(name)
     }
 
-    fn put<S: Alter>(&self, store: &mut RowStore<S>) -> Result<(), BookFault> {
-        store.put_host(self)
+    fn replace<S: Alter>(&self, store: &mut RowStore<S>) -> Result<(), BookFault> {
+        store.replace_host(self)
     }
 
     fn append<S: Alter>(&self, store: &mut RowStore<S>) -> Result<(), BookFault> {
@@ -115,8 +115,8 @@ impl NamedRow for DomainRow {
         store.domains_by_name(name)
     }
 
-    fn put<S: Alter>(&self, store: &mut RowStore<S>) -> Result<(), BookFault> {
-        store.put_domain(self)
+    fn replace<S: Alter>(&self, store: &mut RowStore<S>) -> Result<(), BookFault> {
+        store.replace_domain(self)
     }
 
     fn append<S: Alter>(&self, store: &mut RowStore<S>) -> Result<(), BookFault> {
@@ -173,7 +173,7 @@ fn put_row<R: NamedRow, S: Alter>(
 {
     let mut row = row;
     row.take_number(found);
-    row.put(store)?;
+    row.replace(store)?;
     Ok(row)
 }
 

@@ -15,5 +15,6 @@ pub mod DefineLemmas
 pub mod TransactionLemmas
 pub mod PlainLemmas
 pub mod RowLemmas
+pub mod ReplaceLemmas
 pub mod NameLemmas
 pub mod StateLemmas

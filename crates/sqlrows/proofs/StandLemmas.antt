@@ -67,10 +67,6 @@ pub on_err_always : {T E : Type 0} {P : Type 0} (r : Result T E) → P → OnErr
 on_err_always (Ok x) h = tt
 on_err_always (Err e) h = h
 
-pub on_ok_always : {T E : Type 0} {P : Type 0} (r : Result T E) → P → OnOk r P
-on_ok_always (Ok x) h = h
-on_ok_always (Err e) h = tt
-
 stays_by : (old new : State) (returning : Option Returning) (command : Command) (text : List ℕ) (params : Row) (count : ℕ) → writes_tables command ≡ true → old.in_transaction ≡ true
     → Runs old new returning command text params count → Stays old new
 stays_by old new returning (Insert at from) text params count kind inside w = record { shown = subst (λ b. Shows old new new.now (cond b old.committed new.now) b) inside w.shown; marks = w.marks }

@@ -22,7 +22,7 @@ use Rattle.sqltables.specs.Readiness.{IsFormOf, IsKnownAs, is_numbered}
 use Rattle.states.specs.States.{Has, LeavesSame, Remains, StateOf}
 use Rattle.states.proofs.LeavingLemmas.{has-alone}
 use Rattle.sqltables.specs.Content.{Content}
-use Rattle.sqltables.specs.inner.Stored.{Bears, Fits, Guards, HoldsRows, left_in, readiness_of, rows_in, stands, undone}
+use Rattle.sqltables.specs.inner.Stored.{Bears, Fits, Guards, HoldsRows, left_in, readiness_of, rows_in, store_state, undone}
 use Rattle.sqltables.specs.Stored.{Covers, IsLeftAs}
 use Rattle.sqltables.proofs.SoundLemmas.{content_of_sound}
 use Rattle.sqltables.proofs.StandingLemmas.{honest}
@@ -86,7 +86,7 @@ shaped Making schema trees is sound = absurd is
 shaped Made schema trees is sound = subst (λ (s : Schema). IsSound s trees) is sound
 shaped Other schema trees is sound = ((λ other. is.0 (schema_once trees schema no_schema sound other)), λ other. is.1 (schema_once trees schema registry sound other))
 
-pub shown : (s : State) (form : Form) (trees : Trees) → IsFound s → IsFormOf s.now.schema form → (HasCleanDisk s → s.now.trees ≡ trees) → IsShown trees (stands form false s (left_in form s ∷ []))
+pub shown : (s : State) (form : Form) (trees : Trees) → IsFound s → IsFormOf s.now.schema form → (HasCleanDisk s → s.now.trees ≡ trees) → IsShown trees (store_state form false s (left_in form s ∷ []))
 shown s form trees found is same = record {
   idle = refl;
   before = refl;
@@ -109,18 +109,6 @@ module _ (trees : Trees) (was : StateOf Content) (shown-as : IsShown trees was) 
 
   rows-seen : was.is_clean ≡ true → was.content ≡ contents trees
   rows-seen clean = subst (λ (r : Ready). IsSeenBy r trees was.content) used (shown-as.content clean)
-
-  -- after a fault that registry may be left, and nothing else
-  pub left_registry : (now : StateOf Content) → LeavesSame was now → now.is_honest ≡ true → (may_leave : Trees → Type 0) → Covers now.crash_leaves may_leave → LeavesSameRegistry trees may_leave
-  left_registry now leaves honest may_leave covers db may =
-      let clean = shown-as.answers (leaves.honest honest) in
-      let it : Remains Content = record { readiness = was.readiness; content = was.content } in
-      let alone : now.crash_leaves ≡ it ∷ [] = leaves.same ∙ shown-as.leaves clean in
-      let found = covers db may in
-      let is : found.0 ≡ it = has-alone it found.0 (subst (λ (l : List (Remains Content)). Has l found.0) alone found.1) in
-      let left : IsLeftAs was.readiness db was.content = subst (λ (r : Remains Content). IsLeftAs r.readiness db r.content) is found.2 in
-      let registered : IsLeftAs Used db was.content = subst (λ (r : Ready). IsLeftAs r db was.content) used left in
-      record { had = sound-tables clean; has = registered.0; rows = sym registered.1 ∙ rows-seen clean }
 
   -- where the number is another, it is no registry of this program
   pub known-other : was.is_clean ≡ true → is_numbered was.content.metas ≡ false → IsKnownAs readiness.Other trees

@@ -28,7 +28,7 @@ use Rattle.states.specs.States.{Remains, Writes}
 use Rattle.sqltables.specs.declared.answers.Answers.{Answers}
 use Rattle.sqltables.specs.inner.Answers.{AreRight, Recalls}
 use Rattle.sqltables.specs.inner.Statements.{Alters, AreOthersSame}
-use Rattle.sqltables.specs.inner.Stored.{Agrees, Bears, Fits, HoldsRows, has_rows, rows_in, stands, undone}
+use Rattle.sqltables.specs.inner.Stored.{Agrees, Bears, Fits, HoldsRows, has_rows, rows_in, store_state, undone}
 use Rattle.sqltables.proofs.AskingLemmas.{holds-now, rows-are}
 use Rattle.sqltables.proofs.DecodingLemmas.{decoded}
 use Rattle.sqltables.proofs.StandingLemmas.{answered-open, clean-of, honest, leaves-no-more, leaves-same, was-honest}
@@ -118,7 +118,7 @@ module _ (tree : ℕ) (sql : List ℕ) (params : Row) (form : Form) (old new : S
           making = λ e. absurd (true≢false e);
         }
 
-    pub written : (leaves : List (Remains Content)) → Writes (f (rows_in form old.now.trees)) (stands form true old leaves) (stands form true new leaves)
+    pub written : (leaves : List (Remains Content)) → Writes (f (rows_in form old.now.trees)) (store_state form true old leaves) (store_state form true new leaves)
     written leaves = record {
       clean = λ e. let parts = and_parts new.is_clean new.is_open e in let clean = honest new parts.0 in
           ap (λ (b : Bool). b && old.is_open) (clean-of old (was-honest old new P survives clean)) ∙ executed_open sql params old new (Ok count) (ran clean) parts.1;

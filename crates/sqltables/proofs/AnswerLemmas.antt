@@ -30,7 +30,7 @@ use Rattle.sqltables.specs.declared.answers.Answers.{Answers}
 use Rattle.sqltables.specs.declared.form.Form.{Form}
 use Rattle.states.specs.States.{Finds, Reads, Remains, StateOf}
 use Rattle.sqltables.specs.inner.Statements.{AreOthersSame, Asks, IsOfTable}
-use Rattle.sqltables.specs.inner.Stored.{Fits, HoldsRows, has_rows, rows_in, stands}
+use Rattle.sqltables.specs.inner.Stored.{Fits, HoldsRows, has_rows, rows_in, store_state}
 use Rattle.sqltables.proofs.AskingLemmas.{finds-by, holds-now, in-registry, rows-are, shows}
 use Rattle.sqltables.proofs.StandingLemmas.{honest}
 
@@ -57,9 +57,9 @@ reads-itself s = record {
 
 -- an answer that is kept is what the database would say
 pub recalled : {R : Type 0} (form : Form) (begun : Bool) (s : State) (leaves : List (Remains Content)) (kept : Answers) → Fits form begun s → has_rows form ≡ true → Recalls s kept → (f : Content → List R) → (found : Result (List R) BookFault)
-    → ((db : Trees) (xs : Content) → AreRight db kept → IsContent xs (record { schema = registry; trees = db }) → IfOk found (λ records. records ≡ f xs)) → Finds found (f (stands form begun s leaves).content) (stands form begun s leaves) (stands form begun s leaves)
+    → ((db : Trees) (xs : Content) → AreRight db kept → IsContent xs (record { schema = registry; trees = db }) → IfOk found (λ records. records ≡ f xs)) → Finds found (f (store_state form begun s leaves).content) (store_state form begun s leaves) (store_state form begun s leaves)
 recalled form begun s leaves kept fits rows recalls f found tells =
-    finds-by found (f (rows_in form s.now.trees)) (stands form begun s leaves) (stands form begun s leaves) (reads-itself (stands form begun s leaves))
+    finds-by found (f (rows_in form s.now.trees)) (store_state form begun s leaves) (store_state form begun s leaves) (reads-itself (store_state form begun s leaves))
     (λ e.
     let parts = and_parts s.is_clean s.is_open e in
     let clean = honest s parts.0 in

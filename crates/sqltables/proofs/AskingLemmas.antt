@@ -27,7 +27,7 @@ use Rattle.sqltables.specs.declared.form.Form.{Form}
 use Rattle.sqltables.specs.declared.form.Form.TheVariants.{Unused, Making, Made, Other}
 use Rattle.states.specs.States.{Finds, Reads, Remains, StateOf}
 use Rattle.sqltables.specs.inner.Statements.{Asks}
-use Rattle.sqltables.specs.inner.Stored.{Agrees, Bears, Fits, HoldsRows, has_rows, rows_in, stands}
+use Rattle.sqltables.specs.inner.Stored.{Agrees, Bears, Fits, HoldsRows, has_rows, rows_in, store_state}
 use Rattle.sqltables.proofs.StandingLemmas.{agrees-unchanged, honest, leaves-no-more, reads-same, was-honest}
 
 -- ---- where the tables are
@@ -101,10 +101,10 @@ finds-by (Err fault) v old new reads same = record { clean = reads.clean; before
 
 pub asked : {R : Type 0} (tree : ℕ) (shown : R → Row) (sql : List ℕ) (params : Row) (form : Form) (begun : Bool) (old new : State) (P : Trees → Type 0) (leaves : List (Remains Content)) → Survives old new P → Fits form begun old → has_rows form ≡ true
     → (f : Content → List R) → Asks tree shown sql params f → (found : List Row) → (HasCleanDisk new → Shown sql params old new found) → (result : Result (List R) BookFault)
-    → ((xs : List R) → found ≡ map shown xs → IfOk result (λ out. out ≡ xs)) → Finds result (f (rows_in form old.now.trees)) (stands form begun old leaves) (stands form begun new leaves)
+    → ((xs : List R) → found ≡ map shown xs → IfOk result (λ out. out ≡ xs)) → Finds result (f (rows_in form old.now.trees)) (store_state form begun old leaves) (store_state form begun new leaves)
 asked tree shown sql params form begun old new P leaves survives fits rows f asks found seen result read =
     let plain = asks.is.plain in
-    finds-by result (f (rows_in form old.now.trees)) (stands form begun old leaves) (stands form begun new leaves)
+    finds-by result (f (rows_in form old.now.trees)) (store_state form begun old leaves) (store_state form begun new leaves)
     (reads-same form begun old new P leaves survives (λ clean. same-if sql params form begun old new P survives fits rows plain found clean (seen clean)))
     (λ e. let clean = honest new (and_parts new.is_clean new.is_open e).0 in
     read (f (rows_in form old.now.trees))

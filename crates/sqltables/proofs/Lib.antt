@@ -16,6 +16,7 @@ pub mod BalanceLemmas
 pub mod RowLemmas
 pub mod WholeLemmas
 pub mod HandLemmas
+pub mod ReplacingLemmas
 pub mod SeenLemmas
 pub mod NotedLemmas
 pub mod AdoptionLemmas

@@ -12,7 +12,7 @@ use Rattle.states.specs.declared.fault.BookFault.{BookFault}
 use Rattle.sqltables.specs.declared.form.Form.TheVariants.{Unused, Making}
 use Rattle.states.proofs.LeavingLemmas.{leaves-on}
 use Rattle.states.specs.States.{Begins, Makes, Remains, Starts, StateOf, Stays, Writes}
-use Rattle.sqltables.specs.inner.Stored.{Agrees, Fits, Guards, stands}
+use Rattle.sqltables.specs.inner.Stored.{Agrees, Fits, Guards, store_state}
 use Rattle.sqltables.proofs.DecodingLemmas.{decoded}
 use Rattle.sqltables.proofs.StandingLemmas.{answered-open, clean-of, guards-on, honest, leaves-same, was-honest}
 
@@ -36,7 +36,7 @@ module _ (old mid : State) (P : Trees → Type 0) (survives : Survives old mid P
           making = λ e. absurd (true≢false e);
         }
 
-    pub makes-made : Writes no_content (stands Unused true old leaves) (stands Making true mid leaves)
+    pub makes-made : Writes no_content (store_state Unused true old leaves) (store_state Making true mid leaves)
     makes-made = record {
       clean = λ e. let p = and_parts mid.is_clean mid.is_open e in both-clean old mid P survives (honest mid p.0) (opens (honest mid p.0) p.1);
       before = λ e. refl;
@@ -85,7 +85,7 @@ module _ (old mid : State) (P : Trees → Type 0) (survives : Survives old mid P
           making = λ _. refl;
         }
 
-    pub stays-unmade : Stays (stands Unused true old leaves) (stands Unused false new leaves)
+    pub stays-unmade : Stays (store_state Unused true old leaves) (store_state Unused false new leaves)
     stays-unmade = record {
       clean = λ e.
           let p = and_parts new.is_clean new.is_open e in
@@ -112,22 +112,6 @@ module _ (old mid : State) (P : Trees → Type 0) (survives : Survives old mid P
             | inr is ↦ absurd (none db is)
           ];
     }
-
--- a transaction is opened, and then something is made in it
-pub begins-then : (result : Result (Unit {0}) BookFault) (old mid new : StateOf Content) → old.before ≡ old.content → Starts old mid → Makes result mid.content mid new → Begins result old new
-begins-then (Ok done) old mid new idle starts makes = record {
-  clean = λ e. starts.clean (makes.clean e);
-  before = λ e. makes.before e ∙ starts.before (makes.clean e);
-  opened = makes.opened;
-  content = λ e. makes.content e ∙ starts.content (makes.clean e);
-  answers = λ was. makes.answers (starts.answers was);
-  leaves = leaves-on old mid new starts.leaves makes.leaves;
-}
-begins-then (Err fault) old mid new idle starts stays = record {
-  clean = λ e. starts.clean (stays.clean e);
-  before = λ e. stays.before e ∙ starts.before (stays.clean e) ∙ sym idle;
-  leaves = leaves-on old mid new starts.leaves stays.leaves;
-}
 
 -- what going back does, whether a transaction was open or not
 pub back-or-same : {C : Type 0} (state-of : C → State) (mid new : C) → (HasCleanDisk (state-of new) → IsRolledBack (state-of mid) (state-of new) ⊎ ((new ≡ mid) × ((state-of mid).in_transaction ≡ false)))

@@ -12,7 +12,7 @@ use Rattle.sqlite.specs.Listing.{understood}
 use Rattle.sqlite_tied.specs.Compute.{everything}
 use Rattle.sqlrows.specs.inner.Layouts.{by_then_key}
 use Rattle.sqlrows.proofs.SelectLemmas.{value_cmp-maybe_int}
-use Rattle.sqltables.specs.inner.Tables.{meta_all, account_all, account_by_id, contact_by_id, contact_by_name, contact_until_due, contact_first_until_due, contact_by_sponsor_until_due, domain_all, domain_by_id, domain_by_name, domain_first_by_registrant, domain_until_due, domain_first_until_due, domain_by_sponsor_until_due, domain_by_registrant_until_due, domain_by_roid, host_all, host_by_id, host_by_name, host_by_above, address_by_host, link_by_domain, link_by_host, link_first_by_contact, link_first_by_host, link_by_contact_until_due, link_by_host_until_due, line_by_account, line_by_object, message_first_by_account, message_same, transfer_by_contact, transfer_by_domain, transfer_pending_by_requester, transfer_pending_by_losing, days_all}
+use Rattle.sqltables.specs.inner.Tables.{meta_all, account_all, account_by_id, contact_by_id, contact_by_name, contact_until_due, contact_first_until_due, contact_by_sponsor_until_due, domain_all, domain_by_id, domain_by_name, domain_first_by_registrant, domain_until_due, domain_first_until_due, domain_by_sponsor_until_due, domain_by_registrant_until_due, domain_by_roid, host_all, host_by_id, host_by_name, host_by_above, address_by_host, link_by_domain, link_first_by_contact, link_first_by_host, link_by_contact_until_due, link_by_host_until_due, line_by_account, line_by_object, message_first_by_account, message_same, transfer_by_contact, transfer_by_domain, transfer_pending_by_requester, transfer_pending_by_losing, days_all}
 use Rattle.sqltables.specs.Meta.{meta_shown, metas}
 use Rattle.sqltables.specs.Account.{account_shown, accounts, account_with_id}
 use Rattle.sqltables.specs.Contact.{Contact, contact_shown, contacts, contact_with_id, contact_with_name, contact_within_due, contact_of_sponsor_within, by_due as contact_by_due, contacts_by_due}
@@ -197,11 +197,6 @@ pub links_by_domain : (v : ℤ) → Asks links.tree link_shown link_by_domain (I
 unfolding understood everything
 links_by_domain v = asks_where link_part 5 (equals 2 0 ∷ []) (record { names = link_titles; command = refl; plain = (refl, refl); unlisted = refl })
     (λ x. last_term (at_ints false Eq x.domain v)) (λ x. refl)
-
-pub links_by_host : (v : ℤ) → Asks links.tree link_shown link_by_host (Int v ∷ []) (λ c. filter (link_with_host v) c.links)
-unfolding understood everything
-links_by_host v = asks_where link_part 5 (equals 4 0 ∷ []) (record { names = link_titles; command = refl; plain = (refl, refl); unlisted = refl })
-    (λ x. last_term (at_points_to x.host v)) (λ x. refl)
 
 pub first_links_by_contact : (v : ℤ) → Asks links.tree link_shown link_first_by_contact (Int v ∷ []) (λ c. take 1 (filter (link_with_contact v) c.links))
 unfolding understood everything

@@ -150,6 +150,12 @@ module _ {A : Type 0} (said : Result A BookFault) (hand : Hand) (row : Account) 
       subst (λ (a : Option Account). IsAtHand (after said (record { account = a; owed = false; meta = hand.meta; days = hand.days })) new) (sym is)
       (settled-kept said row hand.meta hand.days old new it (subst (λ (h : Hand). IsAtHand h old) (sym (as-owing hand row is owes)) held))
 
+-- an owed row is there, in an older form
+pub owed-there : (hand : Hand) (row : Account) (s : StateOf Content) → hand.account ≡ Some row → hand.owed ≡ true → IsAtHand hand s → s.is_clean ≡ true → IsThere true row s.content.accounts
+owed-there hand row s is owes held clean =
+    subst (λ (b : Bool). IsThere b row s.content.accounts) owes
+    (subst (λ (a : Option Account). IfSome a (λ r. IsThere hand.owed r s.content.accounts)) is (held.account clean))
+
 -- ---- an account's row that was found or put is kept at hand
 
 if-some : {A : Type 0} {P Q : A → Type 0} (o : Option A) → IfSome o P → ((x : A) → P x → Q x) → IfSome o Q

@@ -14,7 +14,7 @@ use Rattle.sqltables.specs.declared.form.Form.{Form}
 use Rattle.sqltables.specs.declared.form.Form.TheVariants.{Unused, Making, Made, Other}
 use Rattle.states.specs.States.{LeavesSame, Reads, Remains, Stays}
 use Rattle.sqltables.specs.Content.{Content}
-use Rattle.sqltables.specs.inner.Stored.{Agrees, Bears, Fits, Guards, readiness_of, rows_in, stands, undone}
+use Rattle.sqltables.specs.inner.Stored.{Agrees, Bears, Fits, Guards, readiness_of, rows_in, store_state, undone}
 
 -- ---- clean and open
 
@@ -35,7 +35,7 @@ was-honest old new P it clean = omega (arith, it.clean, clean)
 
 -- ---- what a crash may leave
 
-pub leaves-same : (form after : Form) (begun still : Bool) (old new : State) (P : Trees → Type 0) (leaves : List (Remains Content)) → Survives old new P → readiness_of after ≡ readiness_of form → LeavesSame (stands form begun old leaves) (stands after still new leaves)
+pub leaves-same : (form after : Form) (begun still : Bool) (old new : State) (P : Trees → Type 0) (leaves : List (Remains Content)) → Survives old new P → readiness_of after ≡ readiness_of form → LeavesSame (store_state form begun old leaves) (store_state after still new leaves)
 leaves-same form after begun still old new P leaves survives ready = record { honest = λ e. clean-of old (was-honest old new P survives (honest new e)); same = refl; ready = ready }
 
 -- to undo what was begun makes no book, and unmakes none
@@ -99,7 +99,7 @@ agrees-idle : (form : Form) (s : State) → Agrees form false s → Agrees (undo
 agrees-idle form s it = subst (λ (f : Form). Agrees f false s) (sym (it.making refl)) it
 
 -- where going back leads
-pub home : (form : Form) (begun : Bool) (s : State) (leaves : List (Remains Content)) → Agrees form begun s → (stands form begun s leaves).before ≡ rows_in (undone form) s.committed.trees
+pub home : (form : Form) (begun : Bool) (s : State) (leaves : List (Remains Content)) → Agrees form begun s → (store_state form begun s leaves).before ≡ rows_in (undone form) s.committed.trees
 home form true s leaves it = refl
 home form false s leaves it = ap (λ (f : Form). rows_in f s.now.trees) (sym (it.making refl)) ∙ ap (λ (db : Database). rows_in (undone form) db.trees) (it.settled refl)
 
@@ -137,7 +137,7 @@ module _ (form : Form) (begun : Bool) (old new : State) (auto : Bool) (tells : a
   opened-held left is clean = let it = left clean in (held-after it.0 it.1 is).0.is_open
 
   -- going back leads where it led
-  idle-home : (leaves : List (Remains Content)) → Stands old new → IsTrue new.is_open → Agrees form begun old → auto ≡ true → (stands (undone form) false new leaves).before ≡ (stands form begun old leaves).before
+  idle-home : (leaves : List (Remains Content)) → Stands old new → IsTrue new.is_open → Agrees form begun old → auto ≡ true → (store_state (undone form) false new leaves).before ≡ (store_state form begun old leaves).before
   idle-home leaves (inl same) opened it is =
       let none : begun ≡ false = sym it.mode ∙ sym same.0.mode ∙ idle-if auto new.in_transaction tells is in
       ap (λ (db : Database). rows_in (undone form) db.trees) (same.0.now_is ∙ it.settled none) ∙ sym (home form begun old leaves it)
@@ -152,14 +152,14 @@ module _ (form : Form) (begun : Bool) (old new : State) (auto : Bool) (tells : a
         let opened : IsTrue old.is_open = was_open old new (left clean parts.1).0 parts.1 in
         ap (λ (b : Bool). b && old.is_open) (clean-of old (was-honest old new P survives clean)) ∙ opened
 
-    pub stays-idle : Left → auto ≡ true → Stays (stands form begun old leaves) (stands (undone form) false new leaves)
+    pub stays-idle : Left → auto ≡ true → Stays (store_state form begun old leaves) (store_state (undone form) false new leaves)
     stays-idle left is = record {
       clean = was-clean left;
       before = λ e. let parts = and_parts new.is_clean new.is_open e in let it = left (honest new parts.0) parts.1 in idle-home leaves it.0 parts.1 it.1 is;
       leaves = leaves-same form (undone form) begun false old new P leaves survives (undone-ready form);
     }
 
-    pub stays-held : Left → auto ≡ false → Stays (stands form begun old leaves) (stands form begun new leaves)
+    pub stays-held : Left → auto ≡ false → Stays (store_state form begun old leaves) (store_state form begun new leaves)
     stays-held left is = record {
       clean = was-clean left;
       before = λ e.
@@ -172,7 +172,7 @@ module _ (form : Form) (begun : Bool) (old new : State) (auto : Bool) (tells : a
     }
 
 -- a call that changed nothing
-pub reads-same : (form : Form) (begun : Bool) (old new : State) (P : Trees → Type 0) (leaves : List (Remains Content)) → Survives old new P → (HasCleanDisk new → IsUnchanged old new) → Reads (stands form begun old leaves) (stands form begun new leaves)
+pub reads-same : (form : Form) (begun : Bool) (old new : State) (P : Trees → Type 0) (leaves : List (Remains Content)) → Survives old new P → (HasCleanDisk new → IsUnchanged old new) → Reads (store_state form begun old leaves) (store_state form begun new leaves)
 reads-same form begun old new P leaves survives same = record {
   clean = λ e. let clean = honest new (and_parts new.is_clean new.is_open e).0 in ap (λ (b : Bool). b && old.is_open) (clean-of old (was-honest old new P survives clean)) ∙ (same clean).0.was_open;
   before = λ e.
@@ -202,7 +202,7 @@ module _ (form : Form) (old new : State) (P : Trees → Type 0) (survives : Surv
   pub fits-looked : Fits form false new
   fits-looked clean opened = still-idle (stood clean) opened (was-idle clean opened).1
 
-  pub stays-looked : (leaves : List (Remains Content)) → Stays (stands form false old leaves) (stands form false new leaves)
+  pub stays-looked : (leaves : List (Remains Content)) → Stays (store_state form false old leaves) (store_state form false new leaves)
   stays-looked leaves = record {
     clean = λ e. let p = and_parts new.is_clean new.is_open e in let clean = honest new p.0 in ap (λ (b : Bool). b && old.is_open) (clean-of old (was-honest old new P survives clean)) ∙ (was-idle clean p.1).0;
     before = λ e. let p = and_parts new.is_clean new.is_open e in let clean = honest new p.0 in ap (λ (db : Database). rows_in form db.trees) (still-there (stood clean) p.1 (was-idle clean p.1).1);

@@ -9,12 +9,13 @@ use Rattle.sqlite_sql.specs.declared.ops.BinaryOp.TheVariants.{Compare}
 use Rattle.sqlite_sql.specs.Query.{Query, output, output_cmp}
 use Rattle.sqlite_sql.specs.Term.{Term, lit, col, op2, eval_all, holds}
 use Rattle.sqlite_keyed.specs.Keyed.{insert_by}
-use Rattle.sqlite_keyed.specs.Lists.{delete_where, sort_by}
+use Rattle.sqlite_keyed.specs.Lists.{delete_where, sort_by, update_where}
 use Rattle.sqlite_keyed.proofs.ListLemmas.{filter_all, all_of}
-use Rattle.sqlrows.specs.inner.Layouts.{writes_tables, Gives, Numbers, IsSelect, IsPut, IsAppend, IsDelete, select_query, limited_query, sorted_query, by_then_key, appended}
+use Rattle.sqlrows.specs.inner.Layouts.{writes_tables, Gives, Numbers, IsSelect, IsPut, IsAppend, IsDelete, IsUpdate, Renews, select_query, limited_query, sorted_query, by_then_key, appended}
 use Rattle.sqlrows.proofs.SelectLemmas.{selects, limits, sorts}
 use Rattle.sqlrows.proofs.PutLemmas.{puts}
 use Rattle.sqlrows.proofs.AppendLemmas.{appends}
+use Rattle.sqlrows.proofs.UpdateLemmas.{updates}
 use Rattle.sqlrows.proofs.WriteLemmas.{deletes}
 use Rattle.sqltables.specs.Tables.{registry}
 use Rattle.sqltables.specs.inner.Statements.{Alters, Asks}
@@ -37,6 +38,10 @@ put_terms n = col 0 0 ∷ lit Null ∷ columns 0 1 n
 
 abbrev pub set_terms : ℕ → List Term
 set_terms n = col 1 0 ∷ lit Null ∷ columns 0 (n + 4) n
+
+-- what an update makes of the row with a number: its key, and the parameters after the number
+abbrev pub replace_terms : ℕ → List Term
+replace_terms n = col 1 0 ∷ lit Null ∷ columns 0 1 n
 
 -- what VALUES makes of the parameters without the key
 abbrev pub append_terms : ℕ → List Term
@@ -105,3 +110,8 @@ module _ {X : Type 0} (T : Part X) where
       → Alters T.layout.tree sql params (T.to (λ xs. delete_where p xs))
   remove_by {sql} {params} p filters is tests = alters T sql params (λ xs. delete_where p xs) is.plain (ap writes_tables is.command)
       (deletes T.layout registry T.at T.table T.listed sql params filters p tests is)
+
+  pub replace_by : {sql : List ℕ} {params : Row} (p : X → Bool) (f : X → X) (n : ℕ) → IsUpdate registry sql T.at T.layout.tree (equals 0 0 ∷ []) (replace_terms n) → Tests params (equals 0 0 ∷ []) p → Renews T.layout (replace_terms n) params f
+      → Alters T.layout.tree sql params (T.to (λ xs. update_where p f xs))
+  replace_by {sql} {params} p f n is tests renews = alters T sql params (λ xs. update_where p f xs) is.plain (ap writes_tables is.command)
+      (updates T.layout registry T.at T.table T.listed sql params (equals 0 0 ∷ []) (replace_terms n) p f tests renews is)

@@ -20,7 +20,7 @@ use Rattle.sqltables.specs.declared.form.Form.TheVariants.{Unused, Making, Made,
 use Rattle.states.proofs.LeavingLemmas.{has-alone, has-either, has-front, has-last}
 use Rattle.states.specs.States.{Closes, Fails, Keeps, Remains, Starts, Stays, holding}
 use Rattle.sqltables.specs.Content.{Content}
-use Rattle.sqltables.specs.inner.Stored.{Agrees, Bears, Fits, Guards, committed, has_rows, leaves_of, left_in, readiness_of, rows_in, stands, undone}
+use Rattle.sqltables.specs.inner.Stored.{Agrees, Bears, Fits, Guards, committed, has_rows, leaves_of, left_in, readiness_of, rows_in, store_state, undone}
 use Rattle.sqltables.specs.Stored.{IsLeftAs}
 use Rattle.sqltables.proofs.StandingLemmas.{agrees-back, clean-of, guards-on, home, honest, leaves-same, undone-ready, was-honest}
 
@@ -115,7 +115,7 @@ module _ (form : Form) (old new : State) (P : Trees → Type 0) (survives : Surv
           guards-on false true old new P leaves survives guards (λ clean _. (begin-shows old new count (ran clean)).is_open)
           (λ clean db may. elim (survives.crash clean db may) [ inl was ↦ was | inr is ↦ absurd (none db is) ])
 
-      pub starts : Starts (stands form false old leaves) (stands form true new leaves)
+      pub starts : Starts (store_state form false old leaves) (store_state form true new leaves)
       starts = record {
         clean = λ e. let p = parts-of e in clean-if-open p.0 (opened-before p.0 p.1);
         before = λ e. let p = parts-of e in let it = agreed p.0 p.1 in ap (λ (db : Database). rows_in (undone form) db.trees) (shows p.0 it).committed_is ∙ sym (home form false old leaves it);
@@ -137,7 +137,7 @@ module _ (form : Form) (old new : State) (P : Trees → Type 0) (survives : Surv
           let it = was-agreed clean opened in
           subst (λ (f : Form). Agrees f false new) (it.making refl) (agrees-back form false old new (gone clean it) opened it)
 
-      pub stays-not-begun : Stays (stands form false old leaves) (stands form false new leaves)
+      pub stays-not-begun : Stays (store_state form false old leaves) (store_state form false new leaves)
       stays-not-begun = record {
         clean = λ c. let p = parts-of c in clean-if-open p.0 (executed_open begin_text [] old new (Err e) (ran p.0) p.1);
         before = λ c.
@@ -170,7 +170,7 @@ module _ (form : Form) (old new : State) (P : Trees → Type 0) (survives : Surv
             making = λ _. committed-stays form;
           }
 
-      pub keeps : has_rows form ≡ true → Keeps (stands form true old leaves) (stands (committed form) false new (left_in (committed form) old ∷ []))
+      pub keeps : has_rows form ≡ true → Keeps (store_state form true old leaves) (store_state (committed form) false new (left_in (committed form) old ∷ []))
       keeps rows = record {
         clean = λ e. let p = parts-of e in clean-if-open p.0 (open-before p.0 p.1);
         closed = refl;
@@ -203,7 +203,7 @@ module _ (form : Form) (old new : State) (P : Trees → Type 0) (survives : Surv
       pub fits-not-committed : Fits (undone form) false new
       fits-not-committed clean opened = let it = was-inside clean opened in agrees-back form true old new (undone-by clean it) opened it
 
-      pub fails : has_rows form ≡ true → Guards true old leaves → Fails (stands form true old leaves) (stands (undone form) false new (leaves ++ left_in (committed form) old ∷ []))
+      pub fails : has_rows form ≡ true → Guards true old leaves → Fails (store_state form true old leaves) (store_state (undone form) false new (leaves ++ left_in (committed form) old ∷ []))
       fails rows guards = record {
         clean = λ c. let p = parts-of c in clean-if-open p.0 (executed_open commit_text [] old new (Err e) (ran p.0) p.1);
         before = λ c. let p = parts-of c in ap (λ (db : Database). rows_in (undone form) db.trees) ((undone-by p.0 (was-inside p.0 p.1)).undone p.1).0;
@@ -231,7 +231,7 @@ module _ (form : Form) (old new : State) (P : Trees → Type 0) (survives : Surv
 module _ {C : Type 0} (state-of : C → State) (form : Form) (begun : Bool) (old new : C) (P : Trees → Type 0) (survives : Survives (state-of old) (state-of new) P) (fits : Fits form begun (state-of old))
     (does : HasCleanDisk (state-of new) → IsRolledBack (state-of old) (state-of new) ⊎ ((new ≡ old) × ((state-of old).in_transaction ≡ false))) (leaves : List (Remains Content)) where
   abbrev Back : C → Type 0
-  Back c = Agrees (undone form) false (state-of c) × (rows_in (undone form) (state-of c).now.trees ≡ (stands form begun (state-of old) leaves).before)
+  Back c = Agrees (undone form) false (state-of c) × (rows_in (undone form) (state-of c).now.trees ≡ (store_state form begun (state-of old) leaves).before)
 
   idle-back : (state-of old).in_transaction ≡ false → Agrees form begun (state-of old) → Back old
   idle-back none it =
@@ -254,7 +254,7 @@ module _ {C : Type 0} (state-of : C → State) (form : Form) (begun : Bool) (old
   pub fits-back : Fits (undone form) false (state-of new)
   fits-back clean opened = (turned clean opened).1.0
 
-  pub closes-back : Closes (stands form begun (state-of old) leaves).before (stands form begun (state-of old) leaves) (stands (undone form) false (state-of new) leaves)
+  pub closes-back : Closes (store_state form begun (state-of old) leaves).before (store_state form begun (state-of old) leaves) (store_state (undone form) false (state-of new) leaves)
   closes-back = record {
     clean = λ e. let p = parts-of form (state-of old) (state-of new) P survives leaves e in clean-if-open form (state-of old) (state-of new) P survives leaves p.0 (turned p.0 p.1).0;
     closed = refl;

@@ -12,9 +12,9 @@ use Rattle.sqlrows.specs.inner.Layouts.{appended, writes_tables, IsUpdate}
 use Rattle.sqlrows.proofs.CastLemmas.{cast_int, cast_null, cast_text, cast_maybe_int, cast_maybe_text}
 use Rattle.sqlrows.proofs.UpdateLemmas.{updates}
 use Rattle.sqltables.specs.Tables.{registry}
-use Rattle.sqltables.specs.inner.Tables.{meta_put, account_put, contact_put, contact_append, contact_remove_id, domain_put, domain_append, domain_remove_id, host_put, host_append, host_remove_id, address_put, address_append, address_remove_host, link_put, link_append, link_remove_domain, link_update_due, line_put, line_append, line_remove_id, message_put, message_append, message_remove_id, transfer_put, transfer_append, transfer_remove_contact, transfer_remove_domain, days_append}
-use Rattle.sqltables.specs.Meta.{Meta, meta_shown, metas}
-use Rattle.sqltables.specs.Account.{Account, account_shown, accounts}
+use Rattle.sqltables.specs.inner.Tables.{meta_put, meta_replace, account_put, account_replace, contact_put, contact_replace, contact_append, contact_remove_id, domain_put, domain_replace, domain_append, domain_remove_id, host_put, host_replace, host_append, host_remove_id, address_put, address_append, address_remove_host, link_put, link_append, link_remove_domain, link_update_due, line_put, line_append, line_remove_id, message_put, message_append, message_remove_id, transfer_put, transfer_append, transfer_remove_contact, transfer_remove_domain, days_append}
+use Rattle.sqltables.specs.Meta.{Meta, meta_shown, meta_with_id, metas}
+use Rattle.sqltables.specs.Account.{Account, account_shown, account_with_id, accounts}
 use Rattle.sqltables.specs.Contact.{Contact, contact_shown, contacts, contact_with_id}
 use Rattle.sqltables.specs.Domain.{Domain}
 use Rattle.sqltables.specs.inner.Domain.{domain_shown, domains, domain_with_id}
@@ -29,7 +29,7 @@ use Rattle.sqltables.specs.Day.{Day, day_shown, days}
 use Rattle.sqltables.specs.inner.Content.{metas_to, accounts_to, contacts_to, domains_to, hosts_to, addresses_to, links_to, lines_to, messages_to, transfers_to, days_to}
 use Rattle.sqltables.specs.inner.Hand.{IsApart}
 use Rattle.sqltables.specs.inner.Statements.{Alters}
-use Rattle.sqltables.proofs.StatementLemmas.{append_by, equals, put_by, remove_by}
+use Rattle.sqltables.proofs.StatementLemmas.{append_by, equals, put_by, remove_by, replace_by}
 use Rattle.sqltables.proofs.TableLemmas.{alters, meta_part, account_part, contact_part, domain_part, host_part, address_part, link_part, line_part, message_part, transfer_part, day_part}
 pub use Rattle.sqltables.proofs.TableLemmas.{alters-by, bound-last, bound-then}
 
@@ -39,17 +39,29 @@ pub put_meta : (x : Meta) → Alters metas.tree meta_put (meta_shown x) (metas_t
 unfolding understood everything
 put_meta = put_by meta_part meta_shown 16 (record { command = refl; plain = (refl, refl) }) (record { values = λ x. refl; place = λ x v. refl; updates = λ x v r. refl; unshared = λ new r. refl; headed = λ x. refl })
 
+pub replace_meta : (x : Meta) → Alters metas.tree meta_replace (meta_shown x) (metas_to (λ xs. update_where (meta_with_id x.id) (λ y. record x { id = y.id }) xs))
+unfolding understood everything
+replace_meta x = replace_by meta_part (meta_with_id x.id) (λ y. record x { id = y.id }) 16 (record { command = refl; plain = (refl, refl) }) (λ y. last_term (at_ints false Eq y.id x.id)) (record { row = λ y. refl; key = λ y. refl })
+
 -- ---- account
 
 pub put_account : (x : Account) → Alters accounts.tree account_put (account_shown x) (accounts_to (λ xs. insert_by accounts.key xs x))
 unfolding understood everything
 put_account = put_by account_part account_shown 7 (record { command = refl; plain = (refl, refl) }) (record { values = λ x. refl; place = λ x v. refl; updates = λ x v r. refl; unshared = λ new r. refl; headed = λ x. refl })
 
+pub replace_account : (x : Account) → Alters accounts.tree account_replace (account_shown x) (accounts_to (λ xs. update_where (account_with_id x.id) (λ y. record x { id = y.id }) xs))
+unfolding understood everything
+replace_account x = replace_by account_part (account_with_id x.id) (λ y. record x { id = y.id }) 7 (record { command = refl; plain = (refl, refl) }) (λ y. last_term (at_ints false Eq y.id x.id)) (record { row = λ y. refl; key = λ y. refl })
+
 -- ---- contact
 
 pub put_contact : (x : Contact) → Alters contacts.tree contact_put (contact_shown x) (contacts_to (λ xs. insert_by contacts.key xs x))
 unfolding understood everything
 put_contact = put_by contact_part contact_shown 19 (record { command = refl; plain = (refl, refl) }) (record { values = λ x. refl; place = λ x v. refl; updates = λ x v r. refl; unshared = λ new r. refl; headed = λ x. refl })
+
+pub replace_contact : (x : Contact) → Alters contacts.tree contact_replace (contact_shown x) (contacts_to (λ xs. update_where (contact_with_id x.id) (λ y. record x { id = y.id }) xs))
+unfolding understood everything
+replace_contact x = replace_by contact_part (contact_with_id x.id) (λ y. record x { id = y.id }) 19 (record { command = refl; plain = (refl, refl) }) (λ y. last_term (at_ints false Eq y.id x.id)) (record { row = λ y. refl; key = λ y. refl })
 
 pub append_contact : (x : Contact) → Alters contacts.tree contact_append (drop 1 (contact_shown x)) (contacts_to (λ xs. appended contacts (λ id. record x { id = id }) xs))
 unfolding understood everything
@@ -65,6 +77,10 @@ pub put_domain : (x : Domain) → Alters domains.tree domain_put (domain_shown x
 unfolding understood everything
 put_domain = put_by domain_part domain_shown 14 (record { command = refl; plain = (refl, refl) }) (record { values = λ x. refl; place = λ x v. refl; updates = λ x v r. refl; unshared = λ new r. refl; headed = λ x. refl })
 
+pub replace_domain : (x : Domain) → Alters domains.tree domain_replace (domain_shown x) (domains_to (λ xs. update_where (domain_with_id x.id) (λ y. record x { id = y.id }) xs))
+unfolding understood everything
+replace_domain x = replace_by domain_part (domain_with_id x.id) (λ y. record x { id = y.id }) 14 (record { command = refl; plain = (refl, refl) }) (λ y. last_term (at_ints false Eq y.id x.id)) (record { row = λ y. refl; key = λ y. refl })
+
 pub append_domain : (x : Domain) → Alters domains.tree domain_append (drop 1 (domain_shown x)) (domains_to (λ xs. appended domains (λ id. record x { id = id }) xs))
 unfolding understood everything
 append_domain = append_by domain_part domain_shown (λ x id. record x { id = id }) 14 (record { command = refl; plain = (refl, refl) }) (record { values = λ x. refl; casts = λ x. simp (cast_int, cast_null, cast_text, cast_maybe_int, cast_maybe_text); row = λ x id. refl })
@@ -78,6 +94,10 @@ remove_domains_by_id v = remove_by domain_part (domain_with_id v) (equals 0 0 �
 pub put_host : (x : Host) → Alters hosts.tree host_put (host_shown x) (hosts_to (λ xs. insert_by hosts.key xs x))
 unfolding understood everything
 put_host = put_by host_part host_shown 9 (record { command = refl; plain = (refl, refl) }) (record { values = λ x. refl; place = λ x v. refl; updates = λ x v r. refl; unshared = λ new r. refl; headed = λ x. refl })
+
+pub replace_host : (x : Host) → Alters hosts.tree host_replace (host_shown x) (hosts_to (λ xs. update_where (host_with_id x.id) (λ y. record x { id = y.id }) xs))
+unfolding understood everything
+replace_host x = replace_by host_part (host_with_id x.id) (λ y. record x { id = y.id }) 9 (record { command = refl; plain = (refl, refl) }) (λ y. last_term (at_ints false Eq y.id x.id)) (record { row = λ y. refl; key = λ y. refl })
 
 pub append_host : (x : Host) → Alters hosts.tree host_append (drop 1 (host_shown x)) (hosts_to (λ xs. appended hosts (λ id. record x { id = id }) xs))
 unfolding understood everything

@@ -1,5 +1,6 @@
 -- What holds of the whole registry, in one row, and how they lie in their table.
-use Rattle.std.specs.Prelude.{ℕ, ℤ, List, [], ◌∷◌, refl}
+use Rattle.std.specs.Prelude.{ℕ, ℤ, Bool, List, [], ◌∷◌, refl}
+use Rattle.std.specs.Ordering.{int_eq}
 use Rattle.sqlite_value.specs.declared.value.Value.TheVariants.{Int, Null, Text}
 use Rattle.sqlite_value.specs.Order.{Row}
 use Rattle.sqlrows.specs.Layouts.{Layout}
@@ -33,3 +34,6 @@ meta_shown x = Int x.id ∷ Int x.version ∷ Int x.clock ∷ Text x.zone ∷ Te
 
 abbrev pub metas : Layout Meta
 metas = record { tree = 0; key = λ x. x.id; to_row = meta_row; keyed = λ x. refl }
+
+abbrev pub meta_with_id : ℤ → Meta → Bool
+meta_with_id v x = int_eq x.id v

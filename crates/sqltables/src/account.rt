@@ -1,9 +1,10 @@
 //! Registrars' accounts.
 ghost use Rattle.std.specs.Prelude.{◌≡◌, true, false, filter, IfOk};
 ghost use Rattle.sqlite_keyed.specs.Keyed.{insert_by};
+ghost use Rattle.sqlite_keyed.specs.Lists.{update_where};
 ghost use Rattle.sqltables.specs.inner.Content.{accounts_to};
 ghost use Rattle.states.specs.States.{Finds, Makes};
-ghost use Rattle.sqltables.specs.inner.Hand.{IsAtHand, seen_with};
+ghost use Rattle.sqltables.specs.inner.Hand.{IsAtHand, IsThere, seen_with};
 ghost use Rattle.sqltables.specs.Account.{Account, accounts, account_with_id};
 
 use crate::base::Base;
@@ -28,6 +29,9 @@ const BY_ID: &str =
 
 const PUT: &str =
     "INSERT INTO account (id, ident, commands, messages, serial, waiting, balance, held) VALUES (?1, ?2, ?3, ?4, ?5, ?6, ?7, ?8) ON CONFLICT (id) DO UPDATE SET ident = excluded.ident, commands = excluded.commands, messages = excluded.messages, serial = excluded.serial, waiting = excluded.waiting, balance = excluded.balance, held = excluded.held";
+
+const REPLACE: &str =
+    "UPDATE account SET ident = ?2, commands = ?3, messages = ?4, serial = ?5, waiting = ?6, balance = ?7, held = ?8 WHERE id = ?1";
 
 /// A row of the table `account`.
 #[derive(Drop)]
@@ -167,6 +171,15 @@ impl<S: Alter> Base<S> {
     {
         self.write(TREE, PUT, &account.params())
     }
+
+    /// Puts a row in the place of the one with its number. If there is none, nothing is changed.
+    fn replace_account(&mut self, account: &AccountRow) -> Result<(), BookFault>
+        requires { self.old.is_open ≡ true }
+        ensures { Makes result (accounts_to (update_where (account_with_id account.now.id)
+            (λ x. record account.now { id = x.id })) self.old.content) self.old self.new }
+    {
+        self.write(TREE, REPLACE, &account.params())
+    }
 }
 
 impl<S: Alter> RowStore<S> {
@@ -195,6 +208,18 @@ impl<S: Alter> RowStore<S> {
     }
 }
 
+/// Puts an account's row in the place of the one with its number, which is there.
+pub(crate) fn put_over<S: Alter>(base: &mut Base<S>, account: &AccountRow) -> Result<(), BookFault>
+    requires open { base.old.is_open ≡ true }
+    requires there { base.old.is_clean ≡ true
+        → IsThere true account.now base.old.content.accounts }
+    ensures { Makes result (accounts_to (λ xs. insert_by accounts.key xs account.now)
+        base.old.content) base.old base.new }
+{
+    base.show_whole();
+    base.replace_account(account)
+}
+
 /// The accounts with this number.
 fn look_up<S: Alter>(
     base: &mut Base<S>,
@@ -207,7 +232,7 @@ fn look_up<S: Alter>(
         (filter (account_with_id id) (seen_with hand.old base.old).content.accounts)
         (seen_with hand.old base.old) (seen_with hand.new base.new) }
 {
-    base.whole();
+    base.show_whole();
     if hand.has_number(id) {
         return Ok(hand.accounts(base.alloc())?);
     }

@@ -35,11 +35,11 @@ impl<S: Alter> Model for Base<S> {
     ghost use Rattle.sqltables.specs.inner.Answers.{Recalls};
     ghost use Rattle.sqltables.specs.Content.{Content};
     ghost use Rattle.states.specs.States.{StateOf};
-    ghost use Rattle.sqltables.specs.inner.Stored.{Fits, Guards, leaves_of, stands};
+    ghost use Rattle.sqltables.specs.inner.Stored.{Fits, Guards, leaves_of, store_state};
 
     ghost Value = { StateOf Content };
 
-    ghost view = { λ r. stands r.form r.begun (state S.Store r.conn) (leaves_of (state S.Store) r.left.items) };
+    ghost view = { λ r. store_state r.form r.begun (state S.Store r.conn) (leaves_of (state S.Store) r.left.items) };
 
     ghost invariant = { λ r. Fits r.form r.begun (state S.Store r.conn) × Guards r.begun (state S.Store r.conn) (leaves_of (state S.Store) r.left.items) × Recalls (state S.Store r.conn) r.answers };
 }
@@ -289,28 +289,28 @@ impl<S: Alter> Base<S> {
     }
 
     /// Does nothing. It tells a proof what always holds of the rows.
-    pub(crate) fn whole(&self)
+    pub(crate) fn show_whole(&self)
         ensures { self.now.is_clean ≡ true → IsWhole self.now.content }
     {
         let _schema = self.conn.schema();
     }
 
     /// Does nothing. It tells a proof that where no transaction is open going back leads nowhere else.
-    pub(crate) fn rests(&self)
+    pub(crate) fn show_rest(&self)
         ensures { IsIdle self.now }
     {
         let _begun = self.begun;
     }
 
     /// Does nothing. It tells a proof that what answers told nothing wrong.
-    pub(crate) fn told_truth(&self)
+    pub(crate) fn show_honest(&self)
         ensures { self.now.is_clean ≡ true → self.now.is_honest ≡ true }
     {
         let _begun = self.begun;
     }
 
     /// Does nothing. It tells a proof that within a transaction what told nothing wrong answers.
-    pub(crate) fn answers(&self)
+    pub(crate) fn show_answers(&self)
         ensures { self.now.is_open ≡ true → self.now.is_honest ≡ true → self.now.is_clean ≡ true }
     {
         let _begun = self.begun;
@@ -479,7 +479,7 @@ impl Base<MemStore> {
     }
 
     /// Does nothing. It tells a proof that nothing wrong is ever taken from memory.
-    pub(crate) fn stays_clean(&self)
+    pub(crate) fn show_clean(&self)
         ensures { self.now.is_clean ≡ true }
     {
         let _begun = self.begun;

@@ -1,7 +1,7 @@
 //! Contacts.
 ghost use Rattle.std.specs.Prelude.{◌≡◌, true, filter, take, IfOk};
 ghost use Rattle.sqlite_keyed.specs.Keyed.{insert_by};
-ghost use Rattle.sqlite_keyed.specs.Lists.{delete_where};
+ghost use Rattle.sqlite_keyed.specs.Lists.{delete_where, update_where};
 ghost use Rattle.sqltables.specs.inner.Content.{contacts_to};
 ghost use Rattle.states.specs.States.{Finds, Makes};
 ghost use Rattle.sqlrows.specs.inner.Layouts.{appended};
@@ -35,6 +35,9 @@ const BY_SPONSOR_UNTIL_DUE: &str =
 
 const PUT: &str =
     "INSERT INTO contact (id, name, creator, serial, sponsor, created, transferred, updated, statuses, secret, postal_name, org, street, city, state, postal_code, country, voice, due, mail) VALUES (?1, ?2, ?3, ?4, ?5, ?6, ?7, ?8, ?9, ?10, ?11, ?12, ?13, ?14, ?15, ?16, ?17, ?18, ?19, ?20) ON CONFLICT (id) DO UPDATE SET name = excluded.name, creator = excluded.creator, serial = excluded.serial, sponsor = excluded.sponsor, created = excluded.created, transferred = excluded.transferred, updated = excluded.updated, statuses = excluded.statuses, secret = excluded.secret, postal_name = excluded.postal_name, org = excluded.org, street = excluded.street, city = excluded.city, state = excluded.state, postal_code = excluded.postal_code, country = excluded.country, voice = excluded.voice, due = excluded.due, mail = excluded.mail";
+
+const REPLACE: &str =
+    "UPDATE contact SET name = ?2, creator = ?3, serial = ?4, sponsor = ?5, created = ?6, transferred = ?7, updated = ?8, statuses = ?9, secret = ?10, postal_name = ?11, org = ?12, street = ?13, city = ?14, state = ?15, postal_code = ?16, country = ?17, voice = ?18, due = ?19, mail = ?20 WHERE id = ?1";
 
 const APPEND: &str =
     "INSERT INTO contact (name, creator, serial, sponsor, created, transferred, updated, statuses, secret, postal_name, org, street, city, state, postal_code, country, voice, due, mail) VALUES (?1, ?2, ?3, ?4, ?5, ?6, ?7, ?8, ?9, ?10, ?11, ?12, ?13, ?14, ?15, ?16, ?17, ?18, ?19)";
@@ -239,6 +242,16 @@ impl<S: Alter> RowStore<S> {
             self.old.content) self.old self.new }
     {
         self.write(TREE, PUT, &contact.params())
+    }
+
+    /// Puts a row in the place of the one with its number. If there is none, nothing is changed. An index
+    /// whose columns stay is left alone, which an upsert doesn't do.
+    pub fn replace_contact(&mut self, contact: &ContactRow) -> Result<(), BookFault>
+        requires { self.old.is_open ≡ true }
+        ensures { Makes result (contacts_to (update_where (contact_with_id contact.now.id)
+            (λ x. record contact.now { id = x.id })) self.old.content) self.old self.new }
+    {
+        self.write(TREE, REPLACE, &contact.params())
     }
 
     /// Adds a row at the end, with the number after the last one. The given row's number isn't looked at.

@@ -1,7 +1,7 @@
 //! Domains.
 ghost use Rattle.std.specs.Prelude.{◌≡◌, true, filter, take};
 ghost use Rattle.sqlite_keyed.specs.Keyed.{insert_by};
-ghost use Rattle.sqlite_keyed.specs.Lists.{delete_where};
+ghost use Rattle.sqlite_keyed.specs.Lists.{delete_where, update_where};
 ghost use Rattle.sqltables.specs.inner.Content.{domains_to};
 ghost use Rattle.states.specs.States.{Finds, Makes};
 ghost use Rattle.sqlrows.specs.inner.Layouts.{appended};
@@ -48,6 +48,9 @@ const BY_ROID: &str =
 
 const PUT: &str =
     "INSERT INTO domain (id, name, creator, serial, sponsor, created, years, transferred, updated, statuses, secret, registrant, deleted, restore_requested, due) VALUES (?1, ?2, ?3, ?4, ?5, ?6, ?7, ?8, ?9, ?10, ?11, ?12, ?13, ?14, ?15) ON CONFLICT (id) DO UPDATE SET name = excluded.name, creator = excluded.creator, serial = excluded.serial, sponsor = excluded.sponsor, created = excluded.created, years = excluded.years, transferred = excluded.transferred, updated = excluded.updated, statuses = excluded.statuses, secret = excluded.secret, registrant = excluded.registrant, deleted = excluded.deleted, restore_requested = excluded.restore_requested, due = excluded.due";
+
+const REPLACE: &str =
+    "UPDATE domain SET name = ?2, creator = ?3, serial = ?4, sponsor = ?5, created = ?6, years = ?7, transferred = ?8, updated = ?9, statuses = ?10, secret = ?11, registrant = ?12, deleted = ?13, restore_requested = ?14, due = ?15 WHERE id = ?1";
 
 const APPEND: &str =
     "INSERT INTO domain (name, creator, serial, sponsor, created, years, transferred, updated, statuses, secret, registrant, deleted, restore_requested, due) VALUES (?1, ?2, ?3, ?4, ?5, ?6, ?7, ?8, ?9, ?10, ?11, ?12, ?13, ?14)";
@@ -228,6 +231,16 @@ impl<S: Alter> RowStore<S> {
             self.old.content) self.old self.new }
     {
         self.write(TREE, PUT, &domain.params())
+    }
+
+    /// Puts a row in the place of the one with its number. If there is none, nothing is changed. An index
+    /// whose columns stay is left alone, which an upsert doesn't do.
+    pub fn replace_domain(&mut self, domain: &DomainRow) -> Result<(), BookFault>
+        requires { self.old.is_open ≡ true }
+        ensures { Makes result (domains_to (update_where (domain_with_id domain.now.id)
+            (λ x. record domain.now { id = x.id })) self.old.content) self.old self.new }
+    {
+        self.write(TREE, REPLACE, &domain.params())
     }
 
     /// Adds a row at the end, with the number after the last one. The given row's number isn't looked at.

@@ -1,7 +1,7 @@
 //! Hosts.
 ghost use Rattle.std.specs.Prelude.{◌≡◌, true, filter};
 ghost use Rattle.sqlite_keyed.specs.Keyed.{insert_by};
-ghost use Rattle.sqlite_keyed.specs.Lists.{delete_where};
+ghost use Rattle.sqlite_keyed.specs.Lists.{delete_where, update_where};
 ghost use Rattle.sqltables.specs.inner.Content.{hosts_to};
 ghost use Rattle.states.specs.States.{Finds, Makes};
 ghost use Rattle.sqlrows.specs.inner.Layouts.{appended};
@@ -32,6 +32,9 @@ const BY_ABOVE: &str =
 
 const PUT: &str =
     "INSERT INTO host (id, name, creator, serial, above, external_sponsor, sponsor, created, updated, statuses) VALUES (?1, ?2, ?3, ?4, ?5, ?6, ?7, ?8, ?9, ?10) ON CONFLICT (id) DO UPDATE SET name = excluded.name, creator = excluded.creator, serial = excluded.serial, above = excluded.above, external_sponsor = excluded.external_sponsor, sponsor = excluded.sponsor, created = excluded.created, updated = excluded.updated, statuses = excluded.statuses";
+
+const REPLACE: &str =
+    "UPDATE host SET name = ?2, creator = ?3, serial = ?4, above = ?5, external_sponsor = ?6, sponsor = ?7, created = ?8, updated = ?9, statuses = ?10 WHERE id = ?1";
 
 const APPEND: &str =
     "INSERT INTO host (name, creator, serial, above, external_sponsor, sponsor, created, updated, statuses) VALUES (?1, ?2, ?3, ?4, ?5, ?6, ?7, ?8, ?9)";
@@ -141,6 +144,16 @@ impl<S: Alter> RowStore<S> {
             self.old self.new }
     {
         self.write(TREE, PUT, &host.params())
+    }
+
+    /// Puts a row in the place of the one with its number. If there is none, nothing is changed. An index
+    /// whose columns stay is left alone, which an upsert doesn't do.
+    pub fn replace_host(&mut self, host: &HostRow) -> Result<(), BookFault>
+        requires { self.old.is_open ≡ true }
+        ensures { Makes result (hosts_to (update_where (host_with_id host.now.id)
+            (λ x. record host.now { id = x.id })) self.old.content) self.old self.new }
+    {
+        self.write(TREE, REPLACE, &host.params())
     }
 
     /// Adds a row at the end, with the number after the last one. The given row's number isn't looked at.

@@ -21,9 +21,6 @@ const TREE: u64 = 10;
 const BY_DOMAIN: &str =
     "SELECT id, domain, contact, host, role, due FROM link WHERE domain = ?1 ORDER BY id";
 
-const BY_HOST: &str =
-    "SELECT id, domain, contact, host, role, due FROM link WHERE host = ?1 ORDER BY id";
-
 const FIRST_BY_CONTACT: &str =
     "SELECT id, domain, contact, host, role, due FROM link WHERE contact = ?1 ORDER BY id LIMIT 1";
 
@@ -105,14 +102,6 @@ impl<S: Alter> RowStore<S> {
             self.new }
     {
         self.select(TREE, BY_DOMAIN, params![domain])
-    }
-
-    /// Those whose `host` is this.
-    pub fn links_by_host(&mut self, host: Number) -> Result<Seq<LinkRow>, BookFault>
-        ensures { Finds result (filter (link_with_host host) self.old.content.links) self.old
-            self.new }
-    {
-        self.select(TREE, BY_HOST, params![host])
     }
 
     /// The first of those whose `contact` is this, by number, if there is any.

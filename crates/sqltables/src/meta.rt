@@ -1,10 +1,11 @@
 //! What holds of the whole registry, in one row.
 ghost use Rattle.std.specs.Prelude.{◌≡◌, true, IfOk};
 ghost use Rattle.sqlite_keyed.specs.Keyed.{insert_by};
+ghost use Rattle.sqlite_keyed.specs.Lists.{update_where};
 ghost use Rattle.sqltables.specs.inner.Content.{metas_to};
 ghost use Rattle.states.specs.States.{Finds, Makes};
 ghost use Rattle.sqltables.specs.inner.Hand.{IsAtHand, seen_with};
-ghost use Rattle.sqltables.specs.Meta.{Meta, metas};
+ghost use Rattle.sqltables.specs.Meta.{Meta, meta_with_id, metas};
 
 use crate::base::Base;
 use crate::hand::Hand;
@@ -25,6 +26,9 @@ const ALL: &str =
 
 const PUT: &str =
     "INSERT INTO meta (id, version, clock, zone, reserved, days_add, days_auto_renew, days_renew, days_transfer, days_redemption, days_restore, days_pending_delete, days_answer, days_lock, price_create, price_renew, price_transfer) VALUES (?1, ?2, ?3, ?4, ?5, ?6, ?7, ?8, ?9, ?10, ?11, ?12, ?13, ?14, ?15, ?16, ?17) ON CONFLICT (id) DO UPDATE SET version = excluded.version, clock = excluded.clock, zone = excluded.zone, reserved = excluded.reserved, days_add = excluded.days_add, days_auto_renew = excluded.days_auto_renew, days_renew = excluded.days_renew, days_transfer = excluded.days_transfer, days_redemption = excluded.days_redemption, days_restore = excluded.days_restore, days_pending_delete = excluded.days_pending_delete, days_answer = excluded.days_answer, days_lock = excluded.days_lock, price_create = excluded.price_create, price_renew = excluded.price_renew, price_transfer = excluded.price_transfer";
+
+const REPLACE: &str =
+    "UPDATE meta SET version = ?2, clock = ?3, zone = ?4, reserved = ?5, days_add = ?6, days_auto_renew = ?7, days_renew = ?8, days_transfer = ?9, days_redemption = ?10, days_restore = ?11, days_pending_delete = ?12, days_answer = ?13, days_lock = ?14, price_create = ?15, price_renew = ?16, price_transfer = ?17 WHERE id = ?1";
 
 /// A row of the table `meta`.
 #[derive(Drop)]
@@ -149,6 +153,15 @@ impl<S: Alter> Base<S> {
     {
         self.write(TREE, PUT, &meta.params())
     }
+
+    /// Puts a row in the place of the one with its number. If there is none, nothing is changed.
+    fn replace_meta(&mut self, meta: &MetaRow) -> Result<(), BookFault>
+        requires { self.old.is_open ≡ true }
+        ensures { Makes result (metas_to (update_where (meta_with_id meta.now.id)
+            (λ x. record meta.now { id = x.id })) self.old.content) self.old self.new }
+    {
+        self.write(TREE, REPLACE, &meta.params())
+    }
 }
 
 impl<S: Alter> RowStore<S> {
@@ -195,8 +208,22 @@ fn put<S: Alter>(base: &mut Base<S>, hand: &mut Hand, meta: &MetaRow) -> Result<
         (seen_with hand.new base.new) }
 {
     let is_only = hand.has_meta(meta);
-    let made = base.put_meta(meta);
+    let made = write(base, hand, meta);
     hand.or_forget(made)?;
     hand.renew_meta(is_only, meta, base.alloc());
     Ok(())
+}
+
+/// Writes a row of `meta` over the one that is at hand, or else wherever it belongs.
+fn write<S: Alter>(base: &mut Base<S>, hand: &Hand, meta: &MetaRow) -> Result<(), BookFault>
+    requires kept { IsAtHand hand.now base.old }
+    requires open { base.old.is_open ≡ true }
+    ensures { Makes result (metas_to (λ xs. insert_by metas.key xs meta.now) base.old.content)
+        base.old base.new }
+{
+    if hand.has_meta(meta) {
+        base.show_whole();
+        return base.replace_meta(meta);
+    }
+    base.put_meta(meta)
 }

@@ -2,6 +2,7 @@
 ghost use Rattle.std.specs.Prelude.{◌≡◌, ◌≢◌, true, false, IfErr, IfOk, OnOk};
 ghost use Rattle.sqltables.specs.inner.Hand.{IsAtHand, Leaves, seen_with};
 
+use crate::account::put_over;
 use crate::adoption::Unadopted;
 use crate::base::Base;
 use crate::hand::Hand;
@@ -52,7 +53,7 @@ pub(crate) fn settle<S: Alter>(base: &mut Base<S>, hand: &mut Hand) -> Result<()
         hand.owed = false;
         return Ok(());
     };
-    let made = base.put_account(row);
+    let made = put_over(base, row);
     hand.owed = false;
     hand.or_forget(made)
 }
@@ -131,7 +132,7 @@ impl<S: Alter> RowStore<S> {
     {
         let kept = Log::new().and(&self.base, &self.hand);
         let tried = self.left.and(&self.base, &self.hand);
-        self.base.answers();
+        self.base.show_answers();
         settle(&mut self.base, &mut self.hand)?;
         let ended = self.base.commit();
         self.hand = Hand::empty();
@@ -170,24 +171,24 @@ impl<S: Alter> RowStore<S> {
     }
 
     /// Does nothing. It tells a proof what always holds of the rows.
-    pub fn whole(&self)
+    pub fn show_whole(&self)
         ensures { self.now.is_clean ≡ true → IsWhole self.now.content }
     {
-        self.base.whole();
+        self.base.show_whole();
     }
 
     /// Does nothing. It tells a proof that where no transaction is open going back leads nowhere else.
-    pub fn rests(&self)
+    pub fn show_rest(&self)
         ensures { IsIdle self.now }
     {
-        self.base.rests();
+        self.base.show_rest();
     }
 
     /// Does nothing. It tells a proof that what answers told nothing wrong.
-    pub fn told_truth(&self)
+    pub fn show_honest(&self)
         ensures { self.now.is_clean ≡ true → self.now.is_honest ≡ true }
     {
-        self.base.told_truth();
+        self.base.show_honest();
     }
 
     /// Gives the connection back, as it is. Whatever a crash may leave of its database is one of what was
@@ -265,9 +266,9 @@ impl RowStore<MemStore> {
     }
 
     /// Does nothing. It tells a proof that nothing wrong is ever taken from memory.
-    pub fn stays_clean(&self)
+    pub fn show_clean(&self)
         ensures { self.now.is_clean ≡ true }
     {
-        self.base.stays_clean();
+        self.base.show_clean();
     }
 }

@@ -43,14 +43,14 @@ abbrev pub with_to : Option ℕ → Bounds → Option Bounds
 with_to None b = None
 with_to (Some moment) b = if is_some b.to then None else Some (record b { to = Some moment })
 
-abbrev pub told : Option (List ℕ) → Option (List ℕ) → Bounds → Option Bounds
-told (Some from) to b = with_from (moment_in from) b
-told None (Some to) b = with_to (moment_in to) b
-told None None b = None
+abbrev pub with_bound : Option (List ℕ) → Option (List ℕ) → Bounds → Option Bounds
+with_bound (Some from) to b = with_from (moment_in from) b
+with_bound None (Some to) b = with_to (moment_in to) b
+with_bound None None b = None
 
 -- a parameter gives a bound
 abbrev pub with_parameter : List ℕ → Bounds → Option Bounds
-with_parameter text b = told (after (codes "from=") text) (after (codes "to=") text) b
+with_parameter text b = with_bound (after (codes "from=") text) (after (codes "to=") text) b
 
 abbrev pub with_second : Option (List ℕ) → Bounds → Option Bounds
 with_second None b = Some b

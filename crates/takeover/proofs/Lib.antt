@@ -1,1 +1,2 @@
 pub mod MigratingLemmas
+pub mod FileLemmas

@@ -28,13 +28,14 @@ use Rattle.sqltables.specs.Readiness.{may_be_numbered}
 use Rattle.sqltables.specs.Transfer.{transfers}
 use Rattle.states.specs.declared.fault.BookFault.{BookFault}
 use Rattle.states.specs.declared.fault.BookFault.TheVariants as faults
-use Rattle.states.specs.States.{Closes, Fails, Has, Keeps, LeavesSame, Reads, Remains, Starts, StateOf, Stays}
+use Rattle.states.specs.declared.readiness.Ready.TheVariants.{Used}
+use Rattle.states.specs.States.{Closes, Fails, Has, Keeps, LeavesSame, Reads, Remains, Starts, StateOf, Stays, holding}
 use Rattle.states.proofs.LeavingLemmas.{leaves-on}
 use Rattle.oldrows.specs.inner.Copies.{Copies, IsCopied, IsLeft, put_of_all}
 use Rattle.oldrows.specs.Copies.{renumbered}
 use Rattle.oldrows.specs.inner.Stored.{IsOldContent}
-use Rattle.oldrows.specs.Stored.{IsRead, OldState}
-use Rattle.oldrows.proofs.CopyLemmas.{put-keyed, read-on}
+use Rattle.oldrows.specs.Stored.{IsAsked, IsRead, OldState}
+use Rattle.oldrows.proofs.CopyLemmas.{asked-on, put-keyed, read-on}
 use Rattle.sqlaccounts.specs.Accounts.{account_in, accounts_of, balance_in, entries_of, has_right_sums, is_right, lines_of, queue_of, row_of, sums_are_right}
 use Rattle.sqldomains.specs.Domains.{domains_of}
 use Rattle.sqlderived.specs.Dues.{dues_are_right}
@@ -47,8 +48,8 @@ use Rattle.takeover.specs.declared.migrating.MigrateFault.{MigrateFault}
 use Rattle.takeover.specs.declared.migrating.MigrateFault.TheVariants.{Policy, Schema, Memory, Store}
 use Rattle.takeover.specs.Graces.{with_grace_end}
 use Rattle.sqlbook.specs.Meaning.{are_right, stored_of}
-use Rattle.takeover.specs.inner.Migrating.{AreAsked, EndsAs, IsRefused, IsTakenOver, TakesOver, heads, others, put_lines, taken}
-use Rattle.takeover.specs.Migrating.{IsMigrated, IsTried, IsUnsuited, Migrates, ended, fault_of, numbered_anew, redated, suits, suits_in}
+use Rattle.takeover.specs.inner.Migrating.{AreAsked, EndsAs, IsRefused, IsTakenOver, IsUnkept, TakesOver, heads, others, put_lines, taken}
+use Rattle.takeover.specs.Migrating.{AreThere, IsAll, IsElse, IsMigrated, IsTried, IsUnsuited, MayBeTaken, Migrates, ended, fault_of, numbered_anew, redated, suits, suits_in}
 use Rattle.sqlbook.specs.AsBook.{HasMade}
 
 -- ---- the number of the schema says nothing of the registry
@@ -157,21 +158,21 @@ module _ (xs : Content) (is : IsOldContent xs) where
 copied-then : (one two : Content → Content → Content) (from read more : OldState) (to mid wrote : StateOf Content)
     → IsCopied one from read to mid → IsCopied two read more mid wrote → IsCopied (λ c d. two c (one c d)) from more to wrote
 copied-then one two from read more to mid wrote a b = record {
-  reads = read-on from read more a.reads b.reads;
+  asked = asked-on from read more a.asked b.asked;
   clean = λ e. a.clean (b.clean e);
   before = λ e. b.before e ∙ a.before (b.clean e);
   opened = b.opened;
   leaves = leaves-on to mid wrote a.leaves b.leaves;
   content = λ c e.
-      let r = b.reads.clean c in
-      b.content c e ∙ (λ i. two (a.reads.content r i) (a.content r (b.clean e) i));
+      let r = b.asked.reads.clean c in
+      b.content c e ∙ (λ i. two (a.asked.reads.content r i) (a.content r (b.clean e) i));
 }
 
 -- after a copy that failed behind one that didn't
 left-then : (one : Content → Content → Content) (from read more : OldState) (to mid wrote : StateOf Content)
     → IsCopied one from read to mid → IsLeft read more mid wrote → IsLeft from more to wrote
 left-then one from read more to mid wrote a b = record {
-  source = read-on from read more a.reads b.source;
+  source = read-on from read more a.asked.reads b.source;
   target = record { clean = λ e. a.clean (b.target.clean e); before = λ e. b.target.before e ∙ a.before (b.target.clean e); leaves = leaves-on to mid wrote a.leaves b.target.leaves };
 }
 
@@ -183,14 +184,14 @@ copied-after (Err fault) one two from read more to mid wrote a b = left-then one
 -- a call on the new rows that failed behind a copy
 pub left-looked : (put : Content → Content → Content) (from read : OldState) (to written looked : StateOf Content) → IsCopied put from read to written → Stays written looked → IsLeft from read to looked
 left-looked put from read to written looked copied stays = record {
-  source = copied.reads;
+  source = copied.asked.reads;
   target = record { clean = λ e. copied.clean (stays.clean e); before = λ e. stays.before e ∙ copied.before (stays.clean e); leaves = leaves-on to written looked copied.leaves stays.leaves };
 }
 
 -- a copy that failed behind a copy and a question
 pub left-rest : (put : Content → Content → Content) (from read more : OldState) (to written looked wrote : StateOf Content) → IsCopied put from read to written → Reads written looked → IsLeft read more looked wrote → IsLeft from more to wrote
 left-rest put from read more to written looked wrote copied looks left = record {
-  source = read-on from read more copied.reads left.source;
+  source = read-on from read more copied.asked.reads left.source;
   target = record {
     clean = λ e. copied.clean (looks.clean (left.target.clean e));
     before = λ e. let w = left.target.clean e in left.target.before e ∙ looks.before w ∙ copied.before (looks.clean w);
@@ -205,11 +206,11 @@ module _ (p : PolicyRules) (from read : OldState) (to written looked : StateOf C
       let w = found.0.clean e in
       found.1 e
       ∙ ap (λ (c : Content). suits p (stored_of c)) (copied.content c w ∙ ap (put_of_all heads from.content) (blank (copied.clean w)))
-      ∙ suits-heads from.content (old (copied.reads.clean c)) p
+      ∙ suits-heads from.content (old (copied.asked.reads.clean c)) p
 
   pub refused : said ≡ false → IsRefused p from read to looked
   refused unsaid = record {
-    reads = copied.reads;
+    asked = copied.asked;
     clean = λ e. copied.clean (found.0.clean e);
     before = λ e. found.0.before e ∙ copied.before (found.0.clean e);
     leaves = leaves-on to written looked copied.leaves found.0.leaves;
@@ -219,12 +220,12 @@ module _ (p : PolicyRules) (from read : OldState) (to written looked : StateOf C
   pub taken-over : (more : OldState) (wrote dated : StateOf Content) → said ≡ true → IsCopied (λ c d. put_lines p.days c (put_of_all others c d)) read more looked wrote
       → HasMade stored_of are_right (redated p (stored_of wrote.content)) wrote dated → (dated.is_clean ≡ true → dated.content.lines ≡ wrote.content.lines) → IsTakenOver p from more to dated
   taken-over more wrote dated so rest days kept = record {
-    reads = read-on from read more copied.reads rest.reads;
+    asked = asked-on from read more copied.asked rest.asked;
     clean = λ e. copied.clean (found.0.clean (rest.clean (days.clean e)));
     before = λ e. let w = rest.clean (days.clean e) in days.before e ∙ rest.before (days.clean e) ∙ found.0.before w ∙ copied.before (found.0.clean w);
     opened = days.opened;
     leaves = leaves-on to wrote dated (leaves-on to looked wrote (leaves-on to written looked copied.leaves found.0.leaves) rest.leaves) days.leaves;
-    fits = λ c e. sym (suits-there (rest.reads.clean c) (rest.clean (days.clean e))) ∙ so;
+    fits = λ c e. sym (suits-there (rest.asked.reads.clean c) (rest.clean (days.clean e))) ∙ so;
     stored = λ c e. days.content e ∙ ap (λ (xs : Content). redated p (stored_of xs)) (whole c (days.clean e)) ∙ ap (redated p) (stored-taken p.days from.content);
     sums = λ c e. days.sums e ∙ ap are_right (whole c (days.clean e)) ∙ right-taken p.days from.content;
     lines_are = λ c e. kept e ∙ ap (λ (xs : Content). xs.lines) (whole c (days.clean e));
@@ -234,31 +235,92 @@ module _ (p : PolicyRules) (from read : OldState) (to written looked : StateOf C
       whole c e =
           let l = rest.clean e in
           let w = found.0.clean l in
-          let r = rest.reads.clean c in
-          let is = old (copied.reads.clean r) in
+          let r = rest.asked.reads.clean c in
+          let is = old (copied.asked.reads.clean r) in
           rest.content c e
-          ∙ (λ i. put_lines p.days (copied.reads.content r i) (put_of_all others (copied.reads.content r i) ((found.0.content l ∙ copied.content r w ∙ ap (put_of_all heads from.content) (blank (copied.clean w))) i)))
+          ∙ (λ i. put_lines p.days (copied.asked.reads.content r i) (put_of_all others (copied.asked.reads.content r i) ((found.0.content l ∙ copied.content r w ∙ ap (put_of_all heads from.content) (blank (copied.clean w))) i)))
           ∙ put-all from.content is p.days
 
 -- ---- the whole
 
--- nothing was begun, or all was undone
-pub tried-nothing : (p : PolicyRules) (from read : OldState) (to written : StateOf Content) → IsRead from read → (written.is_clean ≡ true → to.is_clean ≡ true) → LeavesSame to written → IsTried p from read to written
-tried-nothing p from read to written reads clean leaves = record {
-  reads = reads;
-  clean = clean;
-  leaves = λ c e left h. inl (subst (λ (l : List (Remains Content)). Has l left) leaves.same h);
+-- a commit that failed, and what was begun undone
+pub unkept : (old failed new : StateOf Content) → Fails old failed → Closes failed.before failed new → IsUnkept old new
+unkept old failed new fails back = record {
+  clean = λ e. fails.clean (back.clean e);
+  closed = back.closed;
+  content = λ e. back.content e ∙ fails.before (back.clean e);
+  honest = λ e. fails.honest (back.leaves.honest e);
+  answered = λ e. fails.answered (back.leaves.honest e);
+  leaves = λ left h. fails.leaves left (subst (λ (l : List (Remains Content)). Has l left) back.leaves.same h);
+  ready = back.leaves.ready ∙ fails.ready;
 }
 
--- a fault of what keeps one of them
-pub refused-by : (p : PolicyRules) (why : BookFault) (fault : MigrateFault) → fault ≡ fault_of why → (from read : OldState) (to written : StateOf Content) → IsRead from read → (written.is_clean ≡ true → to.is_clean ≡ true) → LeavesSame to written
-    → Migrates {A = Unit {0}} (Err fault) p from read to written
-refused-by p faults.Memory fault is from read to written reads clean leaves = subst (λ (f : MigrateFault). Migrates {A = Unit {0}} (Err f) p from read to written) (sym is) (tried-nothing p from read to written reads clean leaves)
-refused-by p faults.Store fault is from read to written reads clean leaves = subst (λ (f : MigrateFault). Migrates {A = Unit {0}} (Err f) p from read to written) (sym is) (tried-nothing p from read to written reads clean leaves)
+pub not-kept : (why : BookFault) (fault : MigrateFault) → fault ≡ fault_of why → (old new : StateOf Content) → IsUnkept old new → EndsAs {A = Unit {0}} (Err fault) (Ok true) old new
+not-kept faults.Memory fault is old new it = subst (λ (f : MigrateFault). EndsAs {A = Unit {0}} (Err f) (Ok true) old new) (sym is) it
+not-kept faults.Store fault is old new it = subst (λ (f : MigrateFault). EndsAs {A = Unit {0}} (Err f) (Ok true) old new) (sym is) it
 
-module _ (p : PolicyRules) (from read more : OldState) (a b c d e : StateOf Content) (asked : AreAsked true from read a b) (begun : Starts b c) where
-  before-all : b.is_clean ≡ true → c.is_clean ≡ true → c.before ≡ a.content
-  before-all w t = begun.before t ∙ asked.back.content w
+-- a call that failed, and what was begun undone
+pub undone : (old failed new : StateOf Content) → Stays old failed → Closes failed.before failed new → Closes old.before old new
+undone old failed new stays back = record {
+  clean = λ e. stays.clean (back.clean e);
+  closed = back.closed;
+  content = λ e. back.content e ∙ stays.before (back.clean e);
+  leaves = leaves-on old failed new stays.leaves back.leaves;
+}
+
+as-read : (s : OldState) → IsRead s s
+as-read s = record { clean = λ e. e; honest = λ e. e; content = λ e. refl; ready = refl; leaves = refl }
+
+-- nothing was begun, or all was undone
+tried-nothing : (p : PolicyRules) (from read : OldState) (to written : StateOf Content) → from.readiness ≡ Used → IsRead from read → Closes to.content to written → IsTried p from read to written
+tried-nothing p from read to written source reads back = record {
+  reads = reads;
+  source = source;
+  clean = back.clean;
+  honest = back.leaves.honest;
+  closed = back.closed;
+  content = back.content;
+  ready = back.leaves.ready;
+  leaves = λ was c e left h. inl (subst (λ (l : List (Remains Content)). Has l left) back.leaves.same h);
+}
+
+by-fault : (p : PolicyRules) (from read : OldState) (to written : StateOf Content) (why : BookFault) (fault : MigrateFault) → fault ≡ fault_of why → IsTried p from read to written → Migrates {A = Unit {0}} (Err fault) p from read to written
+by-fault p from read to written faults.Memory fault is tried = subst (λ (f : MigrateFault). Migrates {A = Unit {0}} (Err f) p from read to written) (sym is) tried
+by-fault p from read to written faults.Store fault is tried = subst (λ (f : MigrateFault). Migrates {A = Unit {0}} (Err f) p from read to written) (sym is) tried
+
+-- where no transaction was open, going back leads to what was held
+home : (a b : StateOf Content) → a.before ≡ a.content → Closes a.before a b → Closes a.content a b
+home a b idle back = record { clean = back.clean; closed = back.closed; content = λ e. back.content e ∙ idle; leaves = back.leaves }
+
+-- it wasn't told whether the place is empty
+pub unasked : (p : PolicyRules) (from : OldState) (a b : StateOf Content) (why : BookFault) (fault : MigrateFault) → fault ≡ fault_of why → a.before ≡ a.content → (from.readiness ≡ Used) × Closes a.before a b
+    → Migrates {A = Unit {0}} (Err fault) p from from a b
+unasked p from a b why fault is idle left = by-fault p from from a b why fault is (tried-nothing p from from a b left.0 (as-read from) (home a b idle left.1))
+
+-- there is no place to put it, or nothing to take
+pub elsewhere : (p : PolicyRules) (from : OldState) (a b : StateOf Content) → AreAsked false from a b → Migrates {A = Unit {0}} (Err Schema) p from from a b
+elsewhere p from a b it = record { same = refl; back = it.back; other = it.other refl }
+
+-- something was made where nothing is told to be
+pub made-already : (p : PolicyRules) (from : OldState) (a b : StateOf Content) → a.is_open ≡ false → AreAsked true from a b → Migrates {A = Unit {0}} (Err Store) p from from a b
+made-already p from a b shut it = tried-nothing p from from a b (it.source refl) (as-read from) (record { clean = it.back.clean; closed = it.back.opened ∙ shut; content = it.back.content; leaves = it.back.leaves })
+
+-- no transaction was opened
+pub unbegun : (p : PolicyRules) (from : OldState) (a b c : StateOf Content) (why : BookFault) (fault : MigrateFault) → fault ≡ fault_of why → a.before ≡ a.content → AreAsked true from a b → Closes b.before b c
+    → Migrates {A = Unit {0}} (Err fault) p from from a c
+unbegun p from a b c why fault is idle it back =
+    by-fault p from from a c why fault is
+    (tried-nothing p from from a c (it.source refl) (as-read from)
+    (home a c idle (record {
+      clean = λ e. it.back.clean (back.clean e);
+      closed = back.closed;
+      content = λ e. back.content e ∙ it.back.before (back.clean e);
+      leaves = leaves-on a b c it.back.leaves back.leaves;
+    })))
+
+module _ (p : PolicyRules) (from read : OldState) (a b c d e : StateOf Content) (asked : AreAsked true from a b) (begun : Starts b c) where
+  before-all : c.is_clean ≡ true → c.before ≡ a.content
+  before-all t = begun.before t ∙ asked.back.content (begun.clean t)
 
   leaves-begun : LeavesSame a c
   leaves-begun = leaves-on a b c asked.back.leaves begun.leaves
@@ -266,59 +328,72 @@ module _ (p : PolicyRules) (from read more : OldState) (a b c d e : StateOf Cont
   clean-begun : c.is_clean ≡ true → a.is_clean ≡ true
   clean-begun t = asked.back.clean (begun.clean t)
 
-  abbrev reads-then : IsRead read more → IsRead from more
-  reads-then reads = read-on from read more asked.reads reads
-
   closed-back : (d.is_clean ≡ true → c.is_clean ≡ true) → (d.is_clean ≡ true → d.before ≡ c.before) → LeavesSame c d → Closes d.before d e → Closes a.content a e
   closed-back clean before leaves back = record {
     clean = λ t. clean-begun (clean (back.clean t));
     closed = back.closed;
-    content = λ t. let w = back.clean t in back.content t ∙ before w ∙ before-all (begun.clean (clean w)) (clean w);
+    content = λ t. let w = back.clean t in back.content t ∙ before w ∙ before-all (clean w);
     leaves = leaves-on a d e (leaves-on a c d leaves-begun leaves) back.leaves;
   }
 
-  all-of : (took : IsTakenOver p read more c d) → more.is_clean ≡ true → d.is_clean ≡ true → stored_of d.content ≡ redated p (stored_of from.content)
-  all-of took m t = took.stored m t ∙ ap (λ (xs : Content). redated p (stored_of xs)) (asked.reads.content (took.reads.clean m))
+  there-then : c.is_clean ≡ true → AreThere from a
+  there-then t = asked.there refl (begun.clean t)
 
-  kept-all : IsTakenOver p read more c d → Keeps d e → IsMigrated p from more a e
+  may-be : (took : IsTakenOver p from read c d) → read.is_clean ≡ true → d.is_clean ≡ true → MayBeTaken p from a
+  may-be took m t = (there-then (took.clean t), took.fits m t)
+
+  all-in : (took : IsTakenOver p from read c d) → read.is_clean ≡ true → d.is_clean ≡ true → (left : Remains Content) → left ≡ holding d.content → IsAll p from.content left
+  all-in took m t left is = (
+    ap (λ (l : Remains Content). l.readiness) is,
+    (
+      ap (λ (l : Remains Content). stored_of l.content) is ∙ took.stored m t,
+      ap (λ (l : Remains Content). are_right l.content) is ∙ took.sums m t,
+    ),
+  )
+
+  kept-all : IsTakenOver p from read c d → Keeps d e → IsMigrated p from read a e
   kept-all took kept = record {
-    reads = reads-then took.reads;
+    asked = took.asked;
     clean = λ t. clean-begun (took.clean (kept.clean t));
+    answers = kept.answers;
     closed = kept.closed;
-    fits = λ m t. ap (λ (xs : Content). suits p (stored_of xs)) (sym (asked.reads.content (took.reads.clean m))) ∙ took.fits m (kept.clean t);
-    stored = λ m t. ap stored_of (kept.content t) ∙ all-of took m (kept.clean t);
-    sums = λ m t. ap are_right (kept.content t) ∙ took.sums m (kept.clean t) ∙ ap (λ (xs : Content). are_right (numbered_anew xs)) (asked.reads.content (took.reads.clean m));
-    lines_are = λ m t. ap (λ (xs : Content). xs.lines) (kept.content t) ∙ took.lines_are m (kept.clean t) ∙ ap (λ (xs : Content). ended p.days xs.lines) (asked.reads.content (took.reads.clean m));
-    leaves = λ m honest left h.
-        let is = kept.leaves left h in
-        (ap (λ (l : Remains Content). l.readiness) is, ap (λ (l : Remains Content). stored_of l.content) is ∙ all-of took m (kept.answered honest));
+    used = kept.ready;
+    source = asked.source refl;
+    may = λ m t. may-be took m (kept.clean t);
+    stored = λ m t. ap stored_of (kept.content t) ∙ took.stored m (kept.clean t);
+    sums = λ m t. ap are_right (kept.content t) ∙ took.sums m (kept.clean t);
+    lines_are = λ m t. ap (λ (xs : Content). xs.lines) (kept.content t) ∙ took.lines_are m (kept.clean t);
+    leaves = λ m honest left h. all-in took m (kept.answered honest) left (kept.leaves left h);
   }
 
-  failed-all : IsTakenOver p read more c d → Fails d e → IsTried p from more a e
+  failed-all : IsTakenOver p from read c d → IsUnkept d e → IsTried p from read a e
   failed-all took failed = record {
-    reads = reads-then took.reads;
+    reads = took.asked.reads;
+    source = asked.source refl;
     clean = λ t. clean-begun (took.clean (failed.clean t));
-    leaves = λ m honest left h. elim (failed.leaves left h) [
-      | inl was ↦ inl (subst (λ (l : List (Remains Content)). Has l left) (leaves-on a c d leaves-begun took.leaves).same was)
-      | inr is ↦ inr (ap (λ (l : Remains Content). l.readiness) is, ap (λ (l : Remains Content). stored_of l.content) is ∙ all-of took m (failed.answered honest))
+    honest = λ t. leaves-begun.honest (took.leaves.honest (failed.honest t));
+    closed = failed.closed;
+    content = λ t. let w = failed.clean t in failed.content t ∙ took.before w ∙ before-all (took.clean w);
+    ready = failed.ready ∙ (leaves-on a c d leaves-begun took.leaves).ready;
+    leaves = λ was h honest left has. elim (failed.leaves left has) [
+      | inl before ↦ inl (subst (λ (l : List (Remains Content)). Has l left) (leaves-on a c d leaves-begun took.leaves).same before)
+      | inr is ↦ let m : read.is_clean ≡ true = took.asked.answers was h in let t = failed.answered honest in inr (may-be took m t, all-in took m t left is)
     ];
   }
 
-  undone-all : IsLeft read more c d → Closes d.before d e → IsTried p from more a e
-  undone-all left back = tried-nothing p from more a e (reads-then left.source) (λ t. clean-begun (left.target.clean (back.clean t))) (leaves-on a d e (leaves-on a c d leaves-begun left.target.leaves) back.leaves)
+  undone-all : IsLeft from read c d → Closes d.before d e → IsTried p from read a e
+  undone-all left back = tried-nothing p from read a e (asked.source refl) left.source (closed-back left.target.clean left.target.before left.target.leaves back)
 
-  unsuited : IsRefused p read more c d → Closes d.before d e → IsUnsuited p from more a e
+  unsuited : IsRefused p from read c d → Closes d.before d e → IsUnsuited p from read a e
   unsuited refused back = record {
-    reads = reads-then refused.reads;
+    asked = refused.asked;
     back = closed-back refused.clean refused.before refused.leaves back;
-    differs = λ m t. ap (λ (xs : Content). suits p (stored_of xs)) (sym (asked.reads.content (refused.reads.clean m))) ∙ refused.differs m (back.clean t);
+    source = asked.source refl;
+    there = λ t. there-then (refused.clean (back.clean t));
+    differs = λ m t. refused.differs m (back.clean t);
   }
 
-  by-fault : (why : BookFault) (fault : MigrateFault) → fault ≡ fault_of why → IsTried p from more a e → Migrates {A = Unit {0}} (Err fault) p from more a e
-  by-fault faults.Memory fault is tried = subst (λ (f : MigrateFault). Migrates {A = Unit {0}} (Err f) p from more a e) (sym is) tried
-  by-fault faults.Store fault is tried = subst (λ (f : MigrateFault). Migrates {A = Unit {0}} (Err f) p from more a e) (sym is) tried
-
-  pub migrated : (result : Result (Unit {0}) MigrateFault) (took : Result Bool BookFault) → TakesOver took p read more c d → EndsAs result took d e → Migrates result p from more a e
+  pub migrated : (result : Result (Unit {0}) MigrateFault) (took : Result Bool BookFault) → TakesOver took p from read c d → EndsAs result took d e → Migrates result p from read a e
   migrated (Ok done) (Ok true) over ends = kept-all over ends
   migrated (Ok done) (Ok false) over ends = absurd ends
   migrated (Ok done) (Err why) over ends = absurd ends
@@ -326,5 +401,5 @@ module _ (p : PolicyRules) (from read more : OldState) (a b c d e : StateOf Cont
   migrated (Err Store) (Ok true) over ends = failed-all over ends
   migrated (Err Policy) (Ok true) over ends = absurd ends
   migrated (Err Schema) (Ok true) over ends = absurd ends
-  migrated (Err fault) (Ok false) over ends = subst (λ (f : MigrateFault). Migrates {A = Unit {0}} (Err f) p from more a e) (sym ends.0) (unsuited over ends.1)
-  migrated (Err fault) (Err why) over ends = by-fault why fault ends.0 (undone-all over ends.1)
+  migrated (Err fault) (Ok false) over ends = subst (λ (f : MigrateFault). Migrates {A = Unit {0}} (Err f) p from read a e) (sym ends.0) (unsuited over ends.1)
+  migrated (Err fault) (Err why) over ends = by-fault p from read a e why fault ends.0 (undone-all over ends.1)

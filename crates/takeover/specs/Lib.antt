@@ -1,3 +1,4 @@
+pub mod Files
 pub mod Graces
 pub mod Migrating
 pub mod inner

@@ -5,7 +5,7 @@ ghost use Rattle.policy.specs.Terms.{terms_of};
 ghost use Rattle.sqltables.specs.Content.{no_content};
 ghost use Rattle.states.specs.States.{Finds};
 ghost use Rattle.sqlbook.specs.Meaning.{are_right, stored_of};
-ghost use Rattle.takeover.specs.inner.Migrating.{AreReady, EndsAs, TakesOver, heads, others, put_lines};
+ghost use Rattle.takeover.specs.inner.Migrating.{AreReady, EndsAs, IsBegun, IsKept, TakesOver, heads, others, put_lines};
 ghost use Rattle.takeover.specs.Migrating.{Migrates, fault_of, redated, suits};
 ghost use Rattle.sqlbook.specs.AsBook.{MakesAs};
 
@@ -60,7 +60,7 @@ const OTHERS: [TableName; 7] = [
 /// Takes the registry of the schema before this one over into tables of today that were never used, under
 /// a policy that continues the one it was used under, as `Registry::open` asks it. The registry is the
 /// same, and so is what it is by now; the policy's lengths of periods are put down. The other database is
-/// read alone.
+/// read alone. After any fault no transaction is open, and the tables are as they were.
 pub fn migrate<S: Alter, T: Alter>(
     alloc: Global,
     from: &mut OldRows<S>,
@@ -70,15 +70,47 @@ pub fn migrate<S: Alter, T: Alter>(
     requires { to.old.is_open ≡ false }
     ensures { Migrates result policy.now from.old from.new to.old to.new }
 {
+    to.show_rest();
     if !are_ready(from, to)? {
         return Err(MigrateFault::Schema);
     }
     if !to.is_unused() {
         return Err(MigrateFault::Store);
     }
-    to.begin()?;
+    begin(to)?;
     let taken = take(alloc, from, to, policy);
     end(to, taken)
+}
+
+/// Whether the one is a registry of the schema before this one, and the other was never used.
+fn are_ready<S: Alter, T: Alter>(from: &OldRows<S>, to: &mut RowStore<T>) -> Result<bool, BookFault>
+    ensures { AreReady result from.now to.old to.new }
+{
+    let Ready::Used = from.ready() else {
+        return Ok(false);
+    };
+    match to.ready() {
+        Ok(Ready::Empty) => Ok(true),
+        Ok(Ready::Used | Ready::Other) => Ok(false),
+        Err(fault) => {
+            to.back();
+            Err(fault)
+        }
+    }
+}
+
+/// Opens a transaction, or leaves none open.
+fn begin<T: Alter>(to: &mut RowStore<T>) -> Result<(), BookFault>
+    requires { to.old.is_open ≡ false }
+    ensures { IsBegun result to.old to.new }
+{
+    match to.begin() {
+        Ok(()) => Ok(()),
+        Err(fault) => {
+            to.back();
+            Err(fault)
+        }
+    }
 }
 
 /// Keeps what was taken over, or undoes all.
@@ -88,7 +120,7 @@ fn end<T: Alter>(to: &mut RowStore<T>, taken: Result<bool, BookFault>) -> Result
 {
     match taken {
         Ok(true) => {
-            to.commit()?;
+            keep(to)?;
             Ok(())
         }
         Ok(false) => {
@@ -102,20 +134,18 @@ fn end<T: Alter>(to: &mut RowStore<T>, taken: Result<bool, BookFault>) -> Result
     }
 }
 
-/// Whether the one is a registry of the schema before this one, and the other was never used.
-fn are_ready<S: Alter, T: Alter>(
-    from: &mut OldRows<S>,
-    to: &mut RowStore<T>,
-) -> Result<bool, BookFault>
-    ensures { AreReady result from.old from.new to.old to.new }
+/// Keeps what was taken over. If the commit fails, all is undone as far as this program sees.
+fn keep<T: Alter>(to: &mut RowStore<T>) -> Result<(), BookFault>
+    requires { to.old.is_open ≡ true }
+    ensures { IsKept result to.old to.new }
 {
-    let Ready::Used = from.ready()? else {
-        return Ok(false);
-    };
-    let Ready::Empty = to.ready()? else {
-        return Ok(false);
-    };
-    Ok(true)
+    match to.commit() {
+        Ok(()) => Ok(()),
+        Err(fault) => {
+            to.back();
+            Err(fault)
+        }
+    }
 }
 
 /// Takes all over in the open transaction, if the policy suits.
@@ -129,7 +159,7 @@ fn take<S: Alter, T: Alter>(
     requires unused { to.old.is_clean ≡ true → to.old.content ≡ no_content }
     ensures { TakesOver result policy.now from.old from.new to.old to.new }
 {
-    from.whole();
+    from.show_whole();
     copy_heads(from, to)?;
     if !fits(alloc, to, policy)? {
         return Ok(false);

@@ -21,13 +21,21 @@ pub fn migrate_on<S: Alter + Drop, T: Alter + Drop>(
 ) -> Exit {
     let mut from = match OldRows::adopt(from, alloc) {
         Ok(from) => from,
-        Err(fault) => return Exit::from(fault),
+        Err((fault, _)) => return Exit::from(fault),
     };
     let mut to = match RowStore::adopt(to, alloc) {
         Ok(to) => to,
         Err((cause, _)) => return exit_of_unadopted(cause),
     };
-    match migrate(alloc, &mut from, &mut to, policy) {
+    let migrated = migrate(alloc, &mut from, &mut to, policy);
+    exit_after(migrated)
+}
+
+/// How the program ends where a takeover was tried.
+fn exit_after(migrated: Result<(), MigrateFault>) -> Exit
+    ensures { result ≡ spec.exit_after migrated }
+{
+    match migrated {
         Ok(()) => Exit::Done,
         Err(fault) => exit_of(fault),
     }

@@ -3,7 +3,7 @@ ghost use Rattle.std.specs.Prelude.{◌≡◌, false, IfErr, IfOk, bytes_eq, cod
 ghost use Rattle.script.specs.Exits.{exit_of_book};
 
 use books::{Book, BookFault};
-use policy::Policy;
+use policy::{Policy, PolicyFile};
 use registry::Registry;
 use script::Exit;
 use std::alloc::Global;
@@ -17,11 +17,19 @@ pub fn is_in_memory(database: &str) -> bool
     database == ":memory:"
 }
 
-/// The policy of a file.
-pub fn policy_in(rt: &(impl Files + AllocGlobal), path: &str) -> Result<Policy, Exit> {
+/// The file of a database's log, which lies beside the database's own; the empty name for one in memory.
+pub fn log_file_of(alloc: Global, database: &str) -> Result<String, Exit> {
+    if is_in_memory(database) {
+        return Ok(format!(in alloc; "")?);
+    }
+    Ok(format!(in alloc; "{database}-wal")?)
+}
+
+/// What a policy's file holds.
+pub fn file_in(rt: &(impl Files + AllocGlobal), path: &str) -> Result<PolicyFile, Exit> {
     let text = fs::read(rt, path)?;
-    match Policy::read(rt.alloc(), &text) {
-        Ok(policy) => Ok(policy),
+    match PolicyFile::read(rt.alloc(), &text) {
+        Ok(file) => Ok(file),
         Err(fault) => Err(Exit::Policy(fault)),
     }
 }

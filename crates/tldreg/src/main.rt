@@ -2,7 +2,10 @@
 #![tactic(auto)]
 
 ghost use Rattle.std.specs.Prelude.{◌≡◌, false, IfErr, IfOk};
+ghost use Rattle.protocol.specs.declared.order.OperatorRequest.TheVariants as requests;
+ghost use Rattle.protocol.specs.declared.order.Order.TheVariants as orders;
 ghost use Rattle.tldreg.specs.inner.Ends as spec;
+ghost use Rattle.tldreg.specs.inner.Ends.{EndsJob, EndsOrder, EndsRequest, EndsZone};
 
 mod command_line;
 mod database;
@@ -14,18 +17,18 @@ mod token;
 use books::{Book, BookFault};
 use calendar::Moment;
 use command_line::{Asked, Job, Task, read_task};
-use database::{is_in_memory, open, policy_in};
+use database::{file_in, is_in_memory, log_file_of, open};
 use frames::Clock;
 use listening::{Office, serve_port, serve_ports};
 use memory::run_script;
 use nearness::require_near;
-use policy::Policy;
+use policy::{Passwords, Policy, PolicyFile};
 use protocol::Code;
 use registry::{OpenFault, Registry};
 use script::{Exit, deposit_on, order_on};
 use server::{MachineClock, ZoneExportFault, zone_on};
 use settings::Settings;
-use sqlite::{Alter, Connection, Unknown};
+use sqlite::{Alter, Connection, Start, Unknown, Wary};
 use std::net::{Ipv4Addr, TcpListener};
 use std::process::ExitCode;
 use std::rt::Files;
@@ -42,11 +45,14 @@ fn run(rt: &(impl Files + Input + Print + AllocGlobal), policy: &str) -> Result<
     run_script(rt.alloc(), &policy, rt.reader(), &mut io::writer(rt)).result()
 }
 
-/// How a job is done: what the options say, and what is said by whoever has the operator's token.
+/// How a job is done: what the options say, how registrars log in, what is said by whoever has the operator's token, and
+/// the file of the database's log, if it is in a file.
 #[derive(Clone, Copy)]
 struct Means<'m> {
     settings: &'m Settings,
+    passwords: &'m Passwords,
     credentials: &'m [u8],
+    log_file: &'m str,
 }
 
 /// Does a job with the registry of a database.
@@ -58,10 +64,13 @@ fn work_on(
     settings: &Settings,
 ) -> Result<(), End> {
     let credentials = credentials_of(rt, job)?;
-    let policy = policy_in(rt, policy)?;
+    let PolicyFile { policy, passwords } = file_in(rt, policy)?;
+    let log_file = log_file_of(rt.alloc(), database)?;
     let means = Means {
         settings,
+        passwords: &passwords,
         credentials: &credentials,
+        log_file: log_file.as_str(),
     };
     if is_in_memory(database) {
         ended(work_over(rt, sqlbook::in_memory(rt.alloc()), policy, job, &means))
@@ -144,9 +153,11 @@ fn work_then<B: Book + Drop>(
     registry: Registry<B>,
     job: &Job,
     means: &Means<'_>,
-) -> Result<(), Exit> {
+) -> Result<(), Exit>
+    ensures { EndsJob registry.policy job.now (B.state registry.book) result }
+{
     match job {
-        Job::Serve { port } => serve(rt, registry, *port, means.settings),
+        Job::Serve { port } => serve(rt, registry, *port, means),
         Job::ServeBoth {
             port,
             operator_port,
@@ -167,15 +178,23 @@ fn serve<B: Book + Drop>(
     rt: &HostRuntime,
     registry: Registry<B>,
     port: u16,
-    settings: &Settings,
+    means: &Means<'_>,
 ) -> Result<(), Exit>
     ensures { result ≡ Err Exit.Network }
 {
     let Ok(listener) = TcpListener::bind(rt, (Ipv4Addr::LOCALHOST, port)) else {
         return Err(Exit::Network);
     };
-    let log = Log::new(rt.alloc(), rt, settings.is_quiet, false);
-    serve_port(rt.alloc(), rt, &listener, &settings.limits, &log, registry);
+    let log = Log::new(rt.alloc(), rt, means.settings.is_quiet, false);
+    serve_port(
+        rt.alloc(),
+        rt,
+        &listener,
+        &means.settings.limits,
+        &log,
+        means.passwords,
+        registry,
+    );
     Err(Exit::Network)
 }
 
@@ -198,9 +217,15 @@ fn serve_both<B: Book + Drop>(
     let office = Office {
         listener: &listener,
         credentials: means.credentials,
+        log_file: file_named(means.log_file),
     };
-    serve_office(rt, registry, &public, &office, means.settings);
+    serve_office(rt, registry, &public, &office, means);
     Err(Exit::Network)
+}
+
+/// The file of a name; the empty name is that of none.
+fn file_named(name: &str) -> Option<&str> {
+    if name.is_empty() { None } else { Some(name) }
 }
 
 /// Serves connections to both ports.
@@ -209,16 +234,17 @@ fn serve_office<B: Book + Drop>(
     registry: Registry<B>,
     public: &TcpListener,
     office: &Office<'_>,
-    settings: &Settings,
+    means: &Means<'_>,
 ) {
-    let log = Log::new(rt.alloc(), rt, settings.is_quiet, true);
+    let log = Log::new(rt.alloc(), rt, means.settings.is_quiet, true);
     serve_ports(
         rt.alloc(),
         rt,
         public,
         office,
-        &settings.limits,
+        &means.settings.limits,
         &log,
+        means.passwords,
         registry,
     );
 }
@@ -228,18 +254,20 @@ fn zone<B: Book + Drop>(
     rt: &(impl Print + AllocGlobal),
     registry: Registry<B>,
     moment: Moment,
-) -> Result<(), Exit> {
+) -> Result<(), Exit>
+    ensures { EndsZone registry.policy moment (B.state registry.book) result }
+{
     let mut registry = registry;
-    let told = zone_on(rt.alloc(), &mut registry, moment, &mut io::writer(rt));
+    let written = zone_on(rt.alloc(), &mut registry, moment, &mut io::writer(rt));
     drop(registry);
-    zone_end(told)
+    zone_end(written)
 }
 
 /// How the program ends after a zone.
-fn zone_end(told: Result<(), ZoneExportFault>) -> Result<(), Exit>
-    ensures { result ≡ spec.zone_end told }
+fn zone_end(written: Result<(), ZoneExportFault>) -> Result<(), Exit>
+    ensures { result ≡ spec.zone_end written }
 {
-    match told {
+    match written {
         Ok(()) => Ok(()),
         Err(ZoneExportFault::Registry(fault)) => Err(Exit::Registry(fault)),
         Err(ZoneExportFault::Zone(ZoneFault::Memory)) => Err(Exit::Memory),
@@ -254,11 +282,22 @@ fn deposit<B: Book + Drop>(
     moment: Moment,
     registrar: &str,
     cents: i64,
-) -> Result<(), Exit> {
-    let (mut registry, out) = (registry, &mut io::writer(rt));
-    let code = deposit_on(rt.alloc(), &mut registry, moment, registrar, cents, out);
+) -> Result<(), Exit>
+    ensures { EndsRequest registry.policy
+        (requests.Order (orders.Deposit registrar.now cents)) moment (B.state registry.book) result }
+{
+    let mut registry = registry;
+    let mut out = io::writer(rt);
+    let answered = deposit_on(
+        rt.alloc(),
+        &mut registry,
+        moment,
+        registrar,
+        cents,
+        &mut out,
+    );
     drop(registry);
-    end_of(code?)
+    request_end(answered)
 }
 
 /// Carries out what the operator sends at a moment, and prints the answer.
@@ -267,42 +306,53 @@ fn order<B: Book + Drop>(
     registry: Registry<B>,
     moment: Moment,
     json: &str,
-) -> Result<(), Exit> {
-    let (mut registry, out) = (registry, &mut io::writer(rt));
-    let code = order_on(rt.alloc(), &mut registry, moment, json.as_bytes(), out);
+) -> Result<(), Exit>
+    ensures { EndsOrder registry.policy json.now moment (B.state registry.book) result }
+{
+    let mut registry = registry;
+    let mut out = io::writer(rt);
+    let answered = order_on(rt.alloc(), &mut registry, moment, json.as_bytes(), &mut out);
     drop(registry);
-    end_of(code?)
+    request_end(answered)
 }
 
-/// How the program ends where an answer was printed.
-fn end_of(code: Code) -> Result<(), Exit>
-    ensures { result ≡ spec.end_of code }
+/// How the program ends after what the operator sent.
+fn request_end(answered: Result<Code, Exit>) -> Result<(), Exit>
+    ensures { result ≡ spec.request_end answered }
 {
-    match code {
-        Code::Completed => Ok(()),
-        _ => Err(Exit::Refused),
+    match answered {
+        Ok(Code::Completed) => Ok(()),
+        Ok(_) => Err(Exit::Refused),
+        Err(exit) => Err(exit),
     }
 }
 
 /// Takes the registry of one database file over into another. Where there is no file of the first name, none
-/// is made.
+/// is made. Two types stand for what the two files hold, since one would say that they hold the same.
 fn migrate(rt: &HostRuntime, policy: &str, from: &str, to: &str) -> Result<(), Exit> {
-    let policy = policy_in(rt, policy)?;
+    let policy = file_in(rt, policy)?.policy;
     drop(fs::open(rt, from)?);
-    migrate_from(rt, &policy, bookfiles::connection_in(rt, from, Unknown), to)
+    migrate_from(
+        rt,
+        &policy,
+        bookfiles::connection_in(rt, from, Wary),
+        to,
+        Unknown,
+    )
 }
 
-/// The same from a connection, if it was opened.
-fn migrate_from<S: Alter + Drop>(
+/// The same from a connection, if it was opened. `T` stands for what the other file holds.
+fn migrate_from<S: Alter + Drop, T: Start>(
     rt: &HostRuntime,
     policy: &Policy,
     from: Result<Connection<S>, OpenFault>,
     to: &str,
+    start: T,
 ) -> Result<(), Exit>
     ensures { IfErr from (λ fault. result ≡ Err (Exit.Open fault)) }
 {
     match from {
-        Ok(from) => migrate_to(rt, policy, from, bookfiles::connection_in(rt, to, Unknown)),
+        Ok(from) => migrate_to(rt, policy, from, bookfiles::connection_in(rt, to, start)),
         Err(fault) => Err(Exit::Open(fault)),
     }
 }

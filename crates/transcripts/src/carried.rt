@@ -9,6 +9,7 @@ use anyhow::{Result, bail};
 use books::Book;
 use eppwire::Connection;
 use frames::{ListClock, SessionEnd, serve_session};
+use policy::Passwords;
 use rdap::Routes;
 use registry::Registry;
 use script::{Exit, deposit_on, order_on, run_on};
@@ -22,16 +23,23 @@ use std::str;
 pub struct Wire<'a> {
     alloc: Global,
     routes: Routes,
+    passwords: &'a Passwords,
     reader: Pieces<'a>,
     clock: ListClock,
     pub writer: Narrow,
 }
 
 impl<'a> Wire<'a> {
-    pub fn new(alloc: Global, exchange: &'a Exchange, way: Way) -> Result<Wire<'a>> {
+    pub fn new(
+        alloc: Global,
+        exchange: &'a Exchange,
+        way: Way,
+        passwords: &'a Passwords,
+    ) -> Result<Wire<'a>> {
         Ok(Wire {
             alloc,
             routes: Routes::new(alloc)?,
+            passwords,
             reader: Pieces::new(&exchange.sent, way),
             clock: exchange.clock(alloc)?,
             writer: Narrow::new(alloc, way),
@@ -76,6 +84,7 @@ impl<'a> Wire<'a> {
             &mut self.writer,
             &mut self.clock,
             registry,
+            self.passwords,
         );
         let end = self.word(connection_word(served.end));
         (served.registry, end)
@@ -85,7 +94,7 @@ impl<'a> Wire<'a> {
         &mut self,
         registry: Registry<B>,
     ) -> (Registry<B>, Result<String>) {
-        let mut connection = Connection::new(self.alloc, registry);
+        let mut connection = Connection::new(self.alloc, registry, self.passwords);
         let end = serve_session(
             self.alloc,
             &mut self.reader,

@@ -7,7 +7,7 @@ use crate::exchange::{Exchange, Kind};
 use crate::pieces::{WHOLE, Way};
 use anyhow::{Context, Result, bail};
 use books::Book;
-use policy::Policy;
+use policy::{Passwords, PolicyFile};
 use registry::Registry;
 use std::alloc::Global;
 use std::str;
@@ -164,14 +164,14 @@ pub fn run_case<B: Book + Drop>(
 ) -> Result<Vec<u8>>
     requires { (B.state book).is_open ≡ false }
 {
-    let Ok(policy) = Policy::read(alloc, policy) else {
+    let Ok(PolicyFile { policy, passwords }) = PolicyFile::read(alloc, policy) else {
         drop(book);
         bail!("no policy");
     };
     match Registry::open(alloc, book, policy) {
         Ok(registry) => {
             let mut differences = Vec::new(alloc);
-            drop(run_steps(alloc, registry, case, way, &mut differences)?);
+            drop(run_steps(alloc, registry, &passwords, case, way, &mut differences)?);
             Ok(differences)
         }
         Err((_, book)) => {
@@ -184,6 +184,7 @@ pub fn run_case<B: Book + Drop>(
 fn run_steps<B: Book + Drop>(
     alloc: Global,
     registry: Registry<B>,
+    passwords: &Passwords,
     case: &Case,
     way: Way,
     differences: &mut Vec<u8>,
@@ -192,7 +193,7 @@ fn run_steps<B: Book + Drop>(
     for (index, step) in case.steps.iter().enumerate() {
         let is_last = index.saturating_add(1) == case.steps.len();
         let way = if is_last { way } else { case.way };
-        registry = run_step(alloc, registry, step, way, differences)?;
+        registry = run_step(alloc, registry, passwords, step, way, differences)?;
     }
     Ok(registry)
 }
@@ -200,11 +201,12 @@ fn run_steps<B: Book + Drop>(
 fn run_step<B: Book + Drop>(
     alloc: Global,
     registry: Registry<B>,
+    passwords: &Passwords,
     step: &Step,
     way: Way,
     differences: &mut Vec<u8>,
 ) -> Result<Registry<B>> {
-    match Wire::new(alloc, &step.exchange, way) {
+    match Wire::new(alloc, &step.exchange, way, passwords) {
         Ok(mut wire) => {
             let (registry, end) = wire.carried(&step.exchange, way, registry);
             match compare(alloc, step, way, &wire.writer.bytes, end, differences) {

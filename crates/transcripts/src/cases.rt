@@ -1,4 +1,4 @@
-//! The cases of a file.
+//! Reads a file of cases, line by line.
 
 use crate::both_books::{Done, Job, Kind, over};
 use crate::case::Case;

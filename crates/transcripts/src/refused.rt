@@ -82,7 +82,7 @@ pub fn refuse<B: Book + Drop>(
     requires { (B.state book).is_open ≡ false }
 {
     let mut registry = opened(alloc, OnceBook::new(book, place), refusal.policy)?;
-    let said = said_by(alloc, &mut registry, refusal);
+    let said = replies_of(alloc, &mut registry, refusal);
     let book = registry.into_book();
     let (calls, has_refused) = (book.calls(), book.has_refused());
     drop(book);
@@ -147,7 +147,7 @@ fn said_in_the_end<B: Book + Drop>(
 }
 
 /// The reply to a line, which is sent again where it couldn't be carried out, and those to the looks.
-fn said_by<B: Book + Drop>(
+fn replies_of<B: Book + Drop>(
     alloc: Global,
     registry: &mut Registry<B>,
     refusal: &Refusal<'_>,

@@ -25,22 +25,22 @@ impl<'p> Members<'p> {
 
     /// Takes a member whose value is a text.
     fn take(&mut self, key: &[u8], text: &'p [u8]) {
-        if key == b"cmd".as_slice() {
+        if is_word(key, b"cmd") {
             self.cmd = text;
-        } else if key == b"obj".as_slice() {
+        } else if is_word(key, b"obj") {
             self.obj = text;
-        } else if key == b"op".as_slice() {
+        } else if is_word(key, b"op") {
             self.op = text;
-        } else if key == b"name".as_slice() {
+        } else if is_word(key, b"name") {
             self.name = text;
-        } else if key == b"id".as_slice() {
+        } else if is_word(key, b"id") {
             self.id = text;
         }
     }
 
     /// Takes a text of a list.
     fn take_listed(&mut self, key: &[u8], text: &'p [u8]) {
-        if key == b"names".as_slice() && self.name.is_empty() {
+        if self.name.is_empty() && is_word(key, b"names") {
             self.name = text;
         }
     }
@@ -49,23 +49,24 @@ impl<'p> Members<'p> {
 /// The members of a payload. Of one that is no JSON object whatever is found, which no line is made of.
 pub(crate) fn members_of(payload: &[u8]) -> Members<'_> {
     let mut scan = Scan::new(payload);
-    for (at, byte) in payload.iter().enumerate() {
-        scan.step(at, *byte);
+    for part in payload.split(|byte| *byte == b'"') {
+        scan.step(part);
     }
     scan.members
 }
 
-/// The place of a walk over a payload.
+/// The place of a walk over a payload, from quote to quote.
 #[derive(Drop)]
 struct Scan<'p> {
     payload: &'p [u8],
     members: Members<'p>,
     /// How many objects and lists are open.
     depth: u32,
-    /// Whether a text is open, where it began, and whether a byte of it is escaped.
+    /// Where the bytes up to the next quote begin.
+    at: usize,
+    /// Whether a text is open, and where it began.
     is_in_text: bool,
     start: usize,
-    is_escaped: bool,
     /// The last text of the outermost object, and the one before a colon.
     text: Option<&'p [u8]>,
     key: Option<&'p [u8]>,
@@ -77,44 +78,42 @@ impl<'p> Scan<'p> {
             payload,
             members: Members::none(),
             depth: 0,
+            at: 0,
             is_in_text: false,
             start: 0,
-            is_escaped: false,
             text: None,
             key: None,
         }
     }
 
-    fn step(&mut self, at: usize, byte: u8) {
-        if self.is_in_text {
-            self.step_in_text(at, byte);
+    /// Goes over the bytes up to the next quote, and over it.
+    fn step(&mut self, part: &[u8]) {
+        let quote = self.at.saturating_add(part.len());
+        self.at = quote.saturating_add(1);
+        if quote >= self.payload.len() {
+            // There is no next quote, so no text ends any more.
             return;
         }
-        match byte {
-            b'"' => {
-                self.is_in_text = true;
-                self.start = at.saturating_add(1);
-            }
-            b'{' | b'[' => self.depth = self.depth.saturating_add(1),
-            b'}' | b']' => self.depth = self.depth.saturating_sub(1),
-            b':' if self.depth == 1 => self.key = self.text,
-            b',' if self.depth == 1 => self.key = None,
-            _ => {}
+        if !self.is_in_text {
+            self.step_outside(part);
+            self.is_in_text = true;
+            self.start = self.at;
+        } else if !escapes_next(part) {
+            self.is_in_text = false;
+            self.end_text(quote);
         }
     }
 
-    fn step_in_text(&mut self, at: usize, byte: u8) {
-        if self.is_escaped {
-            self.is_escaped = false;
-            return;
-        }
-        match byte {
-            b'\\' => self.is_escaped = true,
-            b'"' => {
-                self.is_in_text = false;
-                self.end_text(at);
+    /// Goes over bytes between texts.
+    fn step_outside(&mut self, part: &[u8]) {
+        for byte in part.iter() {
+            match *byte {
+                b'{' | b'[' => self.depth = self.depth.saturating_add(1),
+                b'}' | b']' => self.depth = self.depth.saturating_sub(1),
+                b':' if self.depth == 1 => self.key = self.text,
+                b',' if self.depth == 1 => self.key = None,
+                _ => {}
             }
-            _ => {}
         }
     }
 
@@ -130,6 +129,27 @@ impl<'p> Scan<'p> {
             None => self.text = Some(text),
         }
     }
+}
+
+/// Whether the byte after these, which a text has, is escaped by their end.
+fn escapes_next(part: &[u8]) -> bool {
+    let mut is_escaped = false;
+    for byte in part.iter().rev() {
+        if *byte != b'\\' {
+            return is_escaped;
+        }
+        is_escaped = !is_escaped;
+    }
+    is_escaped
+}
+
+/// Whether a text is this word. Words are short, so byte by byte is the fastest.
+pub(crate) fn is_word(text: &[u8], word: &[u8]) -> bool {
+    text.len() == word.len()
+        && text
+            .iter()
+            .zip(word.iter())
+            .all(|(one, other)| *one == *other)
 }
 
 /// The target of a request of HTTP, without the part after a question mark.

@@ -10,18 +10,20 @@ use std::time::{self, Duration};
 /// The code of a login that opens a session.
 const COMPLETED: u16 = 1_000;
 
-/// Writes what a program's log counted, and how many connections wait.
+/// Writes what a program's log counted, how many connections wait, and how long the log of its database is.
 pub fn write_figures<M: time::Clock + Print>(
     alloc: Global,
     log: &Log<'_, M>,
     rooms: &Rooms<'_>,
+    log_bytes: u64,
     text: &mut String,
 ) -> Result<(), AllocError> {
     let counts = log.take_counts();
     let written = write_counts(alloc, &counts, text);
     log.keep_counts(counts);
     written?;
-    write_connections(alloc, log, rooms, text)
+    write_connections(alloc, log, rooms, text)?;
+    write_number(alloc, "tldreg_log_bytes", "gauge", log_bytes, text)
 }
 
 /// Writes how often each command was answered so.

@@ -4,7 +4,7 @@ use itoa::{Buffer, Integer};
 use std::alloc::{AllocError, Global};
 
 /// The most bytes of a text that a client sent.
-const MOST_TOLD: usize = 255;
+const MOST_SENT: usize = 255;
 
 /// A line that isn't ended yet.
 #[derive(Drop)]
@@ -13,9 +13,11 @@ pub(crate) struct Line {
 }
 
 impl Line {
-    /// A line of a moment.
-    pub fn at(alloc: Global, moment: &[u8]) -> Result<Line, AllocError> {
-        let mut bytes = Vec::from_slice(alloc, b"at=")?;
+    /// A line of a moment, in the memory of an earlier line.
+    pub fn at(memory: Vec<u8>, moment: &[u8]) -> Result<Line, AllocError> {
+        let mut bytes = memory;
+        bytes.clear();
+        bytes.extend_from_slice(b"at=")?;
         bytes.extend_from_slice(moment)?;
         Ok(Line { bytes })
     }
@@ -33,13 +35,15 @@ impl Line {
     }
 
     /// Adds a text that a client sent, of letters, digits and few signs, with a question mark for others.
-    pub fn told(&mut self, key: &str, bytes: &[u8]) -> Result<(), AllocError> {
-        self.bytes.extend_from_slice(key.as_bytes())?;
-        for byte in bytes.iter().take(MOST_TOLD) {
-            self.bytes.push(plain_of(*byte))?;
-        }
+    pub fn sent(&mut self, key: &str, bytes: &[u8]) -> Result<(), AllocError> {
         if bytes.is_empty() {
-            self.bytes.push(b'-')?;
+            return self.word(key, "-");
+        }
+        self.bytes.extend_from_slice(key.as_bytes())?;
+        let start = self.bytes.len();
+        self.bytes.extend_from_slice(front_of(bytes))?;
+        for byte in self.bytes[start..].iter_mut() {
+            *byte = plain_of(*byte);
         }
         Ok(())
     }
@@ -49,12 +53,22 @@ impl Line {
         self.bytes.push(b'\n')?;
         Ok(&self.bytes)
     }
+
+    /// The memory that it was made in.
+    pub fn into_memory(self) -> Vec<u8> {
+        self.bytes
+    }
+}
+
+/// So much of a text as a line has.
+fn front_of(bytes: &[u8]) -> &[u8] {
+    &bytes[..MOST_SENT.min(bytes.len())]
 }
 
 /// The same text as a string.
 pub(crate) fn plain(alloc: Global, bytes: &[u8]) -> Result<String, AllocError> {
     let mut text = String::new(alloc);
-    for byte in bytes.iter().take(MOST_TOLD) {
+    for byte in front_of(bytes).iter() {
         text.push(char::from(plain_of(*byte)))?;
     }
     if bytes.is_empty() {

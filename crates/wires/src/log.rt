@@ -1,6 +1,6 @@
 //! A log: a line for each command and for each connection, of what is asked and answered; and counts of these.
 
-use crate::asks::{Members, members_of, target_of};
+use crate::asks::{Members, is_word, members_of, target_of};
 use crate::counts::{Tally, count};
 use crate::line::Line;
 use crate::replies::{code_of, http_code_of, sv_trid_of};
@@ -56,6 +56,8 @@ pub struct Log<'l, M: time::Clock + Print> {
     /// The second of the last line, and the text of its moment.
     second: Cell<u64>,
     at: Cell<Vec<u8>>,
+    /// The memory that lines are made in.
+    line: Cell<Vec<u8>>,
     /// The frame or the head that came last, and who is logged in.
     asked: Cell<Vec<u8>>,
     registrar: Cell<Vec<u8>>,
@@ -80,6 +82,7 @@ impl<'l, M: time::Clock + Print> Log<'l, M> {
             began: Cell::new(Duration::ZERO),
             second: Cell::new(u64::MAX),
             at: Cell::new(Vec::new(alloc)),
+            line: Cell::new(Vec::new(alloc)),
             asked: Cell::new(Vec::new(alloc)),
             registrar: Cell::new(Vec::new(alloc)),
             counts: Cell::new(Vec::new(alloc)),
@@ -191,7 +194,7 @@ impl<'l, M: time::Clock + Print> Log<'l, M> {
         let code = code_of(reply);
         let sv_trid = sv_trid_of(reply);
         let command = word_of(members.cmd, COMMANDS);
-        self.log_in(&members, command, code)?;
+        self.log_in(&members, code)?;
         let told = Told {
             command,
             operation: word_of(members.op, OPERATIONS),
@@ -229,8 +232,8 @@ impl<'l, M: time::Clock + Print> Log<'l, M> {
     }
 
     /// Keeps who is logged in.
-    fn log_in(&self, members: &Members<'_>, command: &str, code: Option<u16>) -> io::Result<()> {
-        if command == "login" && code == Some(COMPLETED) {
+    fn log_in(&self, members: &Members<'_>, code: Option<u16>) -> io::Result<()> {
+        if code == Some(COMPLETED) && is_word(members.cmd, b"login") {
             self.registrar.set(Vec::from_slice(self.alloc, members.id)?);
         }
         Ok(())
@@ -241,34 +244,38 @@ impl<'l, M: time::Clock + Print> Log<'l, M> {
         line.word(" command=", told.command)?;
         line.word(" operation=", told.operation)?;
         line.word(" object=", told.object)?;
-        line.told(" name=", told.name)?;
+        line.sent(" name=", told.name)?;
         line.number(" code=", told.code.unwrap_or(0))?;
-        line.told(" svTRID=", told.sv_trid)?;
-        line.number(" us=", took.as_micros())?;
-        self.print(line.ended()?)
+        line.sent(" svTRID=", told.sv_trid)?;
+        line.number(" us=", micros_of(took))?;
+        self.print(line)
     }
 
     fn print_end(&self, how: &str, took: Duration) -> io::Result<()> {
         let mut line = self.begin_line()?;
         line.number(" commands=", self.commands.get())?;
         line.word(" end=", how)?;
-        line.number(" us=", took.as_micros())?;
-        self.print(line.ended()?)
+        line.number(" us=", micros_of(took))?;
+        self.print(line)
     }
 
-    fn print(&self, text: &[u8]) -> io::Result<()> {
-        io::writer(self.machine).write_all(text)
+    /// Prints a line, and keeps its memory for the next one.
+    fn print(&self, line: Line) -> io::Result<()> {
+        let mut line = line;
+        let printed = io::writer(self.machine).write_all(line.ended()?);
+        self.line.set(line.into_memory());
+        printed
     }
 
     /// A line with the clock's moment, the connection and its registrar.
     fn begin_line(&self) -> io::Result<Line> {
         let at = self.moment()?;
-        let begun = Line::at(self.alloc, &at);
+        let begun = Line::at(self.line.replace(Vec::new(self.alloc)), &at);
         self.at.set(at);
         let mut line = begun?;
         line.number(" connection=", self.connection.get())?;
         let registrar = self.registrar.replace(Vec::new(self.alloc));
-        let told = line.told(" registrar=", &registrar);
+        let told = line.sent(" registrar=", &registrar);
         self.registrar.set(registrar);
         told?;
         Ok(line)
@@ -329,6 +336,11 @@ struct Told<'p> {
     sv_trid: &'p [u8],
 }
 
+/// How many microseconds something took.
+fn micros_of(took: Duration) -> u64 {
+    u64::try_from(took.as_micros()).unwrap_or(u64::MAX)
+}
+
 /// Whether the operator's port has such a target.
 fn is_office_target(target: &[u8]) -> bool {
     for known in OFFICE_TARGETS.iter() {
@@ -346,8 +358,11 @@ fn is_fault_of_form(code: Option<u16>) -> bool {
 
 /// One of some words, or that it is none of them.
 fn word_of(text: &[u8], words: &'static [&'static str]) -> &'static str {
+    if text.is_empty() {
+        return "-";
+    }
     for word in words.iter() {
-        if word.as_bytes() == text {
+        if is_word(text, word.as_bytes()) {
             return word;
         }
     }

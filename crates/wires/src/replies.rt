@@ -1,5 +1,7 @@
 //! What the bytes of a reply tell.
 
+use crate::asks::is_word;
+
 /// The text before a reply's code. No text of JSON holds it, since a quote in one is escaped.
 const CODE: &[u8] = b"\"code\":";
 
@@ -22,7 +24,9 @@ const TAIL: usize = 96;
 /// The code of a reply, where it has one: a greeting has none.
 pub(crate) fn code_of(reply: &[u8]) -> Option<u16> {
     let front = &reply[..FRONT.min(reply.len())];
-    let at = front.windows(CODE.len()).position(|part| part == CODE)?;
+    let at = front
+        .windows(CODE.len())
+        .position(|part| is_word(part, CODE))?;
     number_of(front.get(at.saturating_add(CODE.len())..)?, DIGITS)
 }
 
@@ -37,12 +41,10 @@ pub(crate) fn sv_trid_of(reply: &[u8]) -> &[u8] {
     let Some(texts) = tail.strip_suffix(END) else {
         return b"";
     };
-    let mut start = 0;
-    for (at, byte) in texts.iter().enumerate() {
-        if *byte == b'"' {
-            start = at.saturating_add(1);
-        }
-    }
+    let start = match texts.iter().rposition(|byte| *byte == b'"') {
+        Some(at) => at.saturating_add(1),
+        None => 0,
+    };
     texts.get(start..).unwrap_or(b"")
 }
 

@@ -8,8 +8,9 @@ use Rattle.states.specs.declared.readiness.Ready.TheVariants.{Empty, Used, Other
 use Rattle.sqltables.specs.Content.{Content, no_content}
 use Rattle.sqltables.specs.Meta.{Meta}
 use Rattle.sqltables.specs.inner.FirstTables.{first_number, first_registry}
-use Rattle.oldrows.specs.Stored.{OldState}
-use Rattle.oldrows.specs.inner.Stored.{old_contents}
+use Rattle.oldrows.specs.Stored.{Answers, OldState}
+use Rattle.oldrows.specs.inner.Stored.{IsLeftAs, IsSeenAs, IsShapedAs, old_contents}
+use Rattle.states.specs.States.{Has, Remains}
 
 -- the table `meta` has one row, and in it the number of that schema
 abbrev pub is_first : List Meta → Bool
@@ -17,21 +18,15 @@ is_first [] = false
 is_first (meta ∷ []) = int_eq meta.version first_number
 is_first (meta ∷ other ∷ more) = false
 
--- what is seen, by the tables alone
-abbrev pub IsSeenAs : Ready → Trees → Content → Type 0
-IsSeenAs Used trees content = content ≡ old_contents trees
-IsSeenAs Empty trees content = content ≡ no_content
-IsSeenAs Other trees content = content ≡ no_content
-
--- whether it has these tables
-abbrev pub IsShapedAs : Ready → Trees → Type 0
-IsShapedAs Used trees = IsSound first_registry trees
-IsShapedAs Empty trees = ⊥
-IsShapedAs Other trees = IsSound first_registry trees → ⊥
+-- each of these is what this database is
+abbrev pub AreOf : Trees → List (Remains Content) → Type 0
+AreOf trees leaves = (left : Remains Content) → Has leaves left → IsLeftAs left trees
 
 pub record IsSeen (trees : Trees) (s : OldState) : Type 0 where
   pub content : s.is_clean ≡ true → IsSeenAs s.readiness trees s.content
   pub shaped : s.is_clean ≡ true → IsShapedAs s.readiness trees
+  pub answers : Answers s
+  pub leaves : s.is_clean ≡ true → AreOf trees s.crash_leaves
 
 -- the rows are seen where they have the number
 abbrev pub IsTakenAs : Ready → Trees → Content → Type 0
@@ -48,3 +43,5 @@ IsKnownAs Other trees = IsSound first_registry trees → is_first (old_contents 
 pub record IsAdopted (trees : Trees) (s : OldState) : Type 0 where
   pub content : s.is_clean ≡ true → IsTakenAs s.readiness trees s.content
   pub known : s.is_clean ≡ true → IsKnownAs s.readiness trees
+  pub answers : Answers s
+  pub leaves : s.is_clean ≡ true → AreOf trees s.crash_leaves

@@ -4,7 +4,7 @@ use Rattle.sqlite_keyed.specs.Keyed.{insert_by}
 use Rattle.states.specs.declared.fault.BookFault.{BookFault}
 use Rattle.states.specs.States.{LeavesSame, StateOf, Stays}
 use Rattle.sqltables.specs.Content.{Content}
-use Rattle.oldrows.specs.Stored.{IsRead, OldState}
+use Rattle.oldrows.specs.Stored.{IsAsked, IsRead, OldState}
 use Rattle.oldrows.specs.inner.Tables.{Table, meta_table, account_table, contact_table, domain_table, host_table, address_table, link_table, line_table, message_table, transfer_table}
 use Rattle.oldrows.specs.declared.copying.TableName.{TableName}
 use Rattle.oldrows.specs.declared.copying.TableName.TheVariants.{Metas, Accounts, Contacts, Domains, Hosts, Addresses, Links, Lines, Messages, Transfers}
@@ -34,7 +34,7 @@ put_of_all tables from to = fold (λ c table. put_of table from c) to tables
 
 -- What is read of one is put into the other in this way, but for what is still to be put.
 pub record IsOnItsWay (put rest : Content → Content → Content) (from read : OldState) (to written : StateOf Content) : Type 0 where
-  pub reads : IsRead from read
+  pub asked : IsAsked from read
   pub clean : written.is_clean ≡ true → to.is_clean ≡ true
   pub before : written.is_clean ≡ true → written.before ≡ to.before
   pub opened : written.is_open ≡ true

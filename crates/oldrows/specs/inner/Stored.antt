@@ -1,16 +1,18 @@
 -- The tables of the schema before this one: those of today, without the lengths that are in force from a
 -- moment on, and without the ends of lines' graces.
-use Rattle.std.specs.Prelude.{◌≡◌, ◌&&◌, Bool, true, false, List, ℕ, [], map, IsTrue, if◌then◌else◌, Result, Ok, Err}
+use Rattle.std.specs.Prelude.{◌≡◌, ◌⊎◌, ◌&&◌, Bool, true, false, List, ℕ, [], map, IsTrue, if◌then◌else◌, Result, Ok, Err}
 use Rattle.sqlite_value.specs.Order.{Row}
+use Rattle.sqlite_catalog.specs.Listing.{IsSound}
 use Rattle.sqlite_trees.specs.Tree.{Trees}
 use Rattle.sqlite_sql.specs.Query.{Query, IsAnswer}
 use Rattle.sqlite_sql.specs.Program.{overlay}
 use Rattle.sqlite.specs.Effect.{Database}
 use Rattle.sqlite.specs.State.{State, HasCleanDisk}
 use Rattle.sqlrows.specs.inner.Layouts.{Holds, IsSelect}
+use Rattle.states.specs.States.{Has, Remains}
 use Rattle.states.specs.declared.fault.BookFault.{BookFault}
 use Rattle.states.specs.declared.readiness.Ready.{Ready}
-use Rattle.states.specs.declared.readiness.Ready.TheVariants.{Used, Other}
+use Rattle.states.specs.declared.readiness.Ready.TheVariants.{Empty, Used, Other}
 use Rattle.sqltables.specs.inner.FirstTables.{first_registry}
 use Rattle.sqltables.specs.Content.{Content, no_content}
 use Rattle.sqltables.specs.Decoding.{contents}
@@ -25,7 +27,7 @@ use Rattle.sqltables.specs.Link as link_table
 use Rattle.sqltables.specs.inner.Message as inner_message_table
 use Rattle.sqltables.specs.Transfer as transfer_table
 use Rattle.oldrows.specs.inner.Lines.{first_line_in, first_lines, without_end}
-use Rattle.oldrows.specs.Stored.{OldState, IsRead}
+use Rattle.oldrows.specs.Stored.{OldState, IsAsked, IsRead}
 
 -- the rows that a database holds
 abbrev pub old_contents : Trees → Content
@@ -66,16 +68,55 @@ rows_in is_there db = if is_there then old_contents db else no_content
 abbrev pub readiness_of : Bool → Ready
 readiness_of is_there = if is_there then Used else Other
 
-abbrev pub stands : Bool → State → OldState
-stands is_there s = record {
+-- what is seen, by the tables alone
+abbrev pub IsSeenAs : Ready → Trees → Content → Type 0
+IsSeenAs Used trees content = content ≡ old_contents trees
+IsSeenAs Empty trees content = content ≡ no_content
+IsSeenAs Other trees content = content ≡ no_content
+
+-- whether it has these tables
+abbrev pub IsShapedAs : Ready → Trees → Type 0
+IsShapedAs Used trees = IsSound first_registry trees
+IsShapedAs Empty trees = ⊥
+IsShapedAs Other trees = IsSound first_registry trees → ⊥
+
+-- what this database is, by its tables
+abbrev pub IsLeftAs : Remains Content → Trees → Type 0
+IsLeftAs left db = IsShapedAs left.readiness db × IsSeenAs left.readiness db left.content
+
+-- whatever a crash may leave is one of these
+abbrev pub Covers : List (Remains Content) → (Trees → Type 0) → Type 0
+Covers leaves may_leave =
+    (db : Trees) → may_leave db → (left : Remains Content) × Has leaves left × IsLeftAs left db
+
+-- both have these tables, with the same rows, or neither has them
+abbrev pub IsSameOld : Trees → Trees → Type 0
+IsSameOld was db = (left : Remains Content) × IsLeftAs left was × IsLeftAs left db
+
+-- of a database that was found a crash may leave that, or the same registry
+abbrev pub LeavesAlone : Trees → (Trees → Type 0) → Type 0
+LeavesAlone found may_leave = (db : Trees) → may_leave db → (db ≡ found) ⊎ IsSameOld found db
+
+-- what an opening finds of what is seen now
+abbrev pub left_in : Bool → State → Remains Content
+left_in is_there s = record { readiness = readiness_of is_there; content = rows_in is_there s.now.trees }
+
+-- the same of several
+abbrev pub leaves_of : {C : Type 0} → (C → State) → List (C × Bool) → List (Remains Content)
+leaves_of {C} state-of items = map (λ (it : C × Bool). left_in it.1 (state-of it.0)) items
+
+abbrev pub stands : Bool → State → List (Remains Content) → OldState
+stands is_there s leaves = record {
   content = rows_in is_there s.now.trees;
   is_clean = s.is_clean && s.is_open;
+  is_honest = s.is_clean;
   readiness = readiness_of is_there;
+  crash_leaves = leaves;
 }
 
 -- a question: this is the answer; whatever is answered, nothing is changed
 abbrev pub Finds : {A : Type 0} → Result A BookFault → A → OldState → OldState → Type 0
-Finds (Ok it) value old new = IsRead old new × (new.is_clean ≡ true → it ≡ value)
+Finds (Ok it) value old new = IsAsked old new × (new.is_clean ≡ true → it ≡ value)
 Finds (Err fault) value old new = IsRead old new
 
 -- no transaction is open, and each row is a record's
@@ -87,3 +128,7 @@ pub record Agrees (s : State) : Type 0 where
 -- while the disk is clean and the connection open
 abbrev pub Fits : Bool → State → Type 0
 Fits is_there s = HasCleanDisk s → IsTrue s.is_open → is_there ≡ true → Agrees s
+
+-- while the disk is clean, nothing but these may be left
+abbrev pub Guards : State → List (Remains Content) → Type 0
+Guards s leaves = HasCleanDisk s → Covers leaves s.may_leave

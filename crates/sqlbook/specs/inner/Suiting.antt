@@ -1,5 +1,10 @@
 -- Which days may be put down, and what is then.
-use Rattle.std.specs.Prelude.{◌≡◌, ◌⊎◌, true, [], Option, Some}
+use Rattle.std.specs.Prelude.{◌≡◌, ◌⊎◌, ℕ, min, true, [], Option, Some, option_map}
+use Rattle.calendar.specs.Moment.{capped}
+use Rattle.lifecycle.specs.Periods.{rules_with}
+use Rattle.lifecycle.specs.Phases.{purge_at}
+use Rattle.objects.specs.declared.domain.Deletion.{Deletion}
+use Rattle.objects.specs.declared.domain.Domain.{Domain}
 use Rattle.policy.specs.declared.schedule.Schedule.{Schedule}
 use Rattle.policy.specs.declared.terms.Terms.{Terms}
 use Rattle.books.specs.Book.{with_terms}
@@ -38,3 +43,11 @@ pub record IsSetDown (value : Terms) (old new : Content) : Type 0 where
 pub record IsSetOver (before : Option Schedule) (value : Terms) (old new : Content) : Type 0 where
   pub set : IsSetDown value old new
   pub ends : AreRedated before value.days new
+
+-- the earlier of two moments when a deleted domain is purged, by these days and by those
+abbrev pub earlier_purge : Schedule → Schedule → Deletion → ℕ
+earlier_purge days others x = min (capped (purge_at (rules_with days) x)) (capped (purge_at (rules_with others) x))
+
+-- none of a domain that isn't deleted
+abbrev pub earlier_end : Schedule → Schedule → Domain → Option ℕ
+earlier_end days others domain = option_map (earlier_purge days others) domain.deletion

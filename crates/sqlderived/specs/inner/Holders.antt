@@ -11,12 +11,12 @@ abbrev pub incoming_of : Option Transfer → Option ℕ
 incoming_of None = None
 incoming_of (Some t) = if is_pending_state t.state then Some t.requester else None
 
-abbrev pub parties_of : Domain → Holders
-parties_of d = record { sponsor = d.sponsor; incoming = incoming_of d.transfer }
+abbrev pub holders_of : Domain → Holders
+holders_of d = record { sponsor = d.sponsor; incoming = incoming_of d.transfer }
 
 -- those of a domain, if there is one
-abbrev pub maybe_parties_of : Option Domain → Option Holders
-maybe_parties_of d = option_map parties_of d
+abbrev pub maybe_holders_of : Option Domain → Option Holders
+maybe_holders_of d = option_map holders_of d
 
 abbrev pub is_among : ℕ → Holders → Bool
 is_among r p = (p.sponsor == r) || option_map_or (λ q. q == r) p.incoming false

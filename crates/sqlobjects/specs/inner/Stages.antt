@@ -2,7 +2,7 @@
 use Rattle.std.specs.Prelude.{◌≡◌, refl, ℕ, ℤ, true, false, List, [], ◌++◌, ◌∷◌, filter, Option, Some, None, IfSome, is_some, if◌then◌else◌, Result, Ok, Err}
 use Rattle.std.specs.Ordering.{int_eq}
 use Rattle.sqlite_keyed.specs.Keyed.{IsKeyedBy, insert_by, next_key}
-use Rattle.sqlite_keyed.specs.Lists.{delete_where}
+use Rattle.sqlite_keyed.specs.Lists.{delete_where, update_where}
 use Rattle.sqlite_rules.specs.Lists.{Has}
 use Rattle.sqlite_typed.specs.Tests.{bytes_eq}
 use Rattle.objects.specs.declared.contact.Contact.{Contact}
@@ -55,6 +55,7 @@ pub record NamedTable (R : Type 0) : Type 0 where
   pub numbered : R → ℤ → R
   pub rows : Content → List R
   pub with_rows : List R → Content → Content
+  pub itself : (row : R) → numbered row (key row) ≡ row
   pub number_is : (row : R) (id : ℤ) → key (numbered row id) ≡ id
   pub name_is : (row : R) (id : ℤ) → name (numbered row id) ≡ name row
   pub rows_are : (all : List R) (xs : Content) → rows (with_rows all xs) ≡ all
@@ -67,6 +68,7 @@ contacts = record {
   numbered = λ row id. record row { id = id };
   rows = λ xs. xs.contacts;
   with_rows = λ all xs. record xs { contacts = all };
+  itself = λ row. refl;
   number_is = λ row id. refl;
   name_is = λ row id. refl;
   rows_are = λ all xs. refl;
@@ -80,6 +82,7 @@ hosts = record {
   numbered = λ row id. record row { id = id };
   rows = λ xs. xs.hosts;
   with_rows = λ all xs. record xs { hosts = all };
+  itself = λ row. refl;
   number_is = λ row id. refl;
   name_is = λ row id. refl;
   rows_are = λ all xs. refl;
@@ -93,6 +96,7 @@ domains = record {
   numbered = λ row id. record row { id = id };
   rows = λ xs. xs.domains;
   with_rows = λ all xs. record xs { domains = all };
+  itself = λ row. refl;
   number_is = λ row id. refl;
   name_is = λ row id. refl;
   rows_are = λ all xs. refl;
@@ -103,9 +107,11 @@ domains = record {
 abbrev pub rows_named : {R : Type 0} → NamedTable R → List ℕ → Content → List R
 rows_named table n xs = filter (λ row. bytes_eq (table.name row) n) (table.rows xs)
 
--- with this row in the place of the one with its number, or after all others
-abbrev pub with_row : {R : Type 0} → NamedTable R → R → Content → Content
-with_row table row xs = table.with_rows (insert_by table.key (table.rows xs) row) xs
+-- with this row in the place of the one with its number, if there is one
+abbrev pub with_replaced : {R : Type 0} → NamedTable R → R → Content → Content
+with_replaced table row xs =
+    table.with_rows (update_where (λ it. int_eq (table.key it) (table.key row))
+    (λ it. table.numbered row (table.key it)) (table.rows xs)) xs
 
 -- with this row after the others, under a number of its own
 abbrev pub with_last : {R : Type 0} → NamedTable R → R → Content → Content

@@ -53,8 +53,8 @@ abbrev pub leaves_of : {C : Type 0} → (C → State) → List (C × Form) → L
 leaves_of {C} state-of items = map (λ (it : C × Form). left_in it.1 (state-of it.0)) items
 
 -- While a transaction is open, going back leads to the last commit.
-abbrev pub stands : Form → Bool → State → List (Remains Content) → StateOf Content
-stands form begun s leaves = record {
+abbrev pub store_state : Form → Bool → State → List (Remains Content) → StateOf Content
+store_state form begun s leaves = record {
   content = rows_in form s.now.trees;
   before = if begun then rows_in (undone form) s.committed.trees else rows_in form s.now.trees;
   is_open = begun;

@@ -12,6 +12,9 @@ meta_all = codes "SELECT id, version, clock, zone, reserved, days_add, days_auto
 abbrev pub meta_put : List ℕ
 meta_put = codes "INSERT INTO meta (id, version, clock, zone, reserved, days_add, days_auto_renew, days_renew, days_transfer, days_redemption, days_restore, days_pending_delete, days_answer, days_lock, price_create, price_renew, price_transfer) VALUES (?1, ?2, ?3, ?4, ?5, ?6, ?7, ?8, ?9, ?10, ?11, ?12, ?13, ?14, ?15, ?16, ?17) ON CONFLICT (id) DO UPDATE SET version = excluded.version, clock = excluded.clock, zone = excluded.zone, reserved = excluded.reserved, days_add = excluded.days_add, days_auto_renew = excluded.days_auto_renew, days_renew = excluded.days_renew, days_transfer = excluded.days_transfer, days_redemption = excluded.days_redemption, days_restore = excluded.days_restore, days_pending_delete = excluded.days_pending_delete, days_answer = excluded.days_answer, days_lock = excluded.days_lock, price_create = excluded.price_create, price_renew = excluded.price_renew, price_transfer = excluded.price_transfer"
 
+abbrev pub meta_replace : List ℕ
+meta_replace = codes "UPDATE meta SET version = ?2, clock = ?3, zone = ?4, reserved = ?5, days_add = ?6, days_auto_renew = ?7, days_renew = ?8, days_transfer = ?9, days_redemption = ?10, days_restore = ?11, days_pending_delete = ?12, days_answer = ?13, days_lock = ?14, price_create = ?15, price_renew = ?16, price_transfer = ?17 WHERE id = ?1"
+
 -- ---- account
 
 abbrev pub account_create : List ℕ
@@ -25,6 +28,9 @@ account_by_id = codes "SELECT id, ident, commands, messages, serial, waiting, ba
 
 abbrev pub account_put : List ℕ
 account_put = codes "INSERT INTO account (id, ident, commands, messages, serial, waiting, balance, held) VALUES (?1, ?2, ?3, ?4, ?5, ?6, ?7, ?8) ON CONFLICT (id) DO UPDATE SET ident = excluded.ident, commands = excluded.commands, messages = excluded.messages, serial = excluded.serial, waiting = excluded.waiting, balance = excluded.balance, held = excluded.held"
+
+abbrev pub account_replace : List ℕ
+account_replace = codes "UPDATE account SET ident = ?2, commands = ?3, messages = ?4, serial = ?5, waiting = ?6, balance = ?7, held = ?8 WHERE id = ?1"
 
 -- ---- contact
 
@@ -48,6 +54,9 @@ contact_by_sponsor_until_due = codes "SELECT id, name, creator, serial, sponsor,
 
 abbrev pub contact_put : List ℕ
 contact_put = codes "INSERT INTO contact (id, name, creator, serial, sponsor, created, transferred, updated, statuses, secret, postal_name, org, street, city, state, postal_code, country, voice, due, mail) VALUES (?1, ?2, ?3, ?4, ?5, ?6, ?7, ?8, ?9, ?10, ?11, ?12, ?13, ?14, ?15, ?16, ?17, ?18, ?19, ?20) ON CONFLICT (id) DO UPDATE SET name = excluded.name, creator = excluded.creator, serial = excluded.serial, sponsor = excluded.sponsor, created = excluded.created, transferred = excluded.transferred, updated = excluded.updated, statuses = excluded.statuses, secret = excluded.secret, postal_name = excluded.postal_name, org = excluded.org, street = excluded.street, city = excluded.city, state = excluded.state, postal_code = excluded.postal_code, country = excluded.country, voice = excluded.voice, due = excluded.due, mail = excluded.mail"
+
+abbrev pub contact_replace : List ℕ
+contact_replace = codes "UPDATE contact SET name = ?2, creator = ?3, serial = ?4, sponsor = ?5, created = ?6, transferred = ?7, updated = ?8, statuses = ?9, secret = ?10, postal_name = ?11, org = ?12, street = ?13, city = ?14, state = ?15, postal_code = ?16, country = ?17, voice = ?18, due = ?19, mail = ?20 WHERE id = ?1"
 
 abbrev pub contact_append : List ℕ
 contact_append = codes "INSERT INTO contact (name, creator, serial, sponsor, created, transferred, updated, statuses, secret, postal_name, org, street, city, state, postal_code, country, voice, due, mail) VALUES (?1, ?2, ?3, ?4, ?5, ?6, ?7, ?8, ?9, ?10, ?11, ?12, ?13, ?14, ?15, ?16, ?17, ?18, ?19)"
@@ -90,6 +99,9 @@ domain_by_roid = codes "SELECT id, name, creator, serial, sponsor, created, year
 abbrev pub domain_put : List ℕ
 domain_put = codes "INSERT INTO domain (id, name, creator, serial, sponsor, created, years, transferred, updated, statuses, secret, registrant, deleted, restore_requested, due) VALUES (?1, ?2, ?3, ?4, ?5, ?6, ?7, ?8, ?9, ?10, ?11, ?12, ?13, ?14, ?15) ON CONFLICT (id) DO UPDATE SET name = excluded.name, creator = excluded.creator, serial = excluded.serial, sponsor = excluded.sponsor, created = excluded.created, years = excluded.years, transferred = excluded.transferred, updated = excluded.updated, statuses = excluded.statuses, secret = excluded.secret, registrant = excluded.registrant, deleted = excluded.deleted, restore_requested = excluded.restore_requested, due = excluded.due"
 
+abbrev pub domain_replace : List ℕ
+domain_replace = codes "UPDATE domain SET name = ?2, creator = ?3, serial = ?4, sponsor = ?5, created = ?6, years = ?7, transferred = ?8, updated = ?9, statuses = ?10, secret = ?11, registrant = ?12, deleted = ?13, restore_requested = ?14, due = ?15 WHERE id = ?1"
+
 abbrev pub domain_append : List ℕ
 domain_append = codes "INSERT INTO domain (name, creator, serial, sponsor, created, years, transferred, updated, statuses, secret, registrant, deleted, restore_requested, due) VALUES (?1, ?2, ?3, ?4, ?5, ?6, ?7, ?8, ?9, ?10, ?11, ?12, ?13, ?14)"
 
@@ -115,6 +127,9 @@ host_by_above = codes "SELECT id, name, creator, serial, above, external_sponsor
 
 abbrev pub host_put : List ℕ
 host_put = codes "INSERT INTO host (id, name, creator, serial, above, external_sponsor, sponsor, created, updated, statuses) VALUES (?1, ?2, ?3, ?4, ?5, ?6, ?7, ?8, ?9, ?10) ON CONFLICT (id) DO UPDATE SET name = excluded.name, creator = excluded.creator, serial = excluded.serial, above = excluded.above, external_sponsor = excluded.external_sponsor, sponsor = excluded.sponsor, created = excluded.created, updated = excluded.updated, statuses = excluded.statuses"
+
+abbrev pub host_replace : List ℕ
+host_replace = codes "UPDATE host SET name = ?2, creator = ?3, serial = ?4, above = ?5, external_sponsor = ?6, sponsor = ?7, created = ?8, updated = ?9, statuses = ?10 WHERE id = ?1"
 
 abbrev pub host_append : List ℕ
 host_append = codes "INSERT INTO host (name, creator, serial, above, external_sponsor, sponsor, created, updated, statuses) VALUES (?1, ?2, ?3, ?4, ?5, ?6, ?7, ?8, ?9)"
@@ -146,9 +161,6 @@ link_create = codes "CREATE TABLE link (id INTEGER PRIMARY KEY, domain INTEGER N
 
 abbrev pub link_by_domain : List ℕ
 link_by_domain = codes "SELECT id, domain, contact, host, role, due FROM link WHERE domain = ?1 ORDER BY id"
-
-abbrev pub link_by_host : List ℕ
-link_by_host = codes "SELECT id, domain, contact, host, role, due FROM link WHERE host = ?1 ORDER BY id"
 
 abbrev pub link_first_by_contact : List ℕ
 link_first_by_contact = codes "SELECT id, domain, contact, host, role, due FROM link WHERE contact = ?1 ORDER BY id LIMIT 1"

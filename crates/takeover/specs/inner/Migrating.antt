@@ -1,22 +1,22 @@
 -- A registry of the schema before this one, taken over.
-use Rattle.std.specs.Prelude.{◌≡◌, Bool, true, false, List, [], ◌∷◌, map, Result, Ok, Err}
+use Rattle.std.specs.Prelude.{◌≡◌, ◌⊎◌, Bool, true, false, List, [], ◌∷◌, map, Result, Ok, Err}
 use Rattle.oldrows.specs.declared.copying.TableName.{TableName}
 use Rattle.oldrows.specs.declared.copying.TableName.TheVariants.{Metas, Accounts, Contacts, Domains, Hosts, Addresses, Links, Messages, Transfers}
 use Rattle.oldrows.specs.inner.Copies.{IsLeft, put_all}
 use Rattle.oldrows.specs.Copies.{renumbered}
-use Rattle.oldrows.specs.Stored.{IsRead, OldState}
+use Rattle.oldrows.specs.Stored.{IsAsked, OldState}
 use Rattle.policy.specs.declared.schedule.Schedule.{Schedule}
 use Rattle.policy.specs.Rules.{PolicyRules}
 use Rattle.sqltables.specs.Content.{Content}
 use Rattle.sqltables.specs.inner.Content.{lines_to}
 use Rattle.sqltables.specs.Line.{lines}
 use Rattle.states.specs.declared.fault.BookFault.{BookFault}
-use Rattle.states.specs.declared.readiness.Ready.TheVariants.{Empty, Used}
-use Rattle.states.specs.States.{Closes, Fails, Keeps, LeavesSame, Reads, StateOf}
+use Rattle.states.specs.declared.readiness.Ready.TheVariants.{Used}
+use Rattle.states.specs.States.{Closes, Has, Keeps, LeavesSame, Reads, Remains, Starts, StateOf, holding}
 use Rattle.takeover.specs.declared.migrating.MigrateFault.{MigrateFault}
 use Rattle.takeover.specs.declared.migrating.MigrateFault.TheVariants.{Policy, Schema, Memory, Store}
 use Rattle.sqlbook.specs.Meaning.{are_right, stored_of}
-use Rattle.takeover.specs.Migrating.{fault_of, numbered_anew, ended, suits, redated}
+use Rattle.takeover.specs.Migrating.{AreThere, fault_of, numbered_anew, ended, suits, redated}
 
 -- the same rows as today's tables have them
 abbrev pub taken : Schedule → Content → Content
@@ -35,7 +35,7 @@ put_lines days from = lines_to (put_all lines.key (ended days from.lines))
 
 -- in the open transaction a registry was taken over
 pub record IsTakenOver (p : PolicyRules) (from read : OldState) (to written : StateOf Content) : Type 0 where
-  pub reads : IsRead from read
+  pub asked : IsAsked from read
   pub clean : written.is_clean ≡ true → to.is_clean ≡ true
   pub before : written.is_clean ≡ true → written.before ≡ to.before
   pub opened : written.is_open ≡ true
@@ -51,7 +51,7 @@ pub record IsTakenOver (p : PolicyRules) (from read : OldState) (to written : St
 
 -- in the open transaction it was seen that the policy doesn't suit
 pub record IsRefused (p : PolicyRules) (from read : OldState) (to written : StateOf Content) : Type 0 where
-  pub reads : IsRead from read
+  pub asked : IsAsked from read
   pub clean : written.is_clean ≡ true → to.is_clean ≡ true
   pub before : written.is_clean ≡ true → written.before ≡ to.before
   pub leaves : LeavesSame to written
@@ -66,12 +66,27 @@ TakesOver (Err fault) p from read to written = IsLeft from read to written
 
 -- ---- how the transaction ends
 
+-- What was held isn't kept: all is undone, but a crash may leave it too. What keeps it answered until then.
+pub record IsUnkept {X : Type 0} (old new : StateOf X) : Type 0 where
+  pub clean : new.is_clean ≡ true → old.is_clean ≡ true
+  pub closed : new.is_open ≡ false
+  pub content : new.is_clean ≡ true → new.content ≡ old.before
+  pub honest : new.is_honest ≡ true → old.is_honest ≡ true
+  pub answered : new.is_honest ≡ true → old.is_clean ≡ true
+  pub leaves : (left : Remains X) → Has new.crash_leaves left → Has old.crash_leaves left ⊎ (left ≡ holding old.content)
+  pub ready : new.readiness ≡ old.readiness
+
+-- It is kept, or not.
+abbrev pub IsKept : {A X : Type 0} → Result A BookFault → StateOf X → StateOf X → Type 0
+IsKept (Ok done) old new = Keeps old new
+IsKept (Err fault) old new = IsUnkept old new
+
 -- What was taken over is kept, or a commit of it failed; else all is undone.
 abbrev pub EndsAs : {A : Type 0} → Result A MigrateFault → Result Bool BookFault → StateOf Content
     → StateOf Content → Type 0
 EndsAs (Ok done) (Ok true) old new = Keeps old new
-EndsAs (Err Memory) (Ok true) old new = Fails old new
-EndsAs (Err Store) (Ok true) old new = Fails old new
+EndsAs (Err Memory) (Ok true) old new = IsUnkept old new
+EndsAs (Err Store) (Ok true) old new = IsUnkept old new
 EndsAs (Err Policy) (Ok true) old new = ⊥
 EndsAs (Err Schema) (Ok true) old new = ⊥
 EndsAs (Ok done) (Ok false) old new = ⊥
@@ -81,14 +96,18 @@ EndsAs (Err fault) (Err why) old new = (fault ≡ fault_of why) × Closes old.be
 
 -- ---- what is said of the whole
 
--- whether there is something to take, and a place to put it
-pub record AreAsked (said : Bool) (from read : OldState) (to written : StateOf Content) : Type 0 where
-  pub reads : IsRead from read
-  pub back : Reads to written
-  pub other : said ≡ false → read.is_clean ≡ true → written.is_clean ≡ true
-      → ((from.readiness ≡ Used) × (to.readiness ≡ Empty)) → ⊥
+-- whether there is something to take, and a place to put it: exactly
+pub record AreAsked (said : Bool) (from : OldState) (to asked : StateOf Content) : Type 0 where
+  pub back : Reads to asked
+  pub source : said ≡ true → from.readiness ≡ Used
+  pub there : said ≡ true → asked.is_clean ≡ true → AreThere from to
+  pub other : said ≡ false → asked.is_clean ≡ true → AreThere from to → ⊥
 
-abbrev pub AreReady : Result Bool BookFault → OldState → OldState → StateOf Content
-    → StateOf Content → Type 0
-AreReady (Ok said) from read to written = AreAsked said from read to written
-AreReady (Err fault) from read to written = IsLeft from read to written
+abbrev pub AreReady : Result Bool BookFault → OldState → StateOf Content → StateOf Content → Type 0
+AreReady (Ok said) from to asked = AreAsked said from to asked
+AreReady (Err fault) from to asked = (from.readiness ≡ Used) × Closes to.before to asked
+
+-- a transaction was opened, or none is open
+abbrev pub IsBegun : {A X : Type 0} → Result A BookFault → StateOf X → StateOf X → Type 0
+IsBegun (Ok done) old new = Starts old new
+IsBegun (Err fault) old new = Closes old.before old new

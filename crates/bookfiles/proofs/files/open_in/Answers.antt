@@ -18,4 +18,4 @@ returns-in-Ok-clause-left g c =
 pub returns-in-Err-clause-left : goal.returns-in-Err-clause-left
 returns-in-Err-clause-left g c =
     gives-back (AreLeft (IsFresh true) (IsFresh false)) _ (λ cause store. IsClean (view store) → IsLeftAsFound (image_at g.S.Start) cause (recovers store)) _ never_for _
-    (λ left it. it) (λ cause store it. it) (λ fault book it. absurd it) c.in-Err.left c.in-Err.ensures.left
+    (λ fault left it. it) (λ cause store it. it) (λ fault book it. absurd it) c.in-Err.left c.in-Err.ensures.left

@@ -3,7 +3,7 @@ use Rattle.concerns.proofs.laws.orders_are_carried_out_as_now.Goals as goal
 
 pub returns : goal.returns
 returns c = record {
-  stands = object-now;
+  left = object-now;
   ordered = λ p o s is. (status-answer-now p o s is, status-effect-now p o s is);
   deposits = λ p id cents s. deposit-effect-now p s id cents;
 }

@@ -1,10 +1,10 @@
 use Rattle.std.proofs.Common.{ap, ◌∙◌}
 use Rattle.std.proofs.lemmas.Result.{IfOk-weaker}
 use Rattle.serde_json.specs.Written.{compact_text, has_float}
-use Rattle.eppreplies.proofs.Floats.{nobodys_plain}
+use Rattle.eppreplies.proofs.Floats.{anonymous_plain}
 use Rattle.eppreplies.proofs.session.anonymous_reply_bytes.Goals as goal
 
 pub returns : goal.returns
 returns c =
-    let value = c.in_ok-nobodys_value.ensures in
-    IfOk-weaker c.to_vec.result _ _ (λ bytes h. h (ap has_float value ∙ nobodys_plain c.args.cl_trid.now c.args.code) ∙ ap compact_text value) c.to_vec.ensures.text
+    let value = c.in_ok-anonymous_value.ensures in
+    IfOk-weaker c.to_vec.result _ _ (λ bytes h. h (ap has_float value ∙ anonymous_plain c.args.cl_trid.now c.args.code) ∙ ap compact_text value) c.to_vec.ensures.text

@@ -15,7 +15,7 @@ turns-preserved g c =
     let before = c.turns.invariant in
     let one = c.serve_public-registry.ensures in
     record {
-      served = one_more p q old between new before.policy before.served one.served;
+      served = one_more p q c.args.passwords.now old between new before.policy before.served one.served;
       follows = follows_on old between new before.follows one.follows;
       policy = one.policy ∙ before.policy;
     }

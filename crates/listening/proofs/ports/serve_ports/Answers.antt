@@ -16,7 +16,7 @@ turns-preserved g c =
     let before = c.turns.invariant in
     let one = c.serve_turn-registry.ensures in
     record {
-      served = one_more_turn p q credentials old between new before.policy before.served one.served;
+      served = one_more_turn p q c.args.passwords.now credentials old between new before.policy before.served one.served;
       follows = follows_on old between new before.follows one.follows;
       policy = one.policy ∙ before.policy;
     }

@@ -10,7 +10,7 @@ returns-then-not-begins_frame-clause-served g c =
     let buffer = c.read_to_fill.new.buffer in
     let one : length buffer ≡ 1 = search rules in
     let is : begins_frame (take c.in-Ok.count buffer) ≡ false = search rules in
-    serves_request _ input _ _ _ _ _ _ _ _ (decides false input rest c.in-Ok.count buffer one c.in-Ok.ensures.bytes c.in-Ok.ensures.end is)
+    serves_request _ _ input _ _ _ _ _ _ _ _ (decides false input rest c.in-Ok.count buffer one c.in-Ok.ensures.bytes c.in-Ok.ensures.end is)
     (subst (λ (o : Option (List ℕ)). Agrees input o) (sym c.chain.ensures.bytes) (given_back input rest (take c.in-Ok.count buffer) c.in-Ok.ensures.bytes)) c.serve_other.ensures.served
 
 pub returns-clause-served : goal.returns-clause-served
@@ -20,11 +20,11 @@ returns-clause-served g c =
     let buffer = c.read_to_fill.new.buffer in
     let one : length buffer ≡ 1 = search rules in
     let is : begins_frame (take c.in-Ok.count buffer) ≡ true = search rules in
-    serves_session _ input _ _ _ _ _ _ _ _ (decides true input rest c.in-Ok.count buffer one c.in-Ok.ensures.bytes c.in-Ok.ensures.end is)
+    serves_session _ _ input _ _ _ _ _ _ _ _ (decides true input rest c.in-Ok.count buffer one c.in-Ok.ensures.bytes c.in-Ok.ensures.end is)
     (subst (λ (o : Option (List ℕ)). Agrees input o) (sym c.chain-2.ensures.bytes) (given_back input rest (take c.in-Ok.count buffer) c.in-Ok.ensures.bytes)) c.serve_epp.ensures.served
 
 pub returns-then-not-begins_frame-clause-follows : goal.returns-then-not-begins_frame-clause-follows
-returns-then-not-begins_frame-clause-follows g c = connection_follows _ _ _ _ _ _ _ _ _ (returns-then-not-begins_frame-clause-served g c)
+returns-then-not-begins_frame-clause-follows g c = connection_follows _ _ _ _ _ _ _ _ _ _ (returns-then-not-begins_frame-clause-served g c)
 
 pub returns-clause-follows : goal.returns-clause-follows
-returns-clause-follows g c = connection_follows _ _ _ _ _ _ _ _ _ (returns-clause-served g c)
+returns-clause-follows g c = connection_follows _ _ _ _ _ _ _ _ _ _ (returns-clause-served g c)

@@ -7,7 +7,7 @@ use Rattle.objects.specs.declared.zone.ZoneData.{ZoneData}
 use Rattle.policy.specs.Rules.{PolicyRules}
 use Rattle.registry.specs.Faces.{LooksUp}
 use Rattle.streams.proofs.MoveLemmas.{OnErr-from}
-use Rattle.server.specs.HandOver.{text_of, zone_at}
+use Rattle.server.specs.ZoneExport.{text_of, zone_at}
 use Rattle.books.specs.Book.{BookState}
 use Rattle.zonefile.specs.ZoneText.{AppendsBeginning}
 use Rattle.server.proofs.HttpLemmas.{passes_by}

@@ -13,5 +13,5 @@ returns g c =
       found.0,
       λ clean.
           c.in_ok-lines.ensures {u = tt} ∙ ap (λ rows. bag_of in_order (filter_map line_in rows)) (c.as_slice.ensures ∙ found.1 clean)
-          ∙ sym (lines-there c.args.store.now.content c.args.registrar (subst IsWhole (found.0.content clean) (c.whole.ensures clean)) c.in_ok-rows.ensures.place),
+          ∙ sym (lines-there c.args.store.now.content c.args.registrar (subst IsWhole (found.0.content clean) (c.show_whole.ensures clean)) c.in_ok-rows.ensures.place),
     )

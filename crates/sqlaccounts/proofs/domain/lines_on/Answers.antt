@@ -13,5 +13,5 @@ returns g c =
       found.0,
       λ clean.
           c.in_ok-lines.ensures {u = tt} ∙ ap (λ rows. bag_of in_order (filter_map line_in rows)) (c.as_slice.ensures ∙ found.1 clean)
-          ∙ lines-read c.args.store.now.content c.args.registrar c.args.roid.now (subst IsWhole (found.0.content clean) (c.whole.ensures clean)) c.in_ok-rows.ensures.place c.in_ok-rows.ensures.domain,
+          ∙ lines-read c.args.store.now.content c.args.registrar c.args.roid.now (subst IsWhole (found.0.content clean) (c.show_whole.ensures clean)) c.in_ok-rows.ensures.place c.in_ok-rows.ensures.domain,
     )

@@ -24,4 +24,4 @@ returns g c =
     let f = c.in-Some.row in
     then-made (λ xs. accounts_to (λ rows. insert_by accounts.key rows new) (messages_to (delete_where (message_with_id f.id)) xs)) _
     c.args.store.now c.look.new.store c.remove.new.store e.0 (c.in_ok-remove.ensures {u = tt})
-    (λ clean. taken c.args.store.now.content c.args.registrar c.args.message c.in_ok-account.field-0 (e.1 clean) (subst IsWhole (e.0.content clean) (c.whole.ensures clean)) f (c.in_ok-row.ensures {u = tt} ∙ ap rows_of c.in-Some.is) new c.in_ok-account-2.ensures.less)
+    (λ clean. taken c.args.store.now.content c.args.registrar c.args.message c.in_ok-account.field-0 (e.1 clean) (subst IsWhole (e.0.content clean) (c.show_whole.ensures clean)) f (c.in_ok-row.ensures {u = tt} ∙ ap rows_of c.in-Some.is) new c.in_ok-account-2.ensures.less)

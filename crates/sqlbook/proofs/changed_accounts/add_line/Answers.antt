@@ -16,4 +16,4 @@ returns g c =
     let asked = c.in_ok-days.ensures.found in
     let added = c.in_ok-add_line.ensures {u = tt} in
     let made = asked-then way way old c.days.new.store new asked.0 added (λ e it. it) in
-    alters {A = Unit {0}} (Ok tt) (IsChange c.args.registrar (with_lines (add in_order c.args.line))) _ old new made (λ clean it. (account-changed c.args.registrar (with_lines (add in_order c.args.line)) old.content new.content (c.whole.ensures (made.clean clean)) (c.whole-2.ensures clean) it, right-kept c.args.registrar (with_lines (add in_order c.args.line)) old.content new.content (c.whole.ensures (made.clean clean)) (c.whole-2.ensures clean) it))
+    alters {A = Unit {0}} (Ok tt) (IsChange c.args.registrar (with_lines (add in_order c.args.line))) _ old new made (λ clean it. (account-changed c.args.registrar (with_lines (add in_order c.args.line)) old.content new.content (c.show_whole.ensures (made.clean clean)) (c.show_whole-2.ensures clean) it, right-kept c.args.registrar (with_lines (add in_order c.args.line)) old.content new.content (c.show_whole.ensures (made.clean clean)) (c.show_whole-2.ensures clean) it))

@@ -14,4 +14,4 @@ returns g c =
     let asked = c.in_ok-domain.ensures in
     let made = c.in_ok-replaced.ensures {u = tt} in
     asked-then (IsReplaced name days (Some domain) due) MeansSame c.args.store.now c.domain.new.store c.replace-replaced.new.store asked.found.0 made
-    (λ e it. put-again name days domain due c.args.store.now.content c.replace-replaced.new.store.content it (sym (asked.found.1 (made.clean e)) ∙ c.in-Some.is) c.in-Some-earlier_end.ensures)
+    (λ e it. put-again name days domain due c.args.store.now.content c.replace-replaced.new.store.content it (sym (asked.found.1 (made.clean e)) ∙ c.in-Some.is) c.in-Some-earlier_end.ensures.bound)

@@ -11,6 +11,6 @@ returns-in-Some g c =
       found.0,
       λ clean right.
           ap (nat_le c.args.most)
-          (count-found c.args.store.now.content c.args.registrar c.in_ok-row.row c.in-Some.count (subst IsWhole (found.0.content clean) (c.whole.ensures clean)) c.in_ok-row.ensures.place (found.1 clean) right
+          (count-found c.args.store.now.content c.args.registrar c.in_ok-row.row c.in-Some.count (subst IsWhole (found.0.content clean) (c.show_whole.ensures clean)) c.in_ok-row.ensures.place (found.1 clean) right
           (ap exact_in (sym c.held_in.ensures ∙ sym (to_z-of_z fits)) ∙ sym c.in-Some.ensures.value)),
     )

@@ -29,11 +29,11 @@ returns g c =
     let is_new = c.is_none-is_new.result in
     let placed = asked-then (λ a m. IsWhole a → rows_named domains d.name a ≡ rows_of found → IsDomainPlaced d beside row a m)
     (λ a m. IsWhole m × (IsWhole a → rows_named domains d.name a ≡ rows_of found → IsDomainPlaced d beside row a m)) old old middle (reads-same old) c.in_ok-row.ensures
-    (λ clean step. (c.whole-2.ensures clean, step)) in
+    (λ clean step. (c.show_whole-2.ensures clean, step)) in
     became-whole (λ a m. IsWhole m × (IsWhole a → rows_named domains d.name a ≡ rows_of found → IsDomainPlaced d beside row a m))
     (λ m e. (is_new ≡ true → HasNoParts row.id m) → ArePartsPut row.id row.due d m e)
     (λ a e. rows_named domains d.name a ≡ rows_of found → contact_name a beside.registrant ≡ Some d.links.registrant → IsDomainPut d.name (Some d) (Some beside.due) a e) IsWhole old middle new
-    placed (c.in_ok-put_parts.ensures {u = tt}) c.whole.ensures c.whole-3.ensures
+    placed (c.in_ok-put_parts.ensures {u = tt}) c.show_whole.ensures c.show_whole-3.ensures
     (λ whole after first second rows registrant.
     let there = first.1 whole rows in
     let parts = second (λ e. no-parts old.content middle.content beside d row whole first.0 there (rows ∙ none-found found is_new c.is_none-is_new.ensures e)) in

@@ -18,5 +18,5 @@ returns g c =
     let contact = c.args.contact.now in
     let row = c.in_ok-row.row in
     became-whole (λ a b. IsWhole a → IsContactPlaced contact row a b) (IsTransferPut (transferable.Contact row.id) contact.transfer) (IsContactPut contact.name (Some contact)) IsWhole old middle new
-    c.in_ok-row.ensures (subst (λ (it : Transferable). HasChanged (IsTransferPut it contact.transfer) middle new) c.of_contact.ensures (c.in_ok-put_transfer.ensures {u = tt})) c.whole.ensures c.whole-2.ensures
+    c.in_ok-row.ensures (subst (λ (it : Transferable). HasChanged (IsTransferPut it contact.transfer) middle new) c.of_contact.ensures (c.in_ok-put_transfer.ensures {u = tt})) c.show_whole.ensures c.show_whole-2.ensures
     (λ whole after placed with. contact-put old.content middle.content new.content contact row whole after (c.is_contact.ensures.0 c.if-not-is_contact.false) (placed whole) with)

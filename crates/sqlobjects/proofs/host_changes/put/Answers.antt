@@ -16,5 +16,5 @@ returns g c =
     let host = c.args.host.now in
     let row = c.in_ok-row.row in
     became-whole (IsHostPlacedRight host row) (AreAddressesPut row.id host.addresses) (IsHostPut host.name (Some host)) IsWhole old middle new
-    c.in_ok-row.ensures (subst (λ texts. HasChanged (AreAddressesPut row.id texts) middle new) c.as_slice.ensures (c.in_ok-put_addresses.ensures {u = tt})) c.whole.ensures c.whole-2.ensures
+    c.in_ok-row.ensures (subst (λ texts. HasChanged (AreAddressesPut row.id texts) middle new) c.as_slice.ensures (c.in_ok-put_addresses.ensures {u = tt})) c.show_whole.ensures c.show_whole-2.ensures
     (λ whole after placed with. host-put old.content middle.content new.content host row whole after (c.is_host.ensures.0 c.if-not-is_host.false) (found-right old.content host.name placed.found placed.was) (placed.placed whole) with)

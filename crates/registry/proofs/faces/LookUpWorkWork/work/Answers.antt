@@ -20,5 +20,5 @@ returns g c =
     let is = subst (λ (what : Extent). IsPassed p what moment old.content.registry
     mid.content.registry c.in_ok-pass.field-0) c.scope.ensures (c.in_ok-pass.ensures.1 clean) in
     looked-up p find what moment c.in_ok-pass.field-0 old.content.registry
-    mid.content.registry is (g.L.LookUp.stands it p mid.content.registry is.settled))
+    mid.content.registry is (g.L.LookUp.is_as_now it p mid.content.registry is.settled))
     c.look.ensures

@@ -15,5 +15,5 @@ returns-clause-keeps g c =
     let old = g.B.Book.state c.args.self.now.book in
     let new = g.B.Book.state c.transact.new.self.book in
     let p = c.args.self.now.policy in
-    call_kept p c.args.self.now.sound c.args.moment (taken c.is_late.result c.args.moment c.is_late.ensures c.if-is_late.false) (command c.args.caller c.args.command.now) (c.requires, c.can_be_asked.ensures) reply (Makes (IsStep p c.args.caller c.args.command.now c.args.moment))
+    call_kept p c.args.self.now.sound c.args.moment (taken c.is_late.result c.args.moment c.is_late.ensures c.if-is_late.false) (command c.args.caller c.args.command.now) (c.requires, c.show_can_be_asked.ensures) reply (Makes (IsStep p c.args.caller c.args.command.now c.args.moment))
     c.transact.result c.transact.new.self.policy old new c.args.self.now.kept c.transact.ensures.keeps (command_answered _ p c.args.moment old.content.registry new.content.registry c.transact.result c.args.caller c.args.command.now c.transact.ensures.step)

@@ -4,7 +4,7 @@ use Rattle.sqlite.specs.State.{HasCleanDisk}
 use Rattle.sqlite.specs.Values.{bound}
 use Rattle.sqltables.specs.Content.{Content}
 use Rattle.states.specs.States.{Finds, Stays, StateOf}
-use Rattle.sqltables.specs.inner.Stored.{Fits, leaves_of, stands}
+use Rattle.sqltables.specs.inner.Stored.{Fits, leaves_of, store_state}
 use Rattle.sqltables.specs.declared.form.Form.{Form}
 use Rattle.sqltables.proofs.AnswerLemmas.{recalled}
 use Rattle.sqltables.proofs.AskingLemmas.{asked, fits-shown, left-by-query, left-open, nothing-committed, recalls-shown, same-if}
@@ -83,7 +83,7 @@ returns-in-Ok g c f asks =
     let rows = sym c.has_rows.ensures ∙ c.if-not-has_rows.false in
     let it = asked c.args.tree g.R.Record.shown sql params form begun old new _ leaves c.query_all.ensures.survives c.self.invariant.0 rows f asks _ c.in-Ok.ensures.ok c.read_all-found.result
     (λ xs e. c.read_all-found.ensures xs (c.deref.ensures.value ∙ e)) in
-    subst (λ (s : StateOf Content). Finds c.read_all-found.result (f s.content) s (stands form begun new leaves)) c.self.view_is it
+    subst (λ (s : StateOf Content). Finds c.read_all-found.result (f s.content) s (store_state form begun new leaves)) c.self.view_is it
 
 pub returns-after-is_autocommit : goal.returns-after-is_autocommit
 returns-after-is_autocommit g c f asks =
@@ -97,9 +97,9 @@ returns-after-is_autocommit g c f asks =
     let rows = sym c.has_rows.ensures ∙ c.if-not-has_rows.false in
     let left = left-by-query sql params form begun old new _ c.query_all.ensures.survives c.self.invariant.0 rows c.requires.plain c.in-Err.error c.in-Err.ensures.err in
     subst (λ (s : StateOf Content). Stays s c.if-is_autocommit.self) c.self.view_is (elim c.if-is_autocommit.branch [
-      | then-is_autocommit w ↦ subst (λ (s : StateOf Content). Stays (stands form begun old leaves) s) (sym w.self-is)
-          (subst (λ (f : Form). Stays (stands form begun old leaves) (stands f false new leaves)) (sym w.undone-self-inside.ensures) (stays-idle form begun old new c.is_autocommit.result c.is_autocommit.ensures.value _ c.query_all.ensures.survives leaves left w.if-is_autocommit.true))
-      | else-is_autocommit w ↦ subst (λ (s : StateOf Content). Stays (stands form begun old leaves) s) (sym w.self-is)
+      | then-is_autocommit w ↦ subst (λ (s : StateOf Content). Stays (store_state form begun old leaves) s) (sym w.self-is)
+          (subst (λ (f : Form). Stays (store_state form begun old leaves) (store_state f false new leaves)) (sym w.undone-self-inside.ensures) (stays-idle form begun old new c.is_autocommit.result c.is_autocommit.ensures.value _ c.query_all.ensures.survives leaves left w.if-is_autocommit.true))
+      | else-is_autocommit w ↦ subst (λ (s : StateOf Content). Stays (store_state form begun old leaves) s) (sym w.self-is)
           (stays-held form begun old new c.is_autocommit.result c.is_autocommit.ensures.value _ c.query_all.ensures.survives leaves left w.if-is_autocommit.false)
     ])
 

@@ -2,7 +2,7 @@ use Rattle.std.proofs.Common.{false, sym, subst, true≢false}
 use Rattle.sqlite.specs.Held.{state}
 use Rattle.sqltables.specs.Content.{Content}
 use Rattle.states.specs.States.{Closes, StateOf}
-use Rattle.sqltables.specs.inner.Stored.{Fits, leaves_of, stands}
+use Rattle.sqltables.specs.inner.Stored.{Fits, leaves_of, store_state}
 use Rattle.sqltables.specs.declared.form.Form.{Form}
 use Rattle.sqltables.proofs.StandingLemmas.{guards-on, leaves-no-more}
 use Rattle.sqltables.proofs.TurningLemmas.{closes-back, fits-back}
@@ -24,6 +24,6 @@ returns g c =
     let new = state g.S.Store c.rollback.new.conn in
     let leaves = leaves_of (state g.S.Store) c.self.inside.left.items in
     let it = closes-back (state g.S.Store) c.self.inside.form c.self.inside.begun c.self.inside.conn c.rollback.new.conn _ c.rollback.ensures.crash c.self.invariant.0 c.rollback.ensures.does leaves in
-    let was = stands c.self.inside.form c.self.inside.begun (state g.S.Store c.self.inside.conn) leaves in
-    subst (λ (s : StateOf Content). Closes s.before s (stands c.undone-self-inside.result false new leaves)) c.self.view_is
-    (subst (λ (f : Form). Closes was.before was (stands f false new leaves)) (sym c.undone-self-inside.ensures) it)
+    let was = store_state c.self.inside.form c.self.inside.begun (state g.S.Store c.self.inside.conn) leaves in
+    subst (λ (s : StateOf Content). Closes s.before s (store_state c.undone-self-inside.result false new leaves)) c.self.view_is
+    (subst (λ (f : Form). Closes was.before was (store_state f false new leaves)) (sym c.undone-self-inside.ensures) it)

@@ -3,7 +3,7 @@ use Rattle.sqlite.specs.Held.{state}
 use Rattle.sqltables.specs.Content.{Content}
 use Rattle.states.specs.States.{Starts, Stays, StateOf}
 use Rattle.sqlrows.proofs.TransactionLemmas.{begin_leaves}
-use Rattle.sqltables.specs.inner.Stored.{Fits, Guards, leaves_of, stands}
+use Rattle.sqltables.specs.inner.Stored.{Fits, Guards, leaves_of, store_state}
 use Rattle.sqltables.proofs.StandingLemmas.{guards-on, leaves-no-more}
 use Rattle.sqltables.proofs.TurningLemmas.{fits-begun, fits-not-begun, guards-begun, starts, stays-not-begun}
 use Rattle.sqltables.proofs.base.Base.begin_as_is.Goals as goal
@@ -41,8 +41,8 @@ returns-in-Ok g c =
     let form = c.self.inside.form in
     let leaves = leaves_of (state g.S.Store) c.self.inside.left.items in
     let begun = ap (λ (s : StateOf Content). s.is_open) c.self.view_is ∙ c.requires in
-    let was = ap (λ (b : Bool). stands form b old leaves) (sym begun) ∙ c.self.view_is in
-    subst (λ (s : StateOf Content). Starts s (stands form true new leaves)) was
+    let was = ap (λ (b : Bool). store_state form b old leaves) (sym begun) ∙ c.self.view_is in
+    subst (λ (s : StateOf Content). Starts s (store_state form true new leaves)) was
     (starts form old new _ c.execute.ensures.survives leaves (subst (λ (b : Bool). Fits form b old) begun c.self.invariant.0) _ c.in-Ok.ensures.runs)
 
 pub returns-in-Err : goal.returns-in-Err
@@ -52,6 +52,6 @@ returns-in-Err g c =
     let form = c.self.inside.form in
     let leaves = leaves_of (state g.S.Store) c.self.inside.left.items in
     let begun = ap (λ (s : StateOf Content). s.is_open) c.self.view_is ∙ c.requires in
-    let was = ap (λ (b : Bool). stands form b old leaves) (sym begun) ∙ c.self.view_is in
+    let was = ap (λ (b : Bool). store_state form b old leaves) (sym begun) ∙ c.self.view_is in
     let it = stays-not-begun form old new _ c.execute.ensures.survives leaves (subst (λ (b : Bool). Fits form b old) begun c.self.invariant.0) c.in-Err.error c.in-Err.ensures.runs in
-    subst (λ (s : StateOf Content). Stays s (stands form c.self.inside.begun new leaves)) was (subst (λ (b : Bool). Stays (stands form false old leaves) (stands form b new leaves)) (sym begun) it)
+    subst (λ (s : StateOf Content). Stays s (store_state form c.self.inside.begun new leaves)) was (subst (λ (b : Bool). Stays (store_state form false old leaves) (store_state form b new leaves)) (sym begun) it)

@@ -3,7 +3,7 @@ use Rattle.sqlite.specs.Held.{state}
 use Rattle.sqlrows.proofs.TransactionLemmas.{commit_leaves}
 use Rattle.sqltables.specs.Content.{Content}
 use Rattle.states.specs.States.{Fails, Keeps, Remains, StateOf, holding}
-use Rattle.sqltables.specs.inner.Stored.{Fits, Guards, committed, leaves_of, left_in, stands}
+use Rattle.sqltables.specs.inner.Stored.{Fits, Guards, committed, leaves_of, left_in, store_state}
 use Rattle.sqltables.specs.declared.form.Form.{Form}
 use Rattle.sqltables.proofs.StandingLemmas.{honest}
 use Rattle.sqltables.proofs.TurningLemmas.{fails, fits-committed, fits-not-committed, guards-committed, guards-failed, holding-it, keeps, noted-alone, noted-more}
@@ -67,12 +67,12 @@ returns-in-Ok-clause-ends g c =
     let rows = sym c.has_rows.ensures ∙ c.if-not-has_rows.false in
     let begun = ap (λ (s : StateOf Content). s.is_open) c.self.view_is ∙ c.requires in
     let fits = subst (λ (b : Bool). Fits form b old) begun c.self.invariant.0 in
-    let was = ap (λ (b : Bool). stands form b old leaves) (sym begun) ∙ c.self.view_is in
+    let was = ap (λ (b : Bool). store_state form b old leaves) (sym begun) ∙ c.self.view_is in
     let alone = noted-alone (state g.S.Store) c.new.result.items c.and-kept.result.items c.self.inside.conn c.committed-made.result (committed form) c.new.ensures c.and-kept.ensures c.committed-made.ensures in
     let it = keeps form old new _ c.execute.ensures.survives leaves fits _ c.in-Ok.ensures.runs rows in
-    subst (λ (s : StateOf Content). Keeps s (stands c.committed-made.result false new (leaves_of (state g.S.Store) c.and-kept.result.items))) was
-    (subst (λ (l : List (Remains Content)). Keeps (stands form true old leaves) (stands c.committed-made.result false new l)) (sym alone)
-    (subst (λ (f : Form). Keeps (stands form true old leaves) (stands f false new (left_in (committed form) old ∷ []))) (sym c.committed-made.ensures) it))
+    subst (λ (s : StateOf Content). Keeps s (store_state c.committed-made.result false new (leaves_of (state g.S.Store) c.and-kept.result.items))) was
+    (subst (λ (l : List (Remains Content)). Keeps (store_state form true old leaves) (store_state c.committed-made.result false new l)) (sym alone)
+    (subst (λ (f : Form). Keeps (store_state form true old leaves) (store_state f false new (left_in (committed form) old ∷ []))) (sym c.committed-made.ensures) it))
 
 pub returns-in-Err-clause-ends : goal.returns-in-Err-clause-ends
 returns-in-Err-clause-ends g c =
@@ -84,12 +84,12 @@ returns-in-Err-clause-ends g c =
     let begun = ap (λ (s : StateOf Content). s.is_open) c.self.view_is ∙ c.requires in
     let fits = subst (λ (b : Bool). Fits form b old) begun c.self.invariant.0 in
     let guards = subst (λ (b : Bool). Guards b old leaves) begun c.self.invariant.1 in
-    let was = ap (λ (b : Bool). stands form b old leaves) (sym begun) ∙ c.self.view_is in
+    let was = ap (λ (b : Bool). store_state form b old leaves) (sym begun) ∙ c.self.view_is in
     let more = noted-more (state g.S.Store) c.self.inside.left.items c.and-tried.result.items c.self.inside.conn c.committed-made.result (committed form) c.and-tried.ensures c.committed-made.ensures in
     let it = fails form old new _ c.execute.ensures.survives leaves fits c.in-Err.error c.in-Err.ensures.runs rows guards in
-    subst (λ (s : StateOf Content). Fails s (stands c.undone-self-inside.result false new (leaves_of (state g.S.Store) c.and-tried.result.items))) was
-    (subst (λ (l : List (Remains Content)). Fails (stands form true old leaves) (stands c.undone-self-inside.result false new l)) (sym more)
-    (subst (λ (f : Form). Fails (stands form true old leaves) (stands f false new (leaves ++ left_in (committed form) old ∷ []))) (sym c.undone-self-inside.ensures) it))
+    subst (λ (s : StateOf Content). Fails s (store_state c.undone-self-inside.result false new (leaves_of (state g.S.Store) c.and-tried.result.items))) was
+    (subst (λ (l : List (Remains Content)). Fails (store_state form true old leaves) (store_state c.undone-self-inside.result false new l)) (sym more)
+    (subst (λ (f : Form). Fails (store_state form true old leaves) (store_state f false new (leaves ++ left_in (committed form) old ∷ []))) (sym c.undone-self-inside.ensures) it))
 
 pub returns-in-Ok-clause-noted : goal.returns-in-Ok-clause-noted
 returns-in-Ok-clause-noted g c =

@@ -5,7 +5,7 @@ use Rattle.sqlrows.specs.inner.Calls.{Stands}
 use Rattle.sqltables.specs.Content.{Content}
 use Rattle.states.specs.declared.fault.BookFault.{BookFault}
 use Rattle.states.specs.States.{FindsSome, StateOf}
-use Rattle.sqltables.specs.inner.Stored.{Fits, leaves_of, stands}
+use Rattle.sqltables.specs.inner.Stored.{Fits, leaves_of, store_state}
 use Rattle.sqltables.proofs.StandingLemmas.{fits-looked, guards-on, honest, leaves-no-more, prepared, reads-same, stays-looked}
 use Rattle.sqltables.proofs.base.Base.look.Goals as goal
 use Rattle.sqltables.proofs.base.Base.look.Goals.{in-Ok, in-Err}
@@ -39,13 +39,13 @@ returns-clause-same g c =
     let idle = c.if-self.false in
     let stood : (HasCleanDisk new → Stands old new) = prepared _ old new c.args.sql.now c.prepare.result c.prepare.ensures.ok c.prepare.ensures.err in
     let fits = subst (λ (b : Bool). Fits form b old) idle c.self.invariant.0 in
-    let was = ap (λ (b : Bool). stands form b old leaves) (sym idle) ∙ c.self.view_is in
-    subst (λ (s : StateOf Content). FindsSome c.match-prepare.result (λ done. Unit {0}) s (stands form c.self.inside.begun new leaves)) was
-    (subst (λ (b : Bool). FindsSome c.match-prepare.result (λ done. Unit {0}) (stands form false old leaves) (stands form b new leaves)) (sym idle)
+    let was = ap (λ (b : Bool). store_state form b old leaves) (sym idle) ∙ c.self.view_is in
+    subst (λ (s : StateOf Content). FindsSome c.match-prepare.result (λ done. Unit {0}) s (store_state form c.self.inside.begun new leaves)) was
+    (subst (λ (b : Bool). FindsSome c.match-prepare.result (λ done. Unit {0}) (store_state form false old leaves) (store_state form b new leaves)) (sym idle)
     (elim c.match-prepare.branch [
-      | in-Ok w ↦ subst (λ (r : Result (Unit {0}) BookFault). FindsSome r (λ done. Unit {0}) (stands form false old leaves) (stands form false new leaves)) (sym w.result-is)
+      | in-Ok w ↦ subst (λ (r : Result (Unit {0}) BookFault). FindsSome r (λ done. Unit {0}) (store_state form false old leaves) (store_state form false new leaves)) (sym w.result-is)
           (reads-same form false old new _ leaves c.prepare.ensures.survives (λ clean. (w.in-Ok.ensures.ok clean).1), λ e. tt)
-      | in-Err w ↦ subst (λ (r : Result (Unit {0}) BookFault). FindsSome r (λ done. Unit {0}) (stands form false old leaves) (stands form false new leaves)) (sym w.result-is)
+      | in-Err w ↦ subst (λ (r : Result (Unit {0}) BookFault). FindsSome r (λ done. Unit {0}) (store_state form false old leaves) (store_state form false new leaves)) (sym w.result-is)
           (stays-looked form old new _ c.prepare.ensures.survives fits stood leaves)
     ]))
 

@@ -7,7 +7,7 @@ use Rattle.sqlrows.specs.inner.Definitions.{IsUndone}
 use Rattle.sqltables.specs.Content.{Content, no_content}
 use Rattle.sqltables.specs.inner.Content.{IsContent}
 use Rattle.states.specs.States.{Stays, StateOf, Writes}
-use Rattle.sqltables.specs.inner.Stored.{Agrees, Fits, Guards, leaves_of, stands}
+use Rattle.sqltables.specs.inner.Stored.{Agrees, Fits, Guards, leaves_of, store_state}
 use Rattle.sqltables.specs.declared.form.Form.{Form}
 use Rattle.sqltables.specs.declared.form.Form.TheVariants.{Unused, Making}
 use Rattle.sqltables.proofs.MakingLemmas.{back-or-same, fits-made, fits-unmade, guards-made, guards-unmade, makes-made, stays-unmade}
@@ -58,10 +58,10 @@ returns-in-Ok g c =
     let fits = subst₂ (λ (f : Form) (b : Bool). Fits f b old) c.in-Unused.is begun c.self.invariant.0 in
     let made : (HasCleanDisk mid → IsTrue old.is_open → Agrees Unused true old → IsContent no_content mid.now × calls.Stays old mid) =
     λ clean opened it. (c.in-Ok.ensures.empty it.bears.0 opened it.mode clean, (c.in-Ok.ensures.makes it.bears.0 opened it.mode clean).made.1) in
-    let was = ap (λ (f : Form). stands f true old leaves) (sym c.in-Unused.is) ∙ ap (λ (b : Bool). stands c.self.inside.form b old leaves) (sym begun) ∙ c.self.view_is in
+    let was = ap (λ (f : Form). store_state f true old leaves) (sym c.in-Unused.is) ∙ ap (λ (b : Bool). store_state c.self.inside.form b old leaves) (sym begun) ∙ c.self.view_is in
     let it = makes-made old mid _ c.create.ensures.steady fits c.create.ensures.opened leaves made in
-    subst (λ (s : StateOf Content). Writes s.content s (stands Making c.self.inside.begun mid leaves)) was
-    (subst (λ (b : Bool). Writes no_content (stands Unused true old leaves) (stands Making b mid leaves)) (sym begun) it)
+    subst (λ (s : StateOf Content). Writes s.content s (store_state Making c.self.inside.begun mid leaves)) was
+    (subst (λ (b : Bool). Writes no_content (store_state Unused true old leaves) (store_state Making b mid leaves)) (sym begun) it)
 
 pub returns-in-Err : goal.returns-in-Err
 returns-in-Err g c =
@@ -73,7 +73,7 @@ returns-in-Err g c =
     let fits = subst₂ (λ (f : Form) (b : Bool). Fits f b old) c.in-Unused.is begun c.self.invariant.0 in
     let failed : (HasCleanDisk mid → IsTrue old.is_open → Agrees Unused true old → calls.Stays old mid ⊎ IsUndone old mid) =
     λ clean opened it. (c.in-Err.ensures.makes it.bears.0 opened it.mode clean).err in
-    let was = ap (λ (f : Form). stands f true old leaves) (sym c.in-Unused.is) ∙ ap (λ (b : Bool). stands c.self.inside.form b old leaves) (sym begun) ∙ c.self.view_is in
+    let was = ap (λ (f : Form). store_state f true old leaves) (sym c.in-Unused.is) ∙ ap (λ (b : Bool). store_state c.self.inside.form b old leaves) (sym begun) ∙ c.self.view_is in
     let it = stays-unmade old mid _ c.create.ensures.steady fits c.create.ensures.opened leaves failed new _ c.rollback.ensures.crash (back-or-same (state g.S.Store) c.create.new.conn c.rollback.new.conn c.rollback.ensures.does) in
-    subst (λ (s : StateOf Content). Stays s (stands c.self.inside.form false new leaves)) was
-    (subst (λ (f : Form). Stays (stands Unused true old leaves) (stands f false new leaves)) (sym c.in-Unused.is) it)
+    subst (λ (s : StateOf Content). Stays s (store_state c.self.inside.form false new leaves)) was
+    (subst (λ (f : Form). Stays (store_state Unused true old leaves) (store_state f false new leaves)) (sym c.in-Unused.is) it)

@@ -3,7 +3,7 @@ use Rattle.sqlite.specs.Held.{state}
 use Rattle.states.specs.States.{Remains}
 use Rattle.sqltables.specs.inner.Adoption.{IsShown}
 use Rattle.sqltables.specs.Content.{Content}
-use Rattle.sqltables.specs.inner.Stored.{Guards, stands}
+use Rattle.sqltables.specs.inner.Stored.{Guards, store_state}
 use Rattle.sqltables.proofs.AdoptedLemmas.{fits_found, found-other, guards_found, shown}
 use Rattle.sqltables.proofs.TurningLemmas.{noted-alone}
 use Rattle.sqltables.proofs.base.Base.over.Goals as goal
@@ -23,7 +23,7 @@ returns-clause-shown g c trees same =
     let s = state g.S.Store c.args.conn in
     let form = c.in-Ok.form in
     let alone = noted-alone (state g.S.Store) c.new.result.items c.and-left.result.items c.args.conn form form c.new.ensures c.and-left.ensures refl in
-    subst (λ (l : List (Remains Content)). IsShown trees (stands form false s l)) (sym alone) (shown s form trees c.requires c.in-Ok.ensures same)
+    subst (λ (l : List (Remains Content)). IsShown trees (store_state form false s l)) (sym alone) (shown s form trees c.requires c.in-Ok.ensures same)
 
 pub returns-in-Err-clause-clean : goal.returns-in-Err-clause-clean
 returns-in-Err-clause-clean g c clean = omega (arith, c.into_store.ensures.quiet.clean, clean)

@@ -4,7 +4,7 @@ use Rattle.sqlite.specs.State.{HasCleanDisk}
 use Rattle.sqlite.specs.Values.{bound}
 use Rattle.sqltables.specs.Content.{Content}
 use Rattle.states.specs.States.{Stays, StateOf, Writes}
-use Rattle.sqltables.specs.inner.Stored.{Fits, Guards, leaves_of, stands}
+use Rattle.sqltables.specs.inner.Stored.{Fits, Guards, leaves_of, store_state}
 use Rattle.sqltables.specs.declared.form.Form.{Form}
 use Rattle.sqltables.proofs.AlteringLemmas.{fits-written, left-by-write, left-open, none-committed, open-after, recalls-written, written}
 use Rattle.sqltables.proofs.StandingLemmas.{fits-held, fits-idle, guards-on, opened-held, stays-held, stays-idle, was-honest}
@@ -85,8 +85,8 @@ returns-in-Ok g c f alters =
     let begun = ap (λ (s : StateOf Content). s.is_open) c.self.view_is ∙ c.requires.begun in
     let fits = subst (λ (b : Bool). Fits form b old) begun c.self.invariant.0 in
     let it = written c.args.tree c.args.sql.now (bound c.args.params.now) form old new _ c.execute.ensures.survives fits rows f alters _ c.in-Ok.ensures.runs leaves in
-    let there = subst (λ (b : Bool). Writes (f (stands form b old leaves).content) (stands form b old leaves) (stands form b new leaves)) (sym begun) it in
-    subst (λ (s : StateOf Content). Writes (f s.content) s (stands form c.self.inside.begun new leaves)) c.self.view_is there
+    let there = subst (λ (b : Bool). Writes (f (store_state form b old leaves).content) (store_state form b old leaves) (store_state form b new leaves)) (sym begun) it in
+    subst (λ (s : StateOf Content). Writes (f s.content) s (store_state form c.self.inside.begun new leaves)) c.self.view_is there
 
 pub returns-after-is_autocommit : goal.returns-after-is_autocommit
 returns-after-is_autocommit g c f alters =
@@ -98,10 +98,10 @@ returns-after-is_autocommit g c f alters =
     let begun = ap (λ (s : StateOf Content). s.is_open) c.self.view_is ∙ c.requires.begun in
     let fits = subst (λ (b : Bool). Fits form b old) begun c.self.invariant.0 in
     let left = left-by-write c.args.tree c.args.sql.now (bound c.args.params.now) form old new _ c.execute.ensures.survives fits rows c.requires.means.0 c.requires.means.1 c.in-Err.error c.in-Err.ensures.runs in
-    let was = ap (λ (b : Bool). stands form b old leaves) (sym begun) ∙ c.self.view_is in
+    let was = ap (λ (b : Bool). store_state form b old leaves) (sym begun) ∙ c.self.view_is in
     subst (λ (s : StateOf Content). Stays s c.if-is_autocommit.self) was (elim c.if-is_autocommit.branch [
-      | then-is_autocommit w ↦ subst (λ (s : StateOf Content). Stays (stands form true old leaves) s) (sym w.self-is)
-          (subst (λ (f : Form). Stays (stands form true old leaves) (stands f false new leaves)) (sym w.undone-self-inside.ensures) (stays-idle form true old new c.is_autocommit.result c.is_autocommit.ensures.value _ c.execute.ensures.survives leaves left w.if-is_autocommit.true))
-      | else-is_autocommit w ↦ subst (λ (s : StateOf Content). Stays (stands form true old leaves) s) (sym w.self-is)
-          (subst (λ (b : Bool). Stays (stands form true old leaves) (stands form b new leaves)) (sym begun) (stays-held form true old new c.is_autocommit.result c.is_autocommit.ensures.value _ c.execute.ensures.survives leaves left w.if-is_autocommit.false))
+      | then-is_autocommit w ↦ subst (λ (s : StateOf Content). Stays (store_state form true old leaves) s) (sym w.self-is)
+          (subst (λ (f : Form). Stays (store_state form true old leaves) (store_state f false new leaves)) (sym w.undone-self-inside.ensures) (stays-idle form true old new c.is_autocommit.result c.is_autocommit.ensures.value _ c.execute.ensures.survives leaves left w.if-is_autocommit.true))
+      | else-is_autocommit w ↦ subst (λ (s : StateOf Content). Stays (store_state form true old leaves) s) (sym w.self-is)
+          (subst (λ (b : Bool). Stays (store_state form true old leaves) (store_state form b new leaves)) (sym begun) (stays-held form true old new c.is_autocommit.result c.is_autocommit.ensures.value _ c.execute.ensures.survives leaves left w.if-is_autocommit.false))
     ])

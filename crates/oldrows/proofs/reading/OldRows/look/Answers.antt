@@ -1,0 +1,38 @@
+use Rattle.std.proofs.Common.{◌≡◌, ◌&&◌, Bool, true, Result, OnOk, sym, ap, subst, ◌∙◌}
+use Rattle.sqlite.specs.Held.{state}
+use Rattle.sqlite.specs.State.{HasCleanDisk}
+use Rattle.sqlrows.specs.inner.Calls.{Stands}
+use Rattle.sqltables.proofs.StandingLemmas.{honest, prepared}
+use Rattle.states.specs.declared.fault.BookFault.{BookFault}
+use Rattle.oldrows.specs.inner.Stored.{leaves_of, stands}
+use Rattle.oldrows.specs.Stored.{IsRead, OldState}
+use Rattle.oldrows.proofs.AskingLemmas.{fits-looked, guards-looked, reads-looked}
+use Rattle.oldrows.proofs.reading.OldRows.look.Goals as goal
+use Rattle.oldrows.proofs.reading.OldRows.look.Goals.{in-Ok, in-Err}
+
+pub invariant_of-self : goal.invariant_of-self
+invariant_of-self g c =
+    let is_there = c.self.inside.is_there in
+    let old = state g.S.Store c.self.inside.conn in
+    let new = state g.S.Store c.prepare.new.self in
+    let stood : (HasCleanDisk new → Stands old new) = prepared _ old new c.args.sql.now c.prepare.result c.prepare.ensures.ok c.prepare.ensures.err in (
+      fits-looked is_there old new c.prepare.ensures.survives c.self.invariant.0 stood,
+      guards-looked is_there old new c.prepare.ensures.survives c.self.invariant.0 stood (leaves_of (state g.S.Store) c.self.inside.seen.items) c.self.invariant.1,
+    )
+
+pub returns-clause-same : goal.returns-clause-same
+returns-clause-same g c =
+    let is_there = c.self.inside.is_there in
+    let old = state g.S.Store c.self.inside.conn in
+    let new = state g.S.Store c.prepare.new.self in
+    let leaves = leaves_of (state g.S.Store) c.self.inside.seen.items in
+    let stood : (HasCleanDisk new → Stands old new) = prepared _ old new c.args.sql.now c.prepare.result c.prepare.ensures.ok c.prepare.ensures.err in
+    subst (λ (s : OldState). IsRead s (stands is_there new leaves)) c.self.view_is (reads-looked is_there old new c.prepare.ensures.survives c.self.invariant.0 stood leaves)
+
+pub returns-clause-answers : goal.returns-clause-answers
+returns-clause-answers g c =
+    let new = state g.S.Store c.prepare.new.self in
+    elim c.match-prepare.branch [
+      | in-Ok w ↦ subst (λ (r : Result (Unit {0}) BookFault). OnOk r (new.is_clean ≡ true → (new.is_clean && new.is_open) ≡ true)) (sym w.result-is) (λ e. ap (λ (b : Bool). b && new.is_open) e ∙ (w.in-Ok.ensures.ok (honest new e)).1.0.is_open)
+      | in-Err w ↦ subst (λ (r : Result (Unit {0}) BookFault). OnOk r (new.is_clean ≡ true → (new.is_clean && new.is_open) ≡ true)) (sym w.result-is) tt
+    ]

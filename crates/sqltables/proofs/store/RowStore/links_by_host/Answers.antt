@@ -1,9 +1,0 @@
-use Rattle.std.proofs.Common.{refl}
-use Rattle.sqltables.proofs.QueryLemmas.{asks-by, bound-last, links_by_host}
-use Rattle.sqltables.proofs.store.RowStore.links_by_host.Goals as goal
-
-pub select-requires : goal.select-requires
-select-requires g c = (_, asks-by (bound-last c.params-to_sql.ensures) (links_by_host c.args.host))
-
-pub returns : goal.returns
-returns g c = c.select.ensures _ (asks-by (bound-last c.params-to_sql.ensures) (links_by_host c.args.host)) (λ change xs. refl)

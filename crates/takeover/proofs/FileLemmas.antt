@@ -1,0 +1,98 @@
+-- What a crash leaves of the files of a takeover.
+use Rattle.std.proofs.Common.{◌≡◌, ◌⊎◌, inl, inr, true, List, [], ◌∷◌, Option, Some, None, Result, Ok, Err, IsTrue, refl, sym, ap, subst, ◌∙◌}
+use Rattle.std.proofs.Math.Logic.{∥∥₁_map}
+use Rattle.std.proofs.lemmas.Bool.{and_parts}
+use Rattle.sqlite_disk.specs.declared.Disk.{Ghosts}
+use Rattle.sqlite_disk.specs.declared.Files.{Files}
+use Rattle.sqlite_wal.specs.Files.{outcomes}
+use Rattle.sqlite_wal.specs.Recovery.{Image}
+use Rattle.sqlite_trees.specs.Tree.{Trees}
+use Rattle.sqlite_store.specs.declared.store.FileStore.{FileStore}
+use Rattle.sqlite_store.specs.FileStore.{recovers, view}
+use Rattle.sqlite_store.specs.FileStore as files
+use Rattle.sqlite.specs.Held.{AreDatabases}
+use Rattle.sqlite.proofs.Theorems.{opens_again}
+use Rattle.policy.specs.declared.terms.Terms.{Terms}
+use Rattle.policy.specs.Rules.{PolicyRules}
+use Rattle.books.specs.Book.{Stored}
+use Rattle.oldrows.specs.Stored.{IsRead, OldState}
+use Rattle.oldrows.specs.Stored as old
+use Rattle.oldrows.specs.inner.Stored.{Covers, IsLeftAs}
+use Rattle.sqltables.specs.Adoption.{IsAdopted}
+use Rattle.sqltables.specs.Content.{Content}
+use Rattle.sqltables.specs.Meta.{Meta}
+use Rattle.sqltables.specs.Readiness.{is_numbered, may_be_numbered}
+use Rattle.sqltables.specs.Stored as stored
+use Rattle.sqltables.specs.inner.Reopening.{IsFoundAgain, IsReopened}
+use Rattle.sqltables.proofs.ReopeningLemmas.{reopened}
+use Rattle.sqlbook.specs.Files.{IsFoundIn}
+use Rattle.sqlbook.specs.Meaning.{are_right, stored_of}
+use Rattle.sqlterms.specs.Terms.{terms_of}
+use Rattle.states.specs.States.{Has, Remains, StateOf}
+use Rattle.states.specs.declared.readiness.Ready.{Ready}
+use Rattle.states.specs.declared.readiness.Ready.TheVariants.{Used}
+use Rattle.states.proofs.LeavingLemmas.{has-alone}
+use Rattle.takeover.specs.declared.migrating.MigrateFault.{MigrateFault}
+use Rattle.takeover.specs.declared.migrating.MigrateFault.TheVariants.{Policy, Schema, Memory, Store}
+use Rattle.takeover.specs.Files.{AreOver, AreOverOld, IsAsBefore, IsThereAfter, IsThereWhole, NewFilesHoldAllOrNothing, OldFilesStay}
+use Rattle.takeover.specs.Migrating.{IsAll, IsElse, IsMigrated, IsTried, IsUnsuited, Migrates, numbered_anew, redated, with_days}
+
+-- ---- what the files may hold
+
+module _ {D : Type 0} {g : Ghosts D} (it : FileStore D g) (numbered : IsTrue (view it).is_numbered) (sound : AreDatabases (recovers it)) (image : Image) (may : (files.state it).may_leave image) (trees : Trees) (found : IsFoundIn image trees) where
+  pub old-found : (leaves : List (Remains Content)) → Covers leaves (recovers it) → ∥ ((left : Remains Content) × Has leaves left × IsLeftAs left trees) ∥₁
+  old-found leaves covers = ∥∥₁_map (opens_again it numbered sound image may) (λ db. covers trees (subst (recovers it) (sym (found db.0 db.2)) db.1))
+
+  pub new-found : (leaves : List (Remains Content)) → stored.Covers leaves (recovers it) → (again : StateOf Content) → IsAdopted trees again → again.is_clean ≡ true → ∥ IsReopened leaves again ∥₁
+  new-found leaves covers again taken clean =
+      ∥∥₁_map (opens_again it numbered sound image may) (λ db. reopened leaves (recovers it) trees again covers (subst (recovers it) (sym (found db.0 db.2)) db.1) taken clean)
+
+-- ---- the law
+
+pub old-files-stay : {D : Type 0} (g : Ghosts D) → OldFilesStay g
+old-files-stay g files found from read it reads honest over image may trees opened =
+    ∥∥₁_map (over image may trees opened)
+    (λ h. (h.0, it.leaves (it.answers (reads.honest honest)) h.0 (subst (λ (l : List (Remains Content)). Has l h.0) reads.leaves h.1), h.2))
+
+-- a registry that was opened has a row of meta, so the row has the number
+numbered-if : (xs : Content) (terms : Terms) (metas : List Meta) → xs.metas ≡ metas → may_be_numbered metas ≡ true → terms_of xs ≡ Some terms → is_numbered metas ≡ true
+numbered-if xs terms [] is e some = absurd (let never : ◌≡◌ {A = Option Terms} None (Some terms) = sym (ap (λ (rows : List Meta). terms_of (record xs { metas = rows })) is) ∙ some in cc)
+numbered-if xs terms (meta ∷ more) is e some = e
+
+module _ (p : PolicyRules) (from : OldState) (to again : StateOf Content) (right : are_right (numbered_anew from.content) ≡ true) (terms : Terms) (some : (stored_of from.content).terms ≡ Some terms) where
+  -- what is found where all was left
+  whole : (left : Remains Content) → IsAll p from.content left → IsFoundAgain left.readiness left.content again.readiness again.content → IsThereWhole p from again
+  whole left all found =
+      let there : (stored_of left.content).terms ≡ Some (record terms { days = p.days }) =
+      ap (λ (s : Stored). s.terms) all.1.0 ∙ ap (with_days p) some in
+      let number = numbered-if left.content (record terms { days = p.days }) left.content.metas refl (and_parts (may_be_numbered left.content.metas) _ (all.1.1 ∙ right)).0 there in
+      let same = subst (λ (r : Ready). IsFoundAgain r left.content again.readiness again.content) all.0 found number in
+      (same.0, ap stored_of same.1 ∙ all.1.0)
+
+  -- what is found where what was there before was left
+  as-before : (place : Trees) → IsAdopted place to → to.is_clean ≡ true → (left : Remains Content) → Has to.crash_leaves left → IsFoundAgain left.readiness left.content again.readiness again.content → IsAsBefore to again
+  as-before place taken clean left h found =
+      let it : Remains Content = record { readiness = to.readiness; content = to.content } in
+      let is : left ≡ it = has-alone it left (subst (λ (l : List (Remains Content)). Has l left) (taken.leaves clean) h) in
+      subst (λ (l : Remains Content). IsFoundAgain l.readiness l.content again.readiness again.content) is found
+
+  module _ (read : OldState) (written : StateOf Content) (answers : old.Answers from) (honest : read.is_honest ≡ true) (place : Trees) (taken : IsAdopted place to) (sure : written.is_honest ≡ true) (it : IsReopened written.crash_leaves again) where
+    unchanged : written.crash_leaves ≡ to.crash_leaves → to.is_honest ≡ true → IsAsBefore to again
+    unchanged same was = as-before place taken (taken.answers was) it.0 (subst (λ (l : List (Remains Content)). Has l it.0) same it.1) it.2
+
+    tried : IsTried p from read to written → IsAsBefore to again ⊎ IsThereWhole p from again
+    tried t = elim (t.leaves answers honest sure it.0 it.1) [
+      | inl before ↦ inl (as-before place taken (taken.answers (t.honest sure)) it.0 before it.2)
+      | inr all ↦ inr (whole it.0 all.1 it.2)
+    ]
+
+    pub there-after : (result : Result (Unit {0}) MigrateFault) → Migrates result p from read to written → IsThereAfter result p from to again
+    there-after (Ok done) m = whole it.0 (m.leaves (m.asked.answers answers honest) sure it.0 it.1) it.2
+    there-after (Err Policy) m = unchanged m.back.leaves.same (m.back.leaves.honest sure)
+    there-after (Err Schema) m = unchanged m.back.leaves.same (m.back.leaves.honest sure)
+    there-after (Err Memory) m = tried m
+    there-after (Err Store) m = tried m
+
+pub new-files : {D : Type 0} (g : Ghosts D) → NewFilesHoldAllOrNothing g
+new-files g files p place from read to written result m answers honest taken sure right terms some over image may trees opened again adopted clean =
+    ∥∥₁_map (over image may trees opened again adopted clean) (λ it. there-after p from to again right terms some read written answers honest place taken sure it result m)
