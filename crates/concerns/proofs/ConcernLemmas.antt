@@ -144,11 +144,11 @@ module _ (p : PolicyRules) (r : Option ℕ) (g : Names) (t : ℕ) (chosen : Choi
   -- ---- what isn't concerned before isn't concerned afterwards
 
   contact-unchosen : (name : List ℕ) (x : Contact) → get s.contacts name ≡ Some x → get caught_up.contacts name ≡ Some x → (concerned r g s).contacts name ≡ false → (concerned r g caught_up).contacts name ≡ false
-  contact-unchosen name x before stands none =
+  contact-unchosen name x before is_at none =
       let parts = or_parts (has_name (meant contact_name s.contacts g.contacts) name) (holds_of (λ (x : Contact). is_about r x.sponsor x.transfer) (get s.contacts name)) none in
       both (has_name (meant contact_name caught_up.contacts g.contacts) name) _
       (unmeant-left s.contacts fc contact_name contact-keeps g.contacts name parts.0)
-      (ap (holds_of (λ (x : Contact). is_about r x.sponsor x.transfer)) (stands ∙ sym before) ∙ parts.1)
+      (ap (holds_of (λ (x : Contact). is_about r x.sponsor x.transfer)) (is_at ∙ sym before) ∙ parts.1)
 
   unconcerned : (d : Domain) → is_concerned r g s d ≡ false → is_concerned r g caught_up d ≡ false
   unconcerned d none =
@@ -161,11 +161,11 @@ module _ (p : PolicyRules) (r : Option ℕ) (g : Names) (t : ℕ) (chosen : Choi
       (read-left s.domains fd domain_roid (λ k x y is. (domain-keeps k x y is).1) (is_same_roid d.roid) g.domains rest.0) rest.1)
 
   domain-unchosen : (name : List ℕ) (d : Domain) → get s.domains name ≡ Some d → get caught_up.domains name ≡ Some d → (concerned r g s).domains name ≡ false → (concerned r g caught_up).domains name ≡ false
-  domain-unchosen name d before stands none =
+  domain-unchosen name d before is_at none =
       let parts = or_parts (has_name (meant domain_name s.domains g.domains) name) (holds_of (is_concerned r g s) (get s.domains name)) none in
       both (has_name (meant domain_name caught_up.domains g.domains) name) _
       (unmeant-left s.domains fd domain_name (λ k x y is. (domain-keeps k x y is).0) g.domains name parts.0)
-      (ap (holds_of (is_concerned r g caught_up)) stands ∙ unconcerned d (sym (ap (holds_of (is_concerned r g s)) before) ∙ parts.1))
+      (ap (holds_of (is_concerned r g caught_up)) is_at ∙ unconcerned d (sym (ap (holds_of (is_concerned r g s)) before) ∙ parts.1))
 
   not-both : (b : Bool) → b ≡ true → b ≡ false → ⊥
   not-both true e f = cc
@@ -178,19 +178,19 @@ module _ (p : PolicyRules) (r : Option ℕ) (g : Names) (t : ℕ) (chosen : Choi
   module _ (all : HasConcerned p r g t chosen s) where
     contact-settled : (name : List ℕ) (x y : Contact) → get s.contacts name ≡ Some x → get caught_up.contacts name ≡ Some y → (concerned r g caught_up).contacts name ≡ true
         → (b : Bool) → chosen.contacts name ≡ b → (lapse_if b (lapse_contact t x) x).object ≡ Some y → due_by t y.transfer ≡ None
-    contact-settled name x y before stands is true e left = (is_contact_lapse t x (lapse_contact t x) refl).due_after y left
-    contact-settled name x y before stands is false e left =
+    contact-settled name x y before is_at is true e left = (is_contact_lapse t x (lapse_contact t x) refl).due_after y left
+    contact-settled name x y before is_at is false e left =
         let same : x ≡ y = some-only x y left in
         let stood : get s.contacts name ≡ Some y = before ∙ ap (λ (z : Contact). let o : Option Contact = Some z in o) same in
-        all.contacts name y stood (was-true ((concerned r g s).contacts name) ((concerned r g caught_up).contacts name) (contact-unchosen name y stood stands) is) e
+        all.contacts name y stood (was-true ((concerned r g s).contacts name) ((concerned r g caught_up).contacts name) (contact-unchosen name y stood is_at) is) e
 
     domain-settled : (name : List ℕ) (d e : Domain) → get s.domains name ≡ Some d → get caught_up.domains name ≡ Some e → (concerned r g caught_up).domains name ≡ true
         → (b : Bool) → chosen.domains name ≡ b → (lapse_if b (lapse p t d) d).object ≡ Some e → t < due_at p e
-    domain-settled name d e before stands is true chose left = lapse-due p t d e left
-    domain-settled name d e before stands is false chose left =
+    domain-settled name d e before is_at is true chose left = lapse-due p t d e left
+    domain-settled name d e before is_at is false chose left =
         let same : d ≡ e = some-only d e left in
         let stood : get s.domains name ≡ Some e = before ∙ ap (λ (z : Domain). let o : Option Domain = Some z in o) same in
-        all.domains name e stood (was-true ((concerned r g s).domains name) ((concerned r g caught_up).domains name) (domain-unchosen name e stood stands) is) chose
+        all.domains name e stood (was-true ((concerned r g s).domains name) ((concerned r g caught_up).domains name) (domain-unchosen name e stood is_at) is) chose
 
     pub caught-up : IsSettledIn p (concerned r g caught_up) caught_up
     caught-up = record {

@@ -46,7 +46,7 @@ module _ (p : PolicyRules) (r : ℕ) (s : Registry) (place : IsRegistrar p r) (i
 
   pub undeleted-new : (name : List ℕ) → IsBased p s name → IsUndeleted p s name
   undeleted-new name it n d at deleted e =
-      let last : last_two_of name ≡ Some n = last_two-superordinate p.zone name d.name e ∙ ap (λ (q : List ℕ). Some q) (is.domains n d at).stands.named in
+      let last : last_two_of name ≡ Some n = last_two-superordinate p.zone name d.name e ∙ ap (λ (q : List ℕ). Some q) (is.domains n d at).is_at.named in
       let found : found_above s (last_two_of name) ≡ Some (superordinate_of_domain d) = ap (found_above s) last ∙ ap (option_map superordinate_of_domain) at in
       let never : true ≡ false = sym deleted ∙ sym (ap₂ (λ (o : Option (List ℕ)) (x : Option Superordinate). is_some o && holds_of (λ above. above.is_deleted) x) e found) ∙ it.alive in
       absurd cc
@@ -82,11 +82,11 @@ module _ (p : PolicyRules) (r : ℕ) (s : Registry) (place : IsRegistrar p r) (i
         let request : Request = requests.CreateContact new in
         put-contact p numbered_too kept-numbered new.name (new_contact r s.clock (known p r cl_trid s request) new)
         (record {
-          stands = record { named = refl; roid = has-given kinds.Contact request; sponsor = place; created = omega arith; transferred = tt; updated = tt };
+          is_at = record { named = refl; roid = has-given kinds.Contact request; sponsor = place; created = omega arith; transferred = tt; updated = tt };
           transfer = tt;
           losing = tt;
         })
-        (λ n x at same. absurd (ungiven kinds.Contact request kinds.Contact x.roid (is.contacts n x at).stands.roid same))
+        (λ n x at same. absurd (ungiven kinds.Contact request kinds.Contact x.roid (is.contacts n x at).is_at.roid same))
 
     pub kept-new-domain : (new : NewDomain) → let f : Facts = known p r cl_trid s (requests.CreateDomain new) in f.reference_missing ≡ false
         → HasObjects p (changed_all p (PutDomain (new_domain r s.clock f new) ∷ Post r TakeSerial ∷ charge lines.Create p r s.clock (new_roid kinds.Domain r f) (requests.CreateDomain new) f ∷ []) after_count)
@@ -96,7 +96,7 @@ module _ (p : PolicyRules) (r : ℕ) (s : Registry) (place : IsRegistrar p r) (i
         (changed_all p (PutDomain (new_domain r s.clock (known p r cl_trid s request) new) ∷ Post r TakeSerial ∷ []) after_count)
         (put-domain p numbered_too kept-numbered (name_of new.name) (new_domain r s.clock (known p r cl_trid s request) new)
         (record {
-          stands = record {
+          is_at = record {
             named = refl;
             roid = has-given kinds.Domain request;
             sponsor = place;
@@ -109,7 +109,7 @@ module _ (p : PolicyRules) (r : ℕ) (s : Registry) (place : IsRegistrar p r) (i
           };
           transfer = tt;
         })
-        (λ n x at same. absurd (ungiven kinds.Domain request kinds.Domain x.roid (is.domains n x at).stands.roid same)))
+        (λ n x at same. absurd (ungiven kinds.Domain request kinds.Domain x.roid (is.domains n x at).is_at.roid same)))
 
     pub kept-new-host : (new : NewHost) → IsBased p s (name_of new.name) → HasObjects p (changed_all p (PutHost (new_host p.zone r s.clock (known p r cl_trid s (requests.CreateHost new)) new) ∷ Post r TakeSerial ∷ []) after_count)
     kept-new-host new based =

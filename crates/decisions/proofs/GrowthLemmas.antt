@@ -53,13 +53,13 @@ module _ (p q : PolicyRules) (s t : Registry) (grows : Grows p q s t) where
 
   pub contact-grown : (name : List ℕ) (c : Contact) → IsContactOf p s name c → IsContactOf q t name c
   contact-grown name c h = record {
-    stands = record {
-      named = h.stands.named;
-      roid = roid-grown _ c.roid h.stands.roid;
-      sponsor = grows.place _ h.stands.sponsor;
-      created = omega (arith, h.stands.created, grows.clock);
-      transferred = been-grown c.transferred h.stands.transferred;
-      updated = been-grown c.updated h.stands.updated;
+    is_at = record {
+      named = h.is_at.named;
+      roid = roid-grown _ c.roid h.is_at.roid;
+      sponsor = grows.place _ h.is_at.sponsor;
+      created = omega (arith, h.is_at.created, grows.clock);
+      transferred = been-grown c.transferred h.is_at.transferred;
+      updated = been-grown c.updated h.is_at.updated;
     };
     transfer = transfer-grown c.created c.transferred c.transfer h.transfer;
     losing = h.losing;
@@ -104,14 +104,14 @@ module _ (p q : PolicyRules) (s t : Registry) (grows : Grows p q s t) where
       → ((host : List ℕ) → names_host host links ≡ true → IsSome (get t.hosts host))
       → IsDomainOf p s name d → IsDomainOf q t name (record d { links = links })
   domain-grown name d links free contacts hosts h = record {
-    stands = record {
-      named = h.stands.named;
-      roid = roid-grown _ d.roid h.stands.roid;
-      sponsor = grows.place _ h.stands.sponsor;
-      created = omega (arith, h.stands.created, grows.clock);
-      transferred = been-grown d.transferred h.stands.transferred;
-      updated = been-grown d.updated h.stands.updated;
-      deletion = deletion-grown d links free d.deletion (λ is. is) h.stands.deletion;
+    is_at = record {
+      named = h.is_at.named;
+      roid = roid-grown _ d.roid h.is_at.roid;
+      sponsor = grows.place _ h.is_at.sponsor;
+      created = omega (arith, h.is_at.created, grows.clock);
+      transferred = been-grown d.transferred h.is_at.transferred;
+      updated = been-grown d.updated h.is_at.updated;
+      deletion = deletion-grown d links free d.deletion (λ is. is) h.is_at.deletion;
       contacts = contacts;
       hosts = hosts;
     };
@@ -139,16 +139,16 @@ pub domain-with : (p : PolicyRules) (s : Registry) (name : List ℕ) (d e : Doma
     → e.name ≡ d.name → e.roid ≡ d.roid → e.created ≡ d.created → e.links ≡ d.links
     → IsRegistrar p e.sponsor → HasBeen s e.transferred → HasBeen s e.updated → IsDeletion p s e e.deletion → IsLastTransfer p s e.created e.transferred e.transfer → IsDomainOf p s name e
 domain-with p s name d e of called roid created links sponsor transferred updated deletion transfer = record {
-  stands = record {
-    named = called ∙ of.stands.named;
-    roid = subst (HasRoid p s kinds.Domain) (sym roid) of.stands.roid;
+  is_at = record {
+    named = called ∙ of.is_at.named;
+    roid = subst (HasRoid p s kinds.Domain) (sym roid) of.is_at.roid;
     sponsor = sponsor;
-    created = omega (arith, created, of.stands.created);
+    created = omega (arith, created, of.is_at.created);
     transferred = transferred;
     updated = updated;
     deletion = deletion;
-    contacts = λ contact named. of.stands.contacts contact (ap (names_contact contact) (sym links) ∙ named);
-    hosts = λ host named. of.stands.hosts host (ap (names_host host) (sym links) ∙ named);
+    contacts = λ contact named. of.is_at.contacts contact (ap (names_contact contact) (sym links) ∙ named);
+    hosts = λ host named. of.is_at.hosts host (ap (names_host host) (sym links) ∙ named);
   };
   transfer = transfer;
 }

@@ -28,7 +28,7 @@ same_effect p sound r c s t here there alike =
 
 -- a command leaves nothing due, so what it leaves is what that is now
 pub effect-is-now : (p : PolicyRules) → IsSound p → (r : ℕ) (c : Command) (moment : ℕ) (s : Registry) → MeetsStandards p (lapsed p moment s) → now p (effect p r c (lapsed p moment s)) ≡ effect p r c (lapsed p moment s)
-effect-is-now p sound r c moment s formed = settled-is-now p (effect p r c (lapsed p moment s)) (settled-effect p sound r c (lapsed p moment s) formed.clock (λ name d at. (formed.domains name d at).stands.deletion) (lapsed-is-settled p (max moment s.clock) s))
+effect-is-now p sound r c moment s formed = settled-is-now p (effect p r c (lapsed p moment s)) (settled-effect p sound r c (lapsed p moment s) formed.clock (λ name d at. (formed.domains name d at).is_at.deletion) (lapsed-is-settled p (max moment s.clock) s))
 
 pub isolated : (p : PolicyRules) → IsSound p → (r : ℕ) (c : Command) (moment : ℕ) → moment ≤ last_clock → (before after : Registry) (reply : Reply)
     → reply ≡ answer p r c (lapsed p moment before) → now p after ≡ now p (effect p r c (lapsed p moment before)) → IsIsolated p r c moment before after reply

@@ -29,7 +29,7 @@ kept-grown p q s accounts clock grows places is =
       };
       contacts = λ name c at. contact-grown p q s t grows name c (is.contacts name c at);
       hosts = λ name h at. host-grown p q s t grows (λ domain there. there) name h (is.hosts name h at);
-      domains = λ name d at. let k = is.domains name d at in domain-grown p q s t grows name d d.links (λ host there. inl there) k.stands.contacts k.stands.hosts k;
+      domains = λ name d at. let k = is.domains name d at in domain-grown p q s t grows name d d.links (λ host there. inl there) k.is_at.contacts k.is_at.hosts k;
     }
 
 -- a registrar's account is put
@@ -111,7 +111,7 @@ module _ (p : PolicyRules) (s : Registry) (is : HasObjects p s) where
         identities = record { accounts = is.identities.accounts; contact_roids = apart; host_roids = is.identities.host_roids; domain_roids = is.identities.domain_roids };
         contacts = λ n c at. contact-grown p p s _ grows n c (of n c at);
         hosts = λ n h at. host-grown p p s _ grows (λ domain there. there) n h (is.hosts n h at);
-        domains = λ n d at. let k = is.domains n d at in same-domain contacts s.hosts s.domains n d k (λ host there. inl there) (λ contact named. there n d at contact named (k.stands.contacts contact named)) k.stands.hosts;
+        domains = λ n d at. let k = is.domains n d at in same-domain contacts s.hosts s.domains n d k (λ host there. inl there) (λ contact named. there n d at contact named (k.is_at.contacts contact named)) k.is_at.hosts;
       }
 
   hosts-kept : (hosts : Hosts) → AreApart host_roid hosts → ((name : List ℕ) (h : Host) → get hosts name ≡ Some h → IsHostOf p s name h)
@@ -124,7 +124,7 @@ module _ (p : PolicyRules) (s : Registry) (is : HasObjects p s) where
         identities = record { accounts = is.identities.accounts; contact_roids = is.identities.contact_roids; host_roids = apart; domain_roids = is.identities.domain_roids };
         contacts = λ n c at. contact-grown p p s _ grows n c (is.contacts n c at);
         hosts = λ n h at. host-grown p p s _ grows (λ domain there. there) n h (of n h at);
-        domains = λ n d at. let k = is.domains n d at in same-domain s.contacts hosts s.domains n d k (free n d at) k.stands.contacts (λ host named. there n d at host named (k.stands.hosts host named));
+        domains = λ n d at. let k = is.domains n d at in same-domain s.contacts hosts s.domains n d k (free n d at) k.is_at.contacts (λ host named. there n d at host named (k.is_at.hosts host named));
       }
 
   domains-kept : (domains : Domains) → AreApart domain_roid domains → ((name : List ℕ) (d : Domain) → get domains name ≡ Some d → IsDomainOf p s name d)
@@ -136,13 +136,13 @@ module _ (p : PolicyRules) (s : Registry) (is : HasObjects p s) where
         identities = record { accounts = is.identities.accounts; contact_roids = is.identities.contact_roids; host_roids = is.identities.host_roids; domain_roids = apart };
         contacts = λ n c at. contact-grown p p s _ grows n c (is.contacts n c at);
         hosts = λ n h at. host-grown-below p p s _ grows n h (there n h at) (is.hosts n h at);
-        domains = λ n d at. let k = of n d at in same-domain s.contacts s.hosts domains n d k (λ host there. inl there) k.stands.contacts k.stands.hosts;
+        domains = λ n d at. let k = of n d at in same-domain s.contacts s.hosts domains n d k (λ host there. inl there) k.is_at.contacts k.is_at.hosts;
       }
 
   pub put-contact : (name : List ℕ) (c : Contact) → IsContactOf p s name c → IsItsOwn contact_roid s.contacts name c.roid → HasObjects p (changed p (PutContact c) s)
   put-contact name c fits own = contacts-kept (insert s.contacts c.name c)
-      (apart-put contact_roid s.contacts is.identities.contact_roids c.name c (λ n x at same. own n x at same ∙ sym fits.stands.named))
-      (at-put (IsContactOf p s) s.contacts c.name c (subst (λ (n : List ℕ). IsContactOf p s n c) (sym fits.stands.named) fits) is.contacts)
+      (apart-put contact_roid s.contacts is.identities.contact_roids c.name c (λ n x at same. own n x at same ∙ sym fits.is_at.named))
+      (at-put (IsContactOf p s) s.contacts c.name c (subst (λ (n : List ℕ). IsContactOf p s n c) (sym fits.is_at.named) fits) is.contacts)
       (λ n d at contact named there. put-keeps s.contacts c.name c contact there)
 
   -- a contact that no domain names
@@ -169,8 +169,8 @@ module _ (p : PolicyRules) (s : Registry) (is : HasObjects p s) where
 
   pub put-domain : (name : List ℕ) (d : Domain) → IsDomainOf p s name d → IsItsOwn domain_roid s.domains name d.roid → HasObjects p (changed p (PutDomain d) s)
   put-domain name d fits own = domains-kept (insert s.domains d.name d)
-      (apart-put domain_roid s.domains is.identities.domain_roids d.name d (λ n x at same. own n x at same ∙ sym fits.stands.named))
-      (at-put (IsDomainOf p s) s.domains d.name d (subst (λ (n : List ℕ). IsDomainOf p s n d) (sym fits.stands.named) fits) is.domains)
+      (apart-put domain_roid s.domains is.identities.domain_roids d.name d (λ n x at same. own n x at same ∙ sym fits.is_at.named))
+      (at-put (IsDomainOf p s) s.domains d.name d (subst (λ (n : List ℕ). IsDomainOf p s n d) (sym fits.is_at.named) fits) is.domains)
       (λ n h at domain above there. put-keeps s.domains d.name d domain there)
 
   -- a domain that no host lies below
@@ -211,10 +211,10 @@ module _ (p : PolicyRules) (s : Registry) (is : HasObjects p s) where
       let k = is.domains n d at in
       domain-grown p p s t grows n d (links_with_host_renamed old h.name d.links)
       (λ host now. ⊎_elim (λ new. inr (subst (λ (q : List ℕ). IsSome d.deletion → superordinate_of p.zone q ≢ Some d.name) (sym new) (free n d at))) (λ before. inl (drop-there s.hosts old host before)) (put-there left h.name h host now))
-      k.stands.contacts
+      k.is_at.contacts
       (λ host named. ⊎_elim
       (λ new. subst (λ (q : List ℕ). IsSome (get hosts q)) (sym new) (is-there (get hosts h.name) h (put-is left h.name h)))
-      (λ other. put-keeps left h.name h host (drop-keeps s.hosts old host other.0 (k.stands.hosts host other.1)))
+      (λ other. put-keeps left h.name h host (drop-keeps s.hosts old host other.0 (k.is_at.hosts host other.1)))
       (renamed-listed old h.name d.links.hosts host named))
       k in
       record {

@@ -114,8 +114,8 @@ module _ (p : PolicyRules) (t : ℕ) (s : Registry) (past : t ≤ s.clock) (is :
       let transfer = due-transfer p after t c.created c.transferred c.transfer x due k.transfer in
       let come = (due-is t c.transfer x due).1 in
       record {
-        stands = contact-stands p after name c _ k.stands refl refl refl transfer.recorded.requester
-            (omega (arith, come, past)) k.stands.updated;
+        is_at = contact-stands p after name c _ k.is_at refl refl refl transfer.recorded.requester
+            (omega (arith, come, past)) k.is_at.updated;
         transfer = ended c.created c.transferred x come transfer;
         losing = λ pending. absurd (let never : false ≡ true = pending in cc);
       }) e
@@ -127,14 +127,14 @@ module _ (p : PolicyRules) (t : ℕ) (s : Registry) (past : t ≤ s.clock) (is :
 
   domain-fits : (name : List ℕ) (d e : Domain) → IsDomainOf p s name d → (lapse p t d).object ≡ Some e → IsDomainOf p after name e
   domain-fits name d e of =
-      let k : IsDomainOf p after name d = domain-grown p p s after grows name d d.links (λ host there. inl there) (λ contact named. contact-there contact (of.stands.contacts contact named)) of.stands.hosts of in
+      let k : IsDomainOf p after name d = domain-grown p p s after grows name d d.links (λ host there. inl there) (λ contact named. contact-there contact (of.is_at.contacts contact named)) of.is_at.hosts of in
       let undeleted : (f : Domain) → d.deletion ≡ None → IsDeletion p after f d.deletion = λ f alive. subst (IsDeletion p after f) (sym alive) tt in
       domain-left p t d (IsDomainOf p after name) (λ x gone. k)
-      (λ alive years. domain-with p after name d (with_years years d) k refl refl refl refl k.stands.sponsor k.stands.transferred k.stands.updated (undeleted (with_years years d) alive) k.transfer)
+      (λ alive years. domain-with p after name d (with_years years d) k refl refl refl refl k.is_at.sponsor k.is_at.transferred k.is_at.updated (undeleted (with_years years d) alive) k.transfer)
       (λ alive x due years.
       let transfer = due-transfer p after t d.created d.transferred d.transfer x due k.transfer in
       let come = (due-is t d.transfer x due).1 in
-      domain-with p after name d (taken_over x years d) k refl refl refl refl transfer.recorded.requester (omega (arith, come, past)) k.stands.updated (undeleted (taken_over x years d) alive)
+      domain-with p after name d (taken_over x years d) k refl refl refl refl transfer.recorded.requester (omega (arith, come, past)) k.is_at.updated (undeleted (taken_over x years d) alive)
       (ended d.created d.transferred x come transfer)) e
 
   -- a domain that a host lies below isn't deleted, so it stays
@@ -142,7 +142,7 @@ module _ (p : PolicyRules) (t : ℕ) (s : Registry) (past : t ≤ s.clock) (is :
   below-stays host there name d at above None alive = lived-stays p t d (due_by t d.transfer)
   below-stays host there name d at above (Some x) gone =
       let k = is.domains name d at in
-      absurd ((subst (IsDeletion p s d) gone k.stands.deletion).hosts host there (above ∙ ap (λ (n : List ℕ). Some n) (sym k.stands.named)))
+      absurd ((subst (IsDeletion p s d) gone k.is_at.deletion).hosts host there (above ∙ ap (λ (n : List ℕ). Some n) (sym k.is_at.named)))
 
   superordinate-there : (host : List ℕ) → IsSome (get s.hosts host) → (name : List ℕ) → superordinate_of p.zone host ≡ Some name → IsSome (get s.domains name) → IsSome (get after.domains name)
   superordinate-there host there name above domain =

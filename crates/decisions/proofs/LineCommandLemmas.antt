@@ -86,11 +86,11 @@ module _ (p : PolicyRules) (r : ℕ) (cl_trid : Option (List ℕ)) (s : Registry
         put-again name d new at same,
         (
           own-charge p t r new.name new line (put-is counted.domains new.name new)
-              (own-put s.domains name d new is.identities.domain_roids at k.stands.named called same.roid)
+              (own-put s.domains name d new is.identities.domain_roids at k.is_at.named called same.roid)
               (roid-grown p p s t grown kinds.Domain new.roid
-              (subst (HasRoid p s kinds.Domain) (sym same.roid) k.stands.roid))
+              (subst (HasRoid p s kinds.Domain) (sym same.roid) k.is_at.roid))
               (sponsor ∙ sym same.sponsor)
-              (λ x e pending. awaited-ahead p s d k.stands.deletion (settled.domains name d at) x (sym same.transfer ∙ e) pending)
+              (λ x e pending. awaited-ahead p s d k.is_at.deletion (settled.domains name d at) x (sym same.transfer ∙ e) pending)
               (of ∙ ap (λ (roid : Roid). Some roid) (sym same.roid)) kind recorded
               (been-grown p p s t grown line.started started) (been-grown p p s t grown line.refunded refunded),
           tt,
@@ -137,7 +137,7 @@ module _ (p : PolicyRules) (r : ℕ) (cl_trid : Option (List ℕ)) (s : Registry
             tt,
             (
               own-charge p t r made.name made (charge_line lines.Create p s.clock made.roid request f) (put-is s.domains made.name made)
-                  (λ n x there alike. ⊎_elim (λ put. put.0) (λ before. absurd (ungiven p r s place is cl_trid small kinds.Domain request kinds.Domain x.roid (is.domains n x before).stands.roid alike)) (put-cases s.domains made.name made n x there))
+                  (λ n x there alike. ⊎_elim (λ put. put.0) (λ before. absurd (ungiven p r s place is cl_trid small kinds.Domain request kinds.Domain x.roid (is.domains n x before).is_at.roid alike)) (put-cases s.domains made.name made n x there))
                   (record { kind_is = given.kind_is; creator = given.creator; serial = given.serial })
                   refl (λ x e pending. absurd cc) refl refl (omega arith) (omega arith) tt,
               tt,

@@ -333,7 +333,7 @@ module _ (p : PolicyRules) (t : ℕ) (s : Registry) (le : s.clock ≤ t) (object
       (keep-both P r (given (λ n c. (lapse_contact t c).postings) s.contacts) (given (λ n d. (lapse p t d).postings) s.domains)
       (keep-given P r (λ n c. (lapse_contact t c).postings) s.contacts (λ n c there. completed-of p later r P (due_by t c.transfer) c))
       (keep-given P r (λ n d. (lapse p t d).postings) s.domains (λ n d there.
-      let has = (objects.domains n d there).stands.roid in
+      let has = (objects.domains n d there).is_at.roid in
       domain-of p later r d (record { kind_is = has.kind_is; creator = has.creator; serial = has.serial })))) s
       (all-weaker (IsLineOf p s) (IsLineOf p later) (line-grown p p s later grows-later) (account_of r s).lines (recursion_from_All (IsLineOf p s) (account_of r s).lines (is.each r)))
 

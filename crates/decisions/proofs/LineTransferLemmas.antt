@@ -68,7 +68,7 @@ module _ (p : PolicyRules) (s : Registry) (objects : HasObjects p s) (has : HasL
       where
         by : (n : List ℕ) (x : Domain) → get left.domains n ≡ Some x → get s.domains n ≡ Some x → (b : Bool) → is_same_roid d.roid x.roid ≡ b → HasLinesOn left x
         by n x there before true same =
-            let here : n ≡ e.name = objects.identities.domain_roids n name x d before at (sym (same-roids d.roid x.roid same)) ∙ sym (objects.domains name d at).stands.named ∙ sym called in
+            let here : n ≡ e.name = objects.identities.domain_roids n name x d before at (sym (same-roids d.roid x.roid same)) ∙ sym (objects.domains name d at).is_at.named ∙ sym called in
             let is : e ≡ x = same_Some e x (sym (put-is s.domains e.name e) ∙ ap (λ (m : List ℕ). get left.domains m) (sym here) ∙ there) in
             subst (HasLinesOn left) is on
         by n x there before false apart = others-on only x apart (has.domains n x before)
@@ -143,7 +143,7 @@ module _ (p : PolicyRules) (s : Registry) (objects : HasObjects p s) (has : HasL
         given None is = absurd cc
         given (Some roid) is =
             let one : roid ≡ d.roid = cc in
-            let k = (objects.domains name d at).stands.roid in
+            let k = (objects.domains name d at).is_at.roid in
             subst (λ (n : Roid). HasRoid p (left asked refl x.requester charged) kinds.Domain n) (sym one)
             (record { kind_is = k.kind_is; creator = k.creator; serial = omega (arith, k.serial, (grows asked refl x.requester charged).serial d.roid.creator) })
 

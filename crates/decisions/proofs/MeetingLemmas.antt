@@ -15,7 +15,7 @@ module _ (p : PolicyRules) (sound : IsSound p) (r : ℕ) (cl_trid : Option (List
   -- a domain stands where it stood, which is the sponsor's, and was transferred when it was
   again : (name : List ℕ) (d after : Domain) → get s.domains name ≡ Some d → after.name ≡ d.name → after.sponsor ≡ d.sponsor → graces_of p counted after ≡ graces_of p counted d
       → Meets p r (PutDomain after) counted
-  again name d after at called sponsor alike = put-again p r counted d after (ap (get s.domains) (called ∙ (is.domains name d at).stands.named) ∙ at) sponsor alike
+  again name d after at called sponsor alike = put-again p r counted d after (ap (get s.domains) (called ∙ (is.domains name d at).is_at.named) ∙ at) sponsor alike
 
   commands-meet : CommandCases p r cl_trid s (λ q changes. AllMeet p r changes counted)
   commands-meet = record {

@@ -88,4 +88,4 @@ module _ (p : PolicyRules) (moment : ℕ) (before : Registry) where
   money-effect-now sound early is r c =
       let well : IsRegistry p found = registry-lapsed p moment before early is in
       subst (λ (s : Registry). MoneyFollows p moment (now p before) s)
-      (sym (settled-is-now p (effect p r c found) (settled-effect p sound r c found well.clock (λ name d at. (well.objects.domains name d at).stands.deletion) (lapsed-is-settled p found.clock before)))) (money-effect r c)
+      (sym (settled-is-now p (effect p r c found) (settled-effect p sound r c found well.clock (λ name d at. (well.objects.domains name d at).is_at.deletion) (lapsed-is-settled p found.clock before)))) (money-effect r c)

@@ -110,7 +110,7 @@ postings-to p s t is = postings-posted p t (IsToRegistrar p) s
     let k = (due-transfer p s t c.created c.transferred c.transfer x due (is.contacts name c at).transfer).recorded in
     (k.losing_registrar, (k.requester, tt))))
     (λ name d at.
-    let place = (is.domains name d at).stands.sponsor in
+    let place = (is.domains name d at).is_at.sponsor in
     domain-posted p t (IsToRegistrar p) d (λ k come. (place, (place, tt))) (λ x due.
     let k = (due-transfer p s t d.created d.transferred d.transfer x due (is.domains name d at).transfer).recorded in
     ((k.requester, (k.losing_registrar, (k.requester, tt))), λ n come. (k.requester, (k.requester, tt))))

@@ -240,7 +240,7 @@ shape-host p r s u given h askable it is =
 -- a name at which no host is, no domain names
 unnamed : (p : PolicyRules) (s : Registry) → HasObjects p s → (name : List ℕ) → is_some (get s.hosts name) ≡ false → (n : List ℕ) (d : Domain) → get s.domains n ≡ Some d → has_name d.links.hosts name ≡ false
 unnamed p s is name free n d at = false_from_ne_true (has_name d.links.hosts name) (λ e.
-    let there : IsSome (get s.hosts name) = (is.domains n d at).stands.hosts name e in
+    let there : IsSome (get s.hosts name) = (is.domains n d at).is_at.hosts name e in
     let never : true ≡ false = sym there ∙ free in cc)
 
 -- ---- commands

@@ -167,4 +167,4 @@ module _ (p : PolicyRules) (sound : IsSound p) (r : ℕ) (s : Registry) (is : Me
       ∙ ap (λ (b : Bool). cond b (graces_of p begun d) transfer_alone) (not-same d.sponsor y.requester (λ same. other-sponsor apart (sym same)))))
     where
       there : get s.domains d.name ≡ Some d
-      there = ap (get s.domains) (is.domains name d at).stands.named ∙ at
+      there = ap (get s.domains) (is.domains name d at).is_at.named ∙ at

@@ -56,7 +56,7 @@ module _ (p : PolicyRules) (s : Registry) (name : List ℕ) where
   pub contact-updated : (c : Contact) (updated : Option ℕ) (statuses : List Status) (secret : List ℕ) (postal : Postal) (voice : Option (List ℕ)) (mail : List ℕ) → HasBeen s updated
       → IsContactOf p s name c → IsContactOf p s name (record c { updated = updated; statuses = statuses; secret = secret; postal = postal; voice = voice; mail = mail })
   contact-updated c updated statuses secret postal voice mail been k = record {
-    stands = contact-stands p s name c _ k.stands refl refl refl k.stands.sponsor k.stands.transferred been;
+    is_at = contact-stands p s name c _ k.is_at refl refl refl k.is_at.sponsor k.is_at.transferred been;
     transfer = k.transfer;
     losing = k.losing;
   }
@@ -67,14 +67,14 @@ module _ (p : PolicyRules) (s : Registry) (name : List ℕ) where
       → ((host : List ℕ) → names_host host links ≡ true → IsSome (get s.hosts host))
       → IsDomainOf p s name d → IsDomainOf p s name (record d { years = years; updated = updated; statuses = statuses; secret = secret; links = links })
   domain-updated d years updated statuses secret links been contacts hosts k = record {
-    stands = record {
-      named = k.stands.named;
-      roid = k.stands.roid;
-      sponsor = k.stands.sponsor;
-      created = k.stands.created;
-      transferred = k.stands.transferred;
+    is_at = record {
+      named = k.is_at.named;
+      roid = k.is_at.roid;
+      sponsor = k.is_at.sponsor;
+      created = k.is_at.created;
+      transferred = k.is_at.transferred;
       updated = been;
-      deletion = deletion-as p s d (record d { years = years; updated = updated; statuses = statuses; secret = secret; links = links }) d.deletion refl refl k.stands.deletion;
+      deletion = deletion-as p s d (record d { years = years; updated = updated; statuses = statuses; secret = secret; links = links }) d.deletion refl refl k.is_at.deletion;
       contacts = contacts;
       hosts = hosts;
     };
@@ -102,12 +102,12 @@ module _ (p : PolicyRules) (s : Registry) (is : HasObjects p s) (name : List ℕ
   pub kept-contact-statuses : (c : Contact) → get s.contacts name ≡ Some c → HasObjects p (changed p (PutContact (record c { statuses = statuses })) s)
   kept-contact-statuses c at =
       let k = is.contacts name c at in
-      kept-put-contact p s is name c (record c { statuses = statuses }) at refl (contact-updated p s name c c.updated statuses c.secret c.postal c.voice c.mail k.stands.updated k)
+      kept-put-contact p s is name c (record c { statuses = statuses }) at refl (contact-updated p s name c c.updated statuses c.secret c.postal c.voice c.mail k.is_at.updated k)
 
   pub kept-domain-statuses : (d : Domain) → get s.domains name ≡ Some d → HasObjects p (changed p (PutDomain (record d { statuses = statuses })) s)
   kept-domain-statuses d at =
       let k = is.domains name d at in
-      kept-put-domain p s is name d (record d { statuses = statuses }) at refl (domain-updated p s name d d.years d.updated statuses d.secret d.links k.stands.updated k.stands.contacts k.stands.hosts k)
+      kept-put-domain p s is name d (record d { statuses = statuses }) at refl (domain-updated p s name d d.years d.updated statuses d.secret d.links k.is_at.updated k.is_at.contacts k.is_at.hosts k)
 
   pub kept-host-statuses : (h : Host) → get s.hosts name ≡ Some h → HasObjects p (changed p (PutHost (record h { statuses = statuses })) s)
   kept-host-statuses h at =
@@ -155,17 +155,17 @@ module _ (p : PolicyRules) (t : Registry) (is : HasObjects p t) (name : List ℕ
   pub kept-contact-transfer : (c : Contact) → get t.contacts name ≡ Some c → (x : Transfer) → IsTransfer p t c.created c.transferred x → (is_pending_state x.state ≡ true → x.losing_registrar ≡ c.sponsor) → HasObjects p (changed p (PutContact (contact_with_transfer x c)) t)
   kept-contact-transfer c at x fits losing =
       let k = is.contacts name c at in
-      let stands = contact-stands p t name c (contact_with_transfer x c) k.stands refl refl refl
-      k.stands.sponsor k.stands.transferred k.stands.updated in
+      let is_at = contact-stands p t name c (contact_with_transfer x c) k.is_at refl refl refl
+      k.is_at.sponsor k.is_at.transferred k.is_at.updated in
       kept-put-contact p t is name c (contact_with_transfer x c) at refl
-      (record { stands = stands; transfer = fits; losing = losing })
+      (record { is_at = is_at; transfer = fits; losing = losing })
 
   pub kept-contact-over : (c : Contact) → get t.contacts name ≡ Some c → (x : Transfer) → x.ac_date ≤ t.clock → IsTransfer p t c.created (Some x.ac_date) x → is_pending_state x.state ≡ false → HasObjects p (changed p (PutContact (contact_handed_over x c)) t)
   kept-contact-over c at x le fits over =
       let k = is.contacts name c at in
       kept-put-contact p t is name c (contact_handed_over x c) at refl
       (record {
-        stands = contact-stands p t name c _ k.stands refl refl refl fits.recorded.requester le k.stands.updated;
+        is_at = contact-stands p t name c _ k.is_at refl refl refl fits.recorded.requester le k.is_at.updated;
         transfer = fits;
         losing = λ pending. absurd (let never : true ≡ false = sym pending ∙ over in cc);
       })
@@ -181,7 +181,7 @@ module _ (p : PolicyRules) (t : Registry) (is : HasObjects p t) (name : List ℕ
   pub kept-domain-transfer : (d : Domain) → get t.domains name ≡ Some d → (x : Transfer) → IsTransfer p t d.created d.transferred x → (is_pending_state x.state ≡ true → d.deletion ≡ None) → HasObjects p (changed p (PutDomain (domain_with_transfer x d)) t)
   kept-domain-transfer d at x fits free =
       let k = is.domains name d at in
-      kept-domain p t is name d (domain_with_transfer x d) at refl refl refl refl k.stands.sponsor k.stands.transferred k.stands.updated (deletion-kept d x d.deletion free k.stands.deletion) fits
+      kept-domain p t is name d (domain_with_transfer x d) at refl refl refl refl k.is_at.sponsor k.is_at.transferred k.is_at.updated (deletion-kept d x d.deletion free k.is_at.deletion) fits
 
   undeleted : (d : Domain) (o : Option Deletion) → is_pending d.transfer ≡ true → IsDeletion p t d o → o ≡ None
   undeleted d None pending k = refl
@@ -191,8 +191,8 @@ module _ (p : PolicyRules) (t : Registry) (is : HasObjects p t) (name : List ℕ
   pub kept-domain-over : (d : Domain) → get t.domains name ≡ Some d → (x : Transfer) (years : ℕ) → x.ac_date ≤ t.clock → IsTransfer p t d.created (Some x.ac_date) x → is_pending d.transfer ≡ true → HasObjects p (changed p (PutDomain (handed_over x years d)) t)
   kept-domain-over d at x years le fits pending =
       let k = is.domains name d at in
-      kept-domain p t is name d (handed_over x years d) at refl refl refl refl fits.recorded.requester le k.stands.updated
-      (subst (IsDeletion p t (handed_over x years d)) (sym (undeleted d d.deletion pending k.stands.deletion)) tt) fits
+      kept-domain p t is name d (handed_over x years d) at refl refl refl refl fits.recorded.requester le k.is_at.updated
+      (subst (IsDeletion p t (handed_over x years d)) (sym (undeleted d d.deletion pending k.is_at.deletion)) tt) fits
 
 -- a registrar is told
 pub kept-told : (p : PolicyRules) (q : ℕ) (n : Notification) (t : Registry) → IsRegistrar p q → HasObjects p t → HasObjects p (with_account q (notified n) t)
@@ -269,8 +269,8 @@ module _ (p : PolicyRules) (r : ℕ) (cl_trid : Option (List ℕ)) (s : Registry
   deleted : (name : List ℕ) (d : Domain) (years : ℕ) → IsDeletable r s name d → HasObjects p (changed p (PutDomain (deleted_domain s.clock years d)) counted)
   deleted name d years it =
       let k = kept.domains name d it.at in
-      kept-domain p counted kept name d (deleted_domain s.clock years d) it.at refl refl refl refl k.stands.sponsor k.stands.transferred (omega arith)
-      (record { deleted = omega arith; requested = tt; since = tt; hosts = λ host there above. alone name d it host there (above ∙ ap (λ (n : List ℕ). Some n) k.stands.named); transfer = it.still }) k.transfer
+      kept-domain p counted kept name d (deleted_domain s.clock years d) it.at refl refl refl refl k.is_at.sponsor k.is_at.transferred (omega arith)
+      (record { deleted = omega arith; requested = tt; since = tt; hosts = λ host there above. alone name d it host there (above ∙ ap (λ (n : List ℕ). Some n) k.is_at.named); transfer = it.still }) k.transfer
 
   -- what is given back leaves objects and serials
   refunded : (refund : RunningRefund) (t : Registry) → HasObjects p t → HasObjects p (with_account r (with_running_refunded p refund) t)
@@ -289,8 +289,8 @@ module _ (p : PolicyRules) (r : ℕ) (cl_trid : Option (List ℕ)) (s : Registry
       let k = is.domains (name_of u.name) d it.at in
       kept-put-domain p counted kept (name_of u.name) d new it.at refl
       (domain-updated p counted (name_of u.name) d d.years (Some s.clock) new.statuses new.secret new.links (omega arith)
-      (updated-contacts (λ name. is_some (get s.contacts name)) (λ name. is_some (get s.hosts name)) u d.links linked k.stands.contacts)
-      (updated-hosts (λ name. is_some (get s.contacts name)) (λ name. is_some (get s.hosts name)) u d.links linked k.stands.hosts)
+      (updated-contacts (λ name. is_some (get s.contacts name)) (λ name. is_some (get s.hosts name)) u d.links linked k.is_at.contacts)
+      (updated-hosts (λ name. is_some (get s.contacts name)) (λ name. is_some (get s.hosts name)) u d.links linked k.is_at.hosts)
       (kept.domains (name_of u.name) d it.at))
 
   -- ---- what is renewed and restored
@@ -299,7 +299,7 @@ module _ (p : PolicyRules) (r : ℕ) (cl_trid : Option (List ℕ)) (s : Registry
   renewed name d years at =
       let k = kept.domains name d at in
       let new : Domain = renewed_domain s.clock years d in
-      kept-put-domain p counted kept name d new at refl (domain-updated p counted name d new.years (Some s.clock) d.statuses d.secret d.links (omega arith) k.stands.contacts k.stands.hosts k)
+      kept-put-domain p counted kept name d new at refl (domain-updated p counted name d new.years (Some s.clock) d.statuses d.secret d.links (omega arith) k.is_at.contacts k.is_at.hosts k)
 
   requested-now : (d : Domain) (deletion : Option Deletion) → IsDeletion p counted d deletion
       → IsDeletion p counted (restoring_domain s.clock d) (option_map (λ (x : Deletion). record x { restore_requested = Some s.clock }) deletion)
@@ -309,12 +309,12 @@ module _ (p : PolicyRules) (r : ℕ) (cl_trid : Option (List ℕ)) (s : Registry
   restoring : (name : List ℕ) (d : Domain) → get s.domains name ≡ Some d → HasObjects p (changed p (PutDomain (restoring_domain s.clock d)) counted)
   restoring name d at =
       let k = kept.domains name d at in
-      kept-domain p counted kept name d (restoring_domain s.clock d) at refl refl refl refl k.stands.sponsor k.stands.transferred (omega arith) (requested-now d d.deletion k.stands.deletion) k.transfer
+      kept-domain p counted kept name d (restoring_domain s.clock d) at refl refl refl refl k.is_at.sponsor k.is_at.transferred (omega arith) (requested-now d d.deletion k.is_at.deletion) k.transfer
 
   restored : (name : List ℕ) (d : Domain) → get s.domains name ≡ Some d → HasObjects p (changed p (PutDomain (restored_domain s.clock d)) counted)
   restored name d at =
       let k = kept.domains name d at in
-      kept-domain p counted kept name d (restored_domain s.clock d) at refl refl refl refl k.stands.sponsor k.stands.transferred (omega arith) tt k.transfer
+      kept-domain p counted kept name d (restored_domain s.clock d) at refl refl refl refl k.is_at.sponsor k.is_at.transferred (omega arith) tt k.transfer
 
   -- ---- the last transfer of a contact, and of a domain
 
@@ -355,8 +355,8 @@ module _ (p : PolicyRules) (r : ℕ) (cl_trid : Option (List ℕ)) (s : Registry
         kept-charged p r s place is (charge_line lines.Restore p s.clock d.roid q (known p r cl_trid s q)) _ (restored (name_of name) d it.at);
     contact_asked = λ q n c at.
         let k = kept.contacts n c at in
-        kept-told p c.sponsor _ _ k.stands.sponsor (kept-contact-transfer p counted kept n c at (requested p r c.sponsor s.clock)
-        (transfer-asked p counted kept n r c.sponsor c.created c.transferred sound early place k.stands.sponsor k.stands.created k.stands.transferred) (λ pending. refl));
+        kept-told p c.sponsor _ _ k.is_at.sponsor (kept-contact-transfer p counted kept n c at (requested p r c.sponsor s.clock)
+        (transfer-asked p counted kept n r c.sponsor c.created c.transferred sound early place k.is_at.sponsor k.is_at.created k.is_at.transferred) (λ pending. refl));
     contact_approved = λ q n c at y last.
         let x = contact-last n c at y last in
         kept-told p y.requester _ _ x.recorded.requester (kept-contact-over p counted kept n c at (ended ClientApproved s.clock y) (omega arith)
@@ -371,8 +371,8 @@ module _ (p : PolicyRules) (r : ℕ) (cl_trid : Option (List ℕ)) (s : Registry
         (transfer-ended p counted kept n c.created c.transferred c.transferred y ClientCancelled s.clock refl (omega arith) early x) never);
     domain_asked = λ q n d at askable paid.
         let k = kept.domains n d at in
-        kept-told p d.sponsor _ _ k.stands.sponsor (kept-charged p r s place is (transfer_line p s.clock d.roid q (known p r cl_trid s q)) _ (kept-domain-transfer p counted kept n d at (requested p r d.sponsor s.clock)
-        (transfer-asked p counted kept n r d.sponsor d.created d.transferred sound early place k.stands.sponsor k.stands.created k.stands.transferred) (λ pending. askable.undeleted)));
+        kept-told p d.sponsor _ _ k.is_at.sponsor (kept-charged p r s place is (transfer_line p s.clock d.roid q (known p r cl_trid s q)) _ (kept-domain-transfer p counted kept n d at (requested p r d.sponsor s.clock)
+        (transfer-asked p counted kept n r d.sponsor d.created d.transferred sound early place k.is_at.sponsor k.is_at.created k.is_at.transferred) (λ pending. askable.undeleted)));
     domain_approved = λ q n d at y last pending own. kept-told p y.requester _ _ (domain-last n d at y last).recorded.requester (kept-approved p counted kept early n d at y last pending);
     domain_rejected = λ q n d at y last pending.
         let x = domain-last n d at y last in

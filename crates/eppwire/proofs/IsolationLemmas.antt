@@ -40,11 +40,11 @@ said_isolated p r Hello moment old new outcome (inl gives) clean other same = in
 said_isolated p r Hello moment old new outcome (inr greeted) clean other same =
     let date : greeted.date ≡ (lapsed p moment other).clock = (greeted.step clean).dated ∙ sym (ap (λ (v : View). v.clock) same) in
     same_text (greeting_text greeted.date) (greeting_text (lapsed p moment other).clock) (sent outcome) (ap greeting_text date)
-    (sent-text (greeting_outcome greeted.date) outcome (greeting_text greeted.date) greeted.told refl)
+    (sent-text (greeting_outcome greeted.date) outcome (greeting_text greeted.date) greeted.answer_is refl)
 said_isolated p r (Ordinary c) moment old new outcome (inl gives) clean other same = inl (inl (ap sent gives.0))
 said_isolated p r (Ordinary c) moment old new outcome (inr served) clean other same =
     same_text (reply_text served.reply) (reply_text (answer p r c (lapsed p moment other))) (sent outcome) (served.bytes clean other same)
-    (sent-text (reply_outcome served.reply) outcome (reply_text served.reply) served.told (reply_sent (is_last served.reply.code) (reply_text served.reply)))
+    (sent-text (reply_outcome served.reply) outcome (reply_text served.reply) served.answer_is (reply_sent (is_last served.reply.code) (reply_text served.reply)))
 
 pub isolated_frames : FramesAreIsolated
 isolated_frames p r payload moment old new outcome (inl gives) clean other same = inl (inl (ap sent gives.0))

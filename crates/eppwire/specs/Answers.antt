@@ -61,7 +61,7 @@ pub record IsServed (p : PolicyRules) (r : ℕ) (c : Command) (moment : ℕ) (ol
   pub isolation : Isolates p r c moment reply old new
   pub bytes : SameBytes p r c moment reply old new
   pub follows : Follows old new
-  pub told : Tells (reply_outcome reply) outcome
+  pub answer_is : Tells (reply_outcome reply) outcome
 
 -- or it can't be carried out, and then nothing is changed
 abbrev pub GivesUp : BookState → Outcome → BookState → Type 0
@@ -77,7 +77,7 @@ pub record IsGreeted (p : PolicyRules) (moment : ℕ) (old : BookState) (outcome
   pub early : moment ≤ last_call
   pub step : Greets p moment date old new
   pub follows : Follows old new
-  pub told : Tells (greeting_outcome date) outcome
+  pub answer_is : Tells (greeting_outcome date) outcome
 
 abbrev pub AnswersHello : PolicyRules → ℕ → BookState → Outcome → BookState → Type 0
 AnswersHello p moment old outcome new = GivesUp old outcome new ⊎ IsGreeted p moment old outcome new
@@ -113,7 +113,7 @@ login_code p passwords c =
     else UnimplementedVersion
 
 pub record AnswersLogin (p : PolicyRules) (passwords : List (List ℕ)) (cl_trid : Option (List ℕ)) (c : Credentials) (outcome : Outcome) (caller : Option ℕ) : Type 0 where
-  pub told : Tells (anonymous_outcome cl_trid (login_code p passwords c)) outcome
+  pub answer_is : Tells (anonymous_outcome cl_trid (login_code p passwords c)) outcome
   pub logged_in : caller ≡ caller_of p passwords c
 
 -- what comes before a login is no step of the registry, but for hello

@@ -71,6 +71,6 @@ calls-are-steps-of-two p moment x before after a answered left = record {
         left =
             ap (redacted r (touched_by p pair (lapsed p moment before) touched)) (left ∙ ap (λ (y : Question). now p (effect_of p y (lapsed p moment before))) (sym is))
             ∙ now-alike p r (touched_by p pair (lapsed p moment before) touched) _ _ step.0;
-        told = λ asks. answered ∙ ap (λ (y : Question). answer_to p y (lapsed p moment before)) (sym is) ∙ step.1 asks;
+        answer_is = λ asks. answered ∙ ap (λ (y : Question). answer_to p y (lapsed p moment before)) (sym is) ∙ step.1 asks;
       };
 }

@@ -222,7 +222,7 @@ module _ (p : PolicyRules) (r : ℕ) (touched : Objects) (s t : Registry) (one :
   )
 
   same-reply : (q : ℕ) (c : Command) → q ≡ r → answer p r c s ≡ answer p r c t → answer p q c s ≡ answer p q c t
-  same-reply q c e told = subst (λ (n : ℕ). answer p n c s ≡ answer p n c t) (sym e) told
+  same-reply q c e answer_is = subst (λ (n : ℕ). answer p n c s ≡ answer p n c t) (sym e) answer_is
 
   codes-of : (q : ℕ) (c d : Command) → code_told (answer_to p (command q c) s) ≡ code_told (answer_to p (command q d) t) → (answer p q c s).code ≡ (answer p q d t).code
   codes-of q c d e = same_Some _ _ e

@@ -14,7 +14,7 @@ use Rattle.isolation.specs.Runs.{Answer, Question, answer_to, effect_of, is_aske
 -- for what is touched then.
 pub record GoOnAlike (p : PolicyRules) (r : ℕ) (touched : Objects) (moment : ℕ) (pair : Pair) (before after : Registry) (a : Answer) (other : Registry) : Type 0 where
   pub left : AreOne r (touched_by p pair (lapsed p moment before) touched) (now p after) (now p (left_by p (moment, second pair) other))
-  pub told : is_asked_by r (first pair) ≡ true
+  pub answer_is : is_asked_by r (first pair) ≡ true
       → a ≡ answer_to p (second pair) (lapsed p moment other)
 
 -- A question was answered at a moment, and one registry became another. Whoever the registrar is, whatever

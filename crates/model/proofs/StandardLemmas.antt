@@ -30,7 +30,7 @@ registries-meet-standards p s is = record {
   clock = is.clock;
   identities = is.objects.identities;
   contacts = λ name c at. let k = is.objects.contacts name c at in record {
-    stands = k.stands;
+    is_at = k.is_at;
     transfer = record-of p s c.created c.transferred c.transfer k.transfer;
   };
   hosts = is.objects.hosts;
@@ -38,7 +38,7 @@ registries-meet-standards p s is = record {
       let k : IsDomainOf p s name d = is.objects.domains name d at in
       let on : HasLinesOn s d = is.lines.domains name d at in
       record {
-        stands = k.stands;
+        is_at = k.is_at;
         transfer = record-of p s d.created d.transferred d.transfer k.transfer;
         awaited = request-of s d d.transfer on.awaited on.waiting;
         elsewhere = on.elsewhere;

@@ -15,7 +15,7 @@ use Rattle.model.specs.WellFormed.{HasIdentities, HasMessages, IsContactAt, IsDo
 
 -- a contact is under its name, and its transfer is a record of one (RFC 5733, 2)
 pub record IsStandardContact (p : PolicyRules) (s : Registry) (name : List ℕ) (c : Contact) : Type 0 where
-  pub stands : IsContactAt p s name c
+  pub is_at : IsContactAt p s name c
   pub transfer : IfSome c.transfer (IsTransferRecord p s)
 
 -- A domain's pending transfer was asked for after its creation and its last transfer (what was created or
@@ -28,7 +28,7 @@ pub record IsStandardRequest (s : Registry) (d : Domain) (t : Transfer) : Type 0
 -- A domain is under its name (RFC 5731, 2), and its transfer is a record of one. The graces of a sponsor end with
 -- its sponsorship: nobody else has one that began after the last transfer (RFC 3915, 3.1).
 pub record IsStandardDomain (p : PolicyRules) (s : Registry) (name : List ℕ) (d : Domain) : Type 0 where
-  pub stands : IsDomainAt p s name d
+  pub is_at : IsDomainAt p s name d
   pub transfer : IfSome d.transfer (IsTransferRecord p s)
   pub awaited : IfSome d.transfer (λ (t : Transfer). is_pending_state t.state ≡ true → IsStandardRequest s d t)
   pub elsewhere : (r : ℕ) → r ≢ d.sponsor

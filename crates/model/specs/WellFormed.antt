@@ -96,7 +96,7 @@ pub record IsContactAt (p : PolicyRules) (s : Registry) (name : List ℕ) (c : C
   pub updated : HasBeen s c.updated
 
 pub record IsContactOf (p : PolicyRules) (s : Registry) (name : List ℕ) (c : Contact) : Type 0 where
-  pub stands : IsContactAt p s name c
+  pub is_at : IsContactAt p s name c
   pub transfer : IsLastTransfer p s c.created c.transferred c.transfer
   pub losing : IsFromSponsor c.sponsor c.transfer
 
@@ -128,7 +128,7 @@ pub record IsDomainAt (p : PolicyRules) (s : Registry) (name : List ℕ) (d : Do
   pub hosts : (host : List ℕ) → names_host host d.links ≡ true → IsSome (get s.hosts host)
 
 pub record IsDomainOf (p : PolicyRules) (s : Registry) (name : List ℕ) (d : Domain) : Type 0 where
-  pub stands : IsDomainAt p s name d
+  pub is_at : IsDomainAt p s name d
   pub transfer : IsLastTransfer p s d.created d.transferred d.transfer
 
 -- no two objects of a kind share a ROID (RFC 5730, 2.8)

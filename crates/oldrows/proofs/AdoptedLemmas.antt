@@ -31,7 +31,7 @@ use Rattle.sqltables.proofs.SoundLemmas.{after_key, holds}
 use Rattle.sqltables.proofs.StandingLemmas.{honest}
 use Rattle.oldrows.specs.inner.Adoption.{IsSeen}
 use Rattle.oldrows.specs.inner.Lines.{first_line_in, first_lines, without_end}
-use Rattle.oldrows.specs.inner.Stored.{Covers, Fits, Guards, IsLeftAs, IsOld, IsOldContent, IsSameOld, IsSeenAs, IsShapedAs, leaves_of, left_in, old_contents, readiness_of, rows_in, stands}
+use Rattle.oldrows.specs.inner.Stored.{Covers, Fits, Guards, IsLeftAs, IsOld, IsOldContent, IsSameOld, IsSeenAs, IsShapedAs, leaves_of, left_in, old_contents, readiness_of, rows_in, as_found}
 use Rattle.oldrows.specs.Stored.{IsRead, OldState}
 use Rattle.sqltables.specs.Content.{Content}
 use Rattle.states.specs.States.{Has, Remains}
@@ -101,7 +101,7 @@ left-alone trees was now seen-as reads honest-now may_leave covers db may =
     (it.0, seen-as.leaves (seen-as.answers (reads.honest honest-now)) it.0 (subst (λ (l : List (Remains Content)). Has l it.0) reads.leaves it.1), it.2)
 
 pub shown : (s : State) → IsFound s → (is_there : Bool) → (is_there ≡ true → s.now.schema ≡ first_registry) → (is_there ≡ false → s.now.schema ≢ first_registry)
-    → (trees : Trees) → (HasCleanDisk s → s.now.trees ≡ trees) → IsSeen trees (stands is_there s (left_in is_there s ∷ []))
+    → (trees : Trees) → (HasCleanDisk s → s.now.trees ≡ trees) → IsSeen trees (as_found is_there s (left_in is_there s ∷ []))
 shown s found is_there is not trees same = record {
   content = λ e. seen is_there s.now.trees trees (same (honest s (and_parts s.is_clean s.is_open e).0));
   shaped = λ e.

@@ -21,7 +21,7 @@ use Rattle.sqltables.specs.inner.FirstTables.{first_registry}
 use Rattle.sqltables.proofs.StandingLemmas.{clean-of, honest, leaves-no-more, was-honest}
 use Rattle.states.specs.declared.fault.BookFault.{BookFault}
 use Rattle.states.specs.States.{Remains}
-use Rattle.oldrows.specs.inner.Stored.{Agrees, Asks, Finds, Fits, Guards, IsOld, old_contents, rows_in, stands}
+use Rattle.oldrows.specs.inner.Stored.{Agrees, Asks, Finds, Fits, Guards, IsOld, old_contents, rows_in, as_found}
 use Rattle.oldrows.specs.Stored.{Answers, IsAsked, IsRead, OldState}
 use Rattle.oldrows.proofs.CopyLemmas.{read-on}
 
@@ -69,7 +69,7 @@ module _ (is_there : Bool) (old new : State) (survives : Survives old new (λ _.
   pub guards-looked : (leaves : List (Remains Content)) → Guards old leaves → Guards new leaves
   guards-looked leaves guards clean db may = guards (was-honest old new (λ _. ⊥) survives clean) db (leaves-no-more old new survives clean db may)
 
-  pub reads-looked : (leaves : List (Remains Content)) → IsRead (stands is_there old leaves) (stands is_there new leaves)
+  pub reads-looked : (leaves : List (Remains Content)) → IsRead (as_found is_there old leaves) (as_found is_there new leaves)
   reads-looked leaves = record {
     clean = λ c. let parts = and_parts new.is_clean new.is_open c in let clean = honest new parts.0 in
         ap (λ (b : Bool). b && old.is_open) (clean-of old (was-honest old new (λ _. ⊥) survives clean)) ∙ was_open old new (stood clean) parts.1;
@@ -98,7 +98,7 @@ module _ (sql : List ℕ) (params : Row) (is_there : Bool) (old new : State) (P 
       let it = agreed found clean (seen clean) in
       agrees-same old new it (same-after old new it opened (inl (same-if found clean (seen clean))))
 
-  pub reads-shown : (leaves : List (Remains Content)) (found : List Row) → (HasCleanDisk new → Shown sql params old new found) → IsRead (stands is_there old leaves) (stands is_there new leaves)
+  pub reads-shown : (leaves : List (Remains Content)) (found : List Row) → (HasCleanDisk new → Shown sql params old new found) → IsRead (as_found is_there old leaves) (as_found is_there new leaves)
   reads-shown leaves found seen = record {
     honest = λ e. clean-of old (was-honest old new P survives (honest new e));
     leaves = refl;
@@ -109,7 +109,7 @@ module _ (sql : List ℕ) (params : Row) (is_there : Bool) (old new : State) (P 
   }
 
   -- what answered is open
-  pub answers-shown : (leaves : List (Remains Content)) (found : List Row) → (HasCleanDisk new → Shown sql params old new found) → Answers (stands is_there new leaves)
+  pub answers-shown : (leaves : List (Remains Content)) (found : List Row) → (HasCleanDisk new → Shown sql params old new found) → Answers (as_found is_there new leaves)
   answers-shown leaves found seen e =
       let clean = honest new e in
       ap (λ (b : Bool). b && new.is_open) e ∙ (same-if found clean (seen clean)).0.is_open
@@ -130,7 +130,7 @@ module _ (sql : List ℕ) (params : Row) (is_there : Bool) (old new : State) (P 
   pub fits-left : (e : Error) → (HasCleanDisk new → FailsToQuery sql params old new e) → Fits is_there new
   fits-left e fails clean opened _ = let it = left-by e fails clean opened in agrees-same old new it.0 it.1
 
-  pub reads-left : (leaves : List (Remains Content)) (e : Error) → (HasCleanDisk new → FailsToQuery sql params old new e) → IsRead (stands is_there old leaves) (stands is_there new leaves)
+  pub reads-left : (leaves : List (Remains Content)) (e : Error) → (HasCleanDisk new → FailsToQuery sql params old new e) → IsRead (as_found is_there old leaves) (as_found is_there new leaves)
   reads-left leaves e fails = record {
     honest = λ c. clean-of old (was-honest old new P survives (honest new c));
     leaves = refl;
@@ -154,10 +154,10 @@ finds-by (Err fault) v old new reads answers same = reads
 
 pub asked : {R : Type 0} (shown : R → Row) (sql : List ℕ) (is_there : Bool) (old new : State) (P : Trees → Type 0) (leaves : List (Remains Content)) → Survives old new P → Fits is_there old → is_there ≡ true
     → (f : Content → List R) → Asks shown sql f → (found : List Row) → (HasCleanDisk new → Shown sql [] old new found) → (result : Result (List R) BookFault)
-    → ((xs : List R) → found ≡ map shown xs → IfOk result (λ out. out ≡ xs)) → Finds result (f (rows_in is_there old.now.trees)) (stands is_there old leaves) (stands is_there new leaves)
+    → ((xs : List R) → found ≡ map shown xs → IfOk result (λ out. out ≡ xs)) → Finds result (f (rows_in is_there old.now.trees)) (as_found is_there old leaves) (as_found is_there new leaves)
 asked shown sql is_there old new P leaves survives fits there f asks found seen result read =
     let plain = asks.is.plain in
-    finds-by result (f (rows_in is_there old.now.trees)) (stands is_there old leaves) (stands is_there new leaves)
+    finds-by result (f (rows_in is_there old.now.trees)) (as_found is_there old leaves) (as_found is_there new leaves)
     (reads-shown sql [] is_there old new P survives fits there plain leaves found seen)
     (answers-shown sql [] is_there old new P survives fits there plain leaves found seen)
     (λ e. let clean = honest new (and_parts new.is_clean new.is_open e).0 in
@@ -174,5 +174,5 @@ asked-behind (Ok it) s m t f reads answers found = (
 asked-behind (Err fault) s m t f reads answers found = read-on s m t reads found
 
 -- what answers as long as the disk is clean was open
-pub open-if-asked : (is_there : Bool) (old new : State) (P : Trees → Type 0) (leaves : List (Remains Content)) → Survives old new P → Answers (stands is_there old leaves) → HasCleanDisk new → IsTrue old.is_open
+pub open-if-asked : (is_there : Bool) (old new : State) (P : Trees → Type 0) (leaves : List (Remains Content)) → Survives old new P → Answers (as_found is_there old leaves) → HasCleanDisk new → IsTrue old.is_open
 open-if-asked is_there old new P leaves survives answers clean = (and_parts old.is_clean old.is_open (answers (clean-of old (was-honest old new P survives clean)))).1

@@ -32,12 +32,12 @@ pub struct OldRows<S: Alter> {
 
 impl<S: Alter> Model for OldRows<S> {
     ghost use Rattle.sqlite.specs.Held.{state};
-    ghost use Rattle.oldrows.specs.inner.Stored.{Fits, Guards, leaves_of, stands};
+    ghost use Rattle.oldrows.specs.inner.Stored.{Fits, Guards, leaves_of, as_found};
     ghost use Rattle.oldrows.specs.Stored.{OldState};
 
     ghost Value = { OldState };
 
-    ghost view = { λ r. stands r.is_there (state S.Store r.conn) (leaves_of (state S.Store) r.seen.items) };
+    ghost view = { λ r. as_found r.is_there (state S.Store r.conn) (leaves_of (state S.Store) r.seen.items) };
 
     ghost invariant = { λ r. Fits r.is_there (state S.Store r.conn) × Guards (state S.Store r.conn) (leaves_of (state S.Store) r.seen.items) };
 }

@@ -23,7 +23,7 @@ use Rattle.registry.specs.declared.backlog.Backlog.{Backlog}
 use Rattle.script.specs.declared.exit.Exit.{Exit}
 use Rattle.script.specs.declared.exit.Exit.TheVariants as exits
 use Rattle.script.specs.Deposits.{IsCarriedOut}
-use Rattle.script.specs.Orders.{IsOrdered, IsTold}
+use Rattle.script.specs.Orders.{IsOrdered, PrintsAnswer}
 use Rattle.server.specs.Http.{Passes}
 use Rattle.statements.specs.Tables.{statement}
 use Rattle.statements.specs.declared.extract.Extract.{Extract}
@@ -44,7 +44,7 @@ outcome_of_exit _ = outcomes.Failed
 -- the body is an order that takes its step at the moment, and the text is what `tldreg order` prints of it
 abbrev pub IsAnsweredOrder : PolicyRules → List ℕ → ℕ → Outcome → List ℕ → BookState → BookState → Type 0
 IsAnsweredOrder p body moment outcome text old new =
-    IsOrdered body (λ request. (code : Code) × (outcome ≡ outcome_of_code code) × IsTold p request moment code old new (Some []) (Some text))
+    IsOrdered body (λ request. (code : Code) × (outcome ≡ outcome_of_code code) × PrintsAnswer p request moment code old new (Some []) (Some text))
 
 -- the body is no order, and nothing is changed
 abbrev pub IsNoOrder : List ℕ → Outcome → BookState → BookState → Type 0

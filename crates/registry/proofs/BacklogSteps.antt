@@ -16,7 +16,7 @@ pub shown : (p : PolicyRules) (moment clock t : ℕ) (due : List Due) (found : B
     → BookReads mid new × (BookStays mid new × (new.is_clean ≡ true → due ≡ due_by p t mid.content.registry))
     → found.clock ≡ clock → found.due ≡ length due
     → IsWithin old new × (new.is_clean ≡ true → IsBacklog p moment old.content.registry new.content.registry found)
-shown p moment clock t due found old mid new was_open first is second told counted =
+shown p moment clock t due found old mid new was_open first is second answer_is counted =
     let within : IsWithin old mid = only-read old mid was_open first.0 first.1.0 in
     (within-on old mid new within (only-read mid new within.opened second.0 second.1.0), by)
   where
@@ -29,7 +29,7 @@ shown p moment clock t due found old mid new was_open first is second told count
         let kept : mid.content ≡ old.content = first.0.content (second.1.0.clean clean) in
         let late : t ≡ max moment s.clock = is ∙ ap (max moment) clock-is in
         record {
-          clock = told ∙ clock-is;
+          clock = answer_is ∙ clock-is;
           due = counted ∙ ap (λ (ds : List Due). length ds) (second.1.1 clean ∙ (λ i. due_by p (late i) (kept i).registry));
           left = ap (λ (held : Stored). held.registry) (second.0.content clean ∙ kept);
         }

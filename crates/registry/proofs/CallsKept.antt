@@ -87,26 +87,26 @@ module _ (p : PolicyRules) (sound : IsSound p) (moment : ℕ) (early : moment �
 
   -- ---- all of it
 
-  pub call_kept : {A : Type 0} (x : Question) → MayAsk p x → (told : A → Answer) (makes : Stored → Stored → Type 0) (result : Result A Fault) (after : PolicyRules) (old new : BookState)
+  pub call_kept : {A : Type 0} (x : Question) → MayAsk p x → (as_answer : A → Answer) (makes : Stored → Stored → Type 0) (result : Result A Fault) (after : PolicyRules) (old new : BookState)
       → (old.is_clean ≡ true → old.content.terms ≡ Some (terms_of p)) → StepKeeps p makes result after old new
-      → IfOk result (λ it. new.is_clean ≡ true → IsCall p moment x old.content.registry new.content.registry (told it)) → CallKeeps p moment x told makes result after old new
-  call_kept x may told makes (Ok it) after old new held step is = record {
+      → IfOk result (λ it. new.is_clean ≡ true → IsCall p moment x old.content.registry new.content.registry (as_answer it)) → CallKeeps p moment x as_answer makes result after old new
+  call_kept x may as_answer makes (Ok it) after old new held step is = record {
     policy = step.policy;
     follows = step.follows;
     crash = step.crash;
     answered = record {
       terms = step.terms;
       reopens = reopened p new (λ clean. step.terms clean ∙ held (step.follows.clean clean));
-      well_formed = λ clean. formed x may old.content.registry new.content.registry (told it) (is clean);
-      money = λ clean. paid x old.content.registry new.content.registry (told it) (is clean);
-      two_runs = λ clean. calls-are-steps-of-two p moment x old.content.registry new.content.registry (told it) (is clean).answered (is clean).left;
+      well_formed = λ clean. formed x may old.content.registry new.content.registry (as_answer it) (is clean);
+      money = λ clean. paid x old.content.registry new.content.registry (as_answer it) (is clean);
+      two_runs = λ clean. calls-are-steps-of-two p moment x old.content.registry new.content.registry (as_answer it) (is clean).answered (is clean).left;
     };
   }
-  call_kept x may told makes (Err fault) after old new held step is = record { policy = step.policy; follows = step.follows; crash = step.crash; answered = tt }
+  call_kept x may as_answer makes (Err fault) after old new held step is = record { policy = step.policy; follows = step.follows; crash = step.crash; answered = tt }
 
 -- one that comes too late does nothing
-pub kept_late : {A : Type 0} (p : PolicyRules) (moment : ℕ) (x : Question) (told : A → Answer) (makes : Stored → Stored → Type 0) (s : BookState) → CallKeeps p moment x told makes (Err faults.Moment) p s s
-kept_late p moment x told makes s = record { policy = refl; follows = follows-itself s; crash = (λ left may. may, refl); answered = tt }
+pub kept_late : {A : Type 0} (p : PolicyRules) (moment : ℕ) (x : Question) (as_answer : A → Answer) (makes : Stored → Stored → Type 0) (s : BookState) → CallKeeps p moment x as_answer makes (Err faults.Moment) p s s
+kept_late p moment x as_answer makes s = record { policy = refl; follows = follows-itself s; crash = (λ left may. may, refl); answered = tt }
 
 -- ---- a call inside
 

@@ -51,11 +51,11 @@ settled p moment at_most clock count due part old moved listed new first found c
         → IsSettlement p moment at_most s new.content.registry count
     by clean is =
         let due-is : due ≡ due_by p u s = found.1.1 (second.1.clean clean)
-        ∙ (λ i. due_by p (is.told i) (is.left i)) in
+        ∙ (λ i. due_by p (is.answer_is i) (is.left i)) in
         let part-is : part ≡ take at_most (due_by p u s) = cut ∙ ap (take at_most) due-is in
         let left : new.content.registry ≡ dues_lapsed p u (take at_most (due_by p u s)) (at u s) =
         ap (λ (held : Stored). held.registry) (second.0.content clean)
-        ∙ (λ i. dues_lapsed p (is.told i) (part-is i)
+        ∙ (λ i. dues_lapsed p (is.answer_is i) (part-is i)
         (found.0.content (second.1.clean clean) i).registry)
         ∙ ap (dues_lapsed p u (take at_most (due_by p u s))) is.left in
         record {

@@ -65,7 +65,7 @@ module _ (p : PolicyRules) (moment : ℕ) (before : Registry) where
   passed-for r g =
       let asked : List Due = due_for p r g u (at u before) in
       record {
-        told = refl;
+        answer_is = refl;
         clock = ap (λ (s : Registry). s.clock) (each-as-some p u asked (at u before));
         settled = subst (λ (s : Registry). IsSettledIn p (concerned r g s) s)
             (sym (each-as-some p u asked (at u before)))
@@ -83,7 +83,7 @@ module _ (p : PolicyRules) (moment : ℕ) (before : Registry) where
       let future : now p after ≡ lapsed p moment before = ap (now p) is
       ∙ now-lapsed p moment before in
       record {
-        told = refl;
+        answer_is = refl;
         clock = ap (λ (s : Registry). s.clock) is;
         settled = future ∙ sym is;
         future = future;
@@ -93,7 +93,7 @@ module _ (p : PolicyRules) (moment : ℕ) (before : Registry) where
   passed : (what : Extent) → IsPassed p what moment before
       (dues_lapsed p u (due_in p what u (at u before)) (at u before)) u
   passed nothing = record {
-    told = refl;
+    answer_is = refl;
     clock = refl;
     settled = nothing-due p (at u before);
     future = same-lapse p u before;
@@ -129,13 +129,13 @@ passes p what moment clock old mid new moved lapses = (
         (due_in p what (max moment s.clock) (at (max moment s.clock) s))
         (at (max moment s.clock) s) =
         ap (λ (held : Stored). held.registry) (lapses.0.content clean)
-        ∙ (λ i. dues_lapsed p (is.told i) (due_in p what (is.told i) (is.left i)) (is.left i))
+        ∙ (λ i. dues_lapsed p (is.answer_is i) (due_in p what (is.answer_is i) (is.left i)) (is.left i))
         in
         subst (λ (after : Registry). IsPassed p what moment s after clock) (sym left)
         (subst (λ (date : ℕ). IsPassed p what moment s
         (dues_lapsed p (max moment s.clock)
         (due_in p what (max moment s.clock) (at (max moment s.clock) s))
-        (at (max moment s.clock) s)) date) (sym is.told)
+        (at (max moment s.clock) s)) date) (sym is.answer_is)
         (passed p moment s what))
 
 -- ---- commands
@@ -147,16 +147,16 @@ pub executed : (p : PolicyRules) (r : ℕ) (c : Command) (moment clock : ℕ) (p
     → IsMade p prepared.changes prepared.reply looked after reply
     → IsStep p r c moment before after reply
 executed p r c moment clock prepared reply before mid looked after is same by made =
-    let clock-is : clock ≡ mid.clock = is.told ∙ sym is.clock in
-    let told : reply ≡ answer p r c mid =
-    made.told ∙ by.reply ∙ ap
+    let clock-is : clock ≡ mid.clock = is.answer_is ∙ sym is.clock in
+    let answer_is : reply ≡ answer p r c mid =
+    made.answer_is ∙ by.reply ∙ ap
     (λ (t : ℕ). reply_of p r c (decided p r t c (facts p r c mid)).verdict
     (account_of r mid).commands) clock-is in
     let left : after ≡ effect p r c mid =
     made.left ∙ (λ i. changed_all p (by.changes i) (same i))
     ∙ ap (λ (t : ℕ). changed_all p (decided p r t c (facts p r c mid)).changes mid) clock-is in
     record {
-      answered = told ∙ sym (answer-now p r c mid is.settled) ∙ ap (answer p r c) is.future;
+      answered = answer_is ∙ sym (answer-now p r c mid is.settled) ∙ ap (answer p r c) is.future;
       left = ap (now p) left ∙ effect-now p r c mid is.settled
           ∙ ap (λ (s : Registry). now p (effect p r c s)) is.future;
       waits = left ∙ ap (effect p r c) is.waits;
@@ -184,7 +184,7 @@ ordered p o moment clock name before mid after code named is made =
     (λ (n : Option (List ℕ)). IsSettledFor p o.kind n mid) named
     (settled-for p o.kind name mid is.settled) in
     record {
-      answered = made.told ∙ ap (λ (n : Option (List ℕ)). (status_at o n mid).code) named
+      answered = made.answer_is ∙ ap (λ (n : Option (List ℕ)). (status_at o n mid).code) named
           ∙ sym (status-answer-now p o mid settled)
           ∙ ap (order_answer p (orders.Status o)) is.future;
       left = ap (now p) (made.left
@@ -202,14 +202,14 @@ pub deposited : (p : PolicyRules) (id : List ℕ) (cents : ℤ) (moment clock : 
     → IsCarriedOut p (deposit_decision p clock id cents) mid after code
     → IsOrderStep p (orders.Deposit id cents) moment before after code
 deposited p id cents moment clock before mid after code is made = record {
-  answered = made.told ∙ ap (λ (t : ℕ). (deposit_decision p t id cents).code) is.told;
+  answered = made.answer_is ∙ ap (λ (t : ℕ). (deposit_decision p t id cents).code) is.answer_is;
   left = ap (now p) (made.left
       ∙ ap (λ (t : ℕ). changed_all p (deposit_decision p t id cents).changes mid)
-      (is.told ∙ sym is.clock)) ∙ deposit-effect-now p mid id cents
+      (is.answer_is ∙ sym is.clock)) ∙ deposit-effect-now p mid id cents
       ∙ ap (λ (u : Registry). now p (order_effect p (orders.Deposit id cents) u)) is.future;
   waits = made.left
       ∙ ap (λ (t : ℕ). changed_all p (deposit_decision p t id cents).changes mid)
-      (is.told ∙ sym is.clock) ∙ ap (order_effect p (orders.Deposit id cents)) is.waits;
+      (is.answer_is ∙ sym is.clock) ∙ ap (order_effect p (orders.Deposit id cents)) is.waits;
 }
 
 -- ---- hello
@@ -217,7 +217,7 @@ deposited p id cents moment clock before mid after code is made = record {
 pub greets : (p : PolicyRules) (moment date : ℕ) (before after : Registry)
     → IsPassed p nothing moment before after date → IsGreetingStep p moment before after date
 greets p moment date before after is = record {
-  dated = is.told;
+  dated = is.answer_is;
   left = is.future ∙ sym (now-lapsed p moment before);
   waits = is.waits;
 }
@@ -228,8 +228,8 @@ module _ {X : Type 0} (p : PolicyRules) (find : Registry → X) (what : Extent) 
     (before mid : Registry) (is : IsPassed p what moment before mid clock) where
   pub looked-up : find (now p mid) ≡ find mid
       → IsLookUp p find (lapsing p what) moment before mid (find mid)
-  looked-up stands = record {
-    told = sym stands ∙ ap find is.future;
+  looked-up is_at = record {
+    answer_is = sym is_at ∙ ap find is.future;
     left = is.future ∙ sym (now-lapsed p moment before);
     waits = is.waits;
   }

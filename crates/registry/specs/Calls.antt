@@ -27,11 +27,11 @@ pub record IsKept (p : PolicyRules) (moment : ℕ) (x : Question) (a : Answer) (
 -- Whatever is answered, the policy stays, what was refused stays counted, and a crash of the machine leaves the
 -- call whole or leaves nothing of it: once it answered, what is held now and nothing else. All else is kept
 -- where the question is answered; what a fault leaves is said by itself.
-pub record CallKeeps {A : Type 0} (p : PolicyRules) (moment : ℕ) (x : Question) (told : A → Answer) (makes : Stored → Stored → Type 0) (result : Result A Fault) (after : PolicyRules) (old new : BookState) : Type 0 where
+pub record CallKeeps {A : Type 0} (p : PolicyRules) (moment : ℕ) (x : Question) (as_answer : A → Answer) (makes : Stored → Stored → Type 0) (result : Result A Fault) (after : PolicyRules) (old new : BookState) : Type 0 where
   pub policy : after ≡ p
   pub follows : Follows old new
   pub crash : Outlives result makes old new
-  pub answered : IfOk result (λ it. IsKept p moment x (told it) old new)
+  pub answered : IfOk result (λ it. IsKept p moment x (as_answer it) old new)
 
 -- of a call that looks something up, or lets objects lapse and tells nothing but how many
 abbrev pub LooksUpKeeping : {A : Type 0} → PolicyRules → ℕ → (Stored → Stored → Type 0)

@@ -39,7 +39,7 @@ lapsing_all p t s = dues_lapsed p t (due_by p t s) s
 -- What is answered is what is found in the registry at that moment, and nothing is done but that the clock moves, and
 -- just this lapses.
 pub record IsLookUp {X : Type 0} (p : PolicyRules) (find : Registry → X) (lapsing : ℕ → Registry → Registry) (moment : ℕ) (before after : Registry) (found : X) : Type 0 where
-  pub told : found ≡ find (lapsed p moment before)
+  pub answer_is : found ≡ find (lapsed p moment before)
   pub left : now p after ≡ now p (lapsed p moment before)
   pub waits : after ≡ lapsing (max moment before.clock) (at (max moment before.clock) before)
 

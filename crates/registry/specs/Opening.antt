@@ -50,7 +50,7 @@ pub record Opens (p : PolicyRules) (old new : BookState) : Type 0 where
   pub fits : new.is_clean ≡ true → goes_on (terms_of p) old.content ≡ true
 
 -- a refused book is as it was, and what it is refused for is so
-pub record DoesNotFit (p : PolicyRules) (old new : BookState) : Type 0 where
+pub record HasOtherTerms (p : PolicyRules) (old new : BookState) : Type 0 where
   pub back : IsBack old new
   pub differs : new.is_clean ≡ true → goes_on (terms_of p) old.content ≡ false
 
@@ -65,7 +65,7 @@ pub record IsOthers (old new : BookState) : Type 0 where
   pub other : new.is_clean ≡ true → old.readiness ≡ Other
 
 abbrev pub Refuses : OpenFault → PolicyRules → BookState → BookState → Type 0
-Refuses refusals.Policy p old new = DoesNotFit p old new
+Refuses refusals.Policy p old new = HasOtherTerms p old new
 Refuses refusals.Schema p old new = IsOthers old new
 Refuses refusals.Memory p old new = IsBack old new × NoRefusal old new
 Refuses refusals.Store p old new = IsBack old new × HasRefused old new

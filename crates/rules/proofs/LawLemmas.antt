@@ -130,7 +130,7 @@ module _ (p : PolicyRules) (r t : ℕ) (f : Facts) where
         accepted = λ lawful. absurd (apart (sym row.1 ∙ breaks p r t f q condition row.0 (lawful (cause_of condition))));
         refused = λ refused. record {
           cause = cause_of condition;
-          told = refl;
+          answer_is = refl;
           broken = λ kept. apart (sym row.1 ∙ breaks p r t f q condition row.0 kept);
           first = λ other less. keeps q other (clear-before p r t q f condition first other less);
         };

@@ -114,7 +114,7 @@ module _ (o : StatusOrder) (object : Option Object) where
         accepted = λ lawful. absurd (apart (sym row.1 ∙ breaks condition (lawful (cause_of_order condition))));
         refused = λ refused. record {
           cause = cause_of_order condition;
-          told = refl;
+          answer_is = refl;
           broken = λ kept. apart (sym row.1 ∙ breaks condition kept);
           first = λ other less. keeps other (λ row stands is. earlier cause_of_order (order_holds o object) 0 STATUS_ORDER.now condition refl first row stands (subst (λ (x : Cause). place_of x < place_of (cause_of_order condition)) (sym is) less));
         };

@@ -249,7 +249,7 @@ IsLawful p r t q f = (cause : Cause) → Keeps p r t q f cause
 -- A request is refused with the code of the first cause whose law it breaks.
 pub record IsRefused (p : PolicyRules) (r t : ℕ) (q : Request) (f : Facts) (code : Code) : Type 0 where
   pub cause : Cause
-  pub told : code ≡ code_of cause
+  pub answer_is : code ≡ code_of cause
   pub broken : Keeps p r t q f cause → ⊥
   pub first : (other : Cause) → place_of other < place_of cause → Keeps p r t q f other
 

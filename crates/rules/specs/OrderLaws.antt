@@ -66,7 +66,7 @@ IsLawfulOrder o object = (cause : Cause) → KeepsOrder o object cause
 -- An order is refused with the code of the first cause whose law it breaks.
 pub record IsRefusedOrder (o : StatusOrder) (object : Option Object) (code : Code) : Type 0 where
   pub cause : Cause
-  pub told : code ≡ code_of cause
+  pub answer_is : code ≡ code_of cause
   pub broken : KeepsOrder o object cause → ⊥
   pub first : (other : Cause) → place_of other < place_of cause → KeepsOrder o object other
 

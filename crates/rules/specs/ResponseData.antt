@@ -30,7 +30,7 @@ use Rattle.protocol.specs.declared.reply.ContactHidden.{ContactHidden}
 use Rattle.protocol.specs.declared.reply.ContactInfo.{ContactInfo}
 use Rattle.protocol.specs.declared.reply.Created.{Created}
 use Rattle.protocol.specs.declared.reply.Data.{Data}
-use Rattle.protocol.specs.declared.reply.Data.TheVariants as told
+use Rattle.protocol.specs.declared.reply.Data.TheVariants as res_data
 use Rattle.protocol.specs.declared.reply.DomainHidden.{DomainHidden}
 use Rattle.protocol.specs.declared.reply.DomainInfo.{DomainInfo}
 use Rattle.protocol.specs.declared.reply.HostInfo.{HostInfo}
@@ -167,7 +167,7 @@ transferred p name charge x = record { name = name; transfer = transfer_info p x
 
 abbrev pub transferred_data : PolicyRules → List ℕ → Option ℕ → Option Transfer → Option Data
 transferred_data p name charge after =
-    option_map told.Transferred (option_map (transferred p name charge) after)
+    option_map res_data.Transferred (option_map (transferred p name charge) after)
 
 -- ---- info of hosts: all get all
 
@@ -181,40 +181,40 @@ host_info_at p known = option_map (host_info p known) known.host
 
 abbrev pub response_data : PolicyRules → ℕ → ℕ → Request → Facts → Option Data
 response_data p r t requests.Logout f = None
-response_data p r t requests.Balance f = Some (told.Balance f.account.balance)
+response_data p r t requests.Balance f = Some (res_data.Balance f.account.balance)
 response_data p r t (requests.CheckContact names) f =
-    Some (told.Checked (map (contact_result f) names))
+    Some (res_data.Checked (map (contact_result f) names))
 response_data p r t (requests.CheckDomain names) f =
-    Some (told.Checked (map (domain_result p.zone f) names))
+    Some (res_data.Checked (map (domain_result p.zone f) names))
 response_data p r t (requests.CheckHost names) f =
-    Some (told.Checked (map (host_result p.zone f) names))
+    Some (res_data.Checked (map (host_result p.zone f) names))
 response_data p r t (requests.InfoContact name secret) f =
-    option_map told.Contact (option_and_then (contact_info_at p r secret) (contact_at f name))
-response_data p r t (requests.InfoDomain name secret) f = option_map told.Domain (option_and_then (domain_info_at p r secret) (domain_at f (name_of name)))
+    option_map res_data.Contact (option_and_then (contact_info_at p r secret) (contact_at f name))
+response_data p r t (requests.InfoDomain name secret) f = option_map res_data.Domain (option_and_then (domain_info_at p r secret) (domain_at f (name_of name)))
 response_data p r t (requests.InfoHost name) f =
-    option_map told.Host (option_and_then (host_info_at p) (host_at f (name_of name)))
-response_data p r t (requests.CreateContact new) f = Some (told.Created (created_plain t new.name))
+    option_map res_data.Host (option_and_then (host_info_at p) (host_at f (name_of name)))
+response_data p r t (requests.CreateContact new) f = Some (res_data.Created (created_plain t new.name))
 response_data p r t (requests.CreateDomain new) f =
-    Some (told.Created (created_domain (charge_of p t (requests.CreateDomain new) f) t new))
+    Some (res_data.Created (created_domain (charge_of p t (requests.CreateDomain new) f) t new))
 response_data p r t (requests.CreateHost new) f =
-    Some (told.Created (created_plain t (name_of new.name)))
+    Some (res_data.Created (created_plain t (name_of new.name)))
 response_data p r t (requests.DeleteContact name) f = None
 response_data p r t (requests.DeleteDomain name) f =
-    option_map told.Deleted (option_map deleted (domain_at f (name_of name)))
+    option_map res_data.Deleted (option_map deleted (domain_at f (name_of name)))
 response_data p r t (requests.DeleteHost name) f = None
 response_data p r t (requests.UpdateContact update) f = None
 response_data p r t (requests.UpdateDomain update) f = None
 response_data p r t (requests.UpdateHost update) f = None
-response_data p r t (requests.RenewDomain name expires years) f = option_map told.Renewed (renewed_at (charge_of p t (requests.RenewDomain name expires years) f) name years f)
+response_data p r t (requests.RenewDomain name expires years) f = option_map res_data.Renewed (renewed_at (charge_of p t (requests.RenewDomain name expires years) f) name years f)
 response_data p r t (requests.RequestRestore name) f = None
 response_data p r t (requests.ReportRestore name del_time res_time) f =
     let report : Request = requests.ReportRestore name del_time res_time in
-    option_map told.Renewed (renewed_at (charge_of p t report f) name (years_charged t report f) f)
+    option_map res_data.Renewed (renewed_at (charge_of p t report f) name (years_charged t report f) f)
 response_data p r t (requests.TransferContact name op secret) f =
     transferred_data p name None (option_and_then (contact_after p r t op) (contact_seen f name))
 response_data p r t (requests.TransferDomain name op secret) f =
     let asked : Request = requests.TransferDomain name op secret in
     transferred_data p (name_of name) (charge_told op (charge_of p t asked f)) (option_and_then (domain_after p r t op) (domain_seen f (name_of name)))
 response_data p r t requests.PollRequest f =
-    option_map told.Polled (option_map (polled f.queue.waiting) f.queue.oldest)
-response_data p r t (requests.PollAck id) f = Some (told.Acked (left f.queue))
+    option_map res_data.Polled (option_map (polled f.queue.waiting) f.queue.oldest)
+response_data p r t (requests.PollAck id) f = Some (res_data.Acked (left f.queue))

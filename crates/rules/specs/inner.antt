@@ -1,3 +1,3 @@
 -- Words for this crate's own functions, which no promise of the registry names.
 pub mod Cases
-pub mod Told
+pub mod KnownData

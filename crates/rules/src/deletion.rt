@@ -3,7 +3,7 @@ ghost use Rattle.std.specs.Prelude.{◌≡◌, IfOk};
 ghost use Rattle.std.specs.Option.{option_copied};
 ghost use Rattle.rules.specs.Deletion as spec;
 ghost use Rattle.rules.specs.Verdicts.{code_granted};
-ghost use Rattle.rules.specs.inner.Told as told;
+ghost use Rattle.rules.specs.inner.KnownData as known_data;
 
 use crate::poll::code_of_poll;
 use crate::transfer::code_of_transfer;
@@ -50,7 +50,7 @@ pub(crate) fn code_granted(request: &Request, facts: &Facts) -> Code
 
 /// The data for the sponsor of the domain.
 pub(crate) fn deleted_data(known: Option<&DomainFacts>) -> Result<Option<Data>, AllocError>
-    ensures { IfOk result (λ content. content ≡ told.deleted_data known.entry) }
+    ensures { IfOk result (λ content. content ≡ known_data.deleted_data known.entry) }
 {
     match known {
         None => Ok(None),

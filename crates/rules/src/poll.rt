@@ -1,7 +1,7 @@
 //! How a poll is answered (RFC 5730, 2.9.2.3).
 ghost use Rattle.std.specs.Prelude.{◌≡◌, IfOk};
 ghost use Rattle.rules.specs.Poll as spec;
-ghost use Rattle.rules.specs.inner.Told as told;
+ghost use Rattle.rules.specs.inner.KnownData as known_data;
 
 use accounts::{CommandNotice, LapseNotice, Origin, Subject};
 use facts::{OldestMessage, QueueFacts};
@@ -45,7 +45,7 @@ pub(crate) fn code_of_poll(oldest: &Option<OldestMessage>) -> Code
 
 /// The oldest message, and how many wait.
 pub(crate) fn polled_data(queue: &QueueFacts) -> Result<Option<Data>, AllocError>
-    ensures { IfOk result (λ content. content ≡ told.polled_data queue.now) }
+    ensures { IfOk result (λ content. content ≡ known_data.polled_data queue.now) }
 {
     match &queue.oldest {
         None => Ok(None),

@@ -2,7 +2,7 @@
 ghost use Rattle.std.specs.Prelude.{◌≡◌, IfOk, map, option_map, unwrap_or};
 ghost use Rattle.std.specs.Option.{option_copied};
 ghost use Rattle.rules.specs.ResponseData as spec;
-ghost use Rattle.rules.specs.inner.Told.{
+ghost use Rattle.rules.specs.inner.KnownData.{
   contact_data,
   domain_data,
   host_data,
@@ -130,7 +130,7 @@ fn check_contacts(
     facts: &Facts,
     names: &[Text],
 ) -> Result<Vec<CheckResult>, AllocError>
-    ensures { IfOk result (λ told. told.items ≡ map (spec.contact_result facts.now) names.now) }
+    ensures { IfOk result (λ it. it.items ≡ map (spec.contact_result facts.now) names.now) }
 {
     let mut results = Vec::new(alloc);
     for name in names {
@@ -155,7 +155,7 @@ fn name_result(
     facts: &Facts,
     name: &RequestedName,
 ) -> Result<CheckResult, AllocError>
-    ensures { IfOk result (λ told. told ≡ name_result named zone.now facts.now name.now) }
+    ensures { IfOk result (λ it. it ≡ name_result named zone.now facts.now name.now) }
 {
     let text = name.text();
     let (refused, taken) = match named {
@@ -178,7 +178,7 @@ fn check_names(
     facts: &Facts,
     names: &[RequestedName],
 ) -> Result<Vec<CheckResult>, AllocError>
-    ensures { IfOk result (λ told. told.items ≡ map (name_result named zone.now facts.now) names.now) }
+    ensures { IfOk result (λ it. it.items ≡ map (name_result named zone.now facts.now) names.now) }
 {
     let mut results = Vec::new(alloc);
     for name in names {
@@ -219,7 +219,7 @@ fn renewed_data(
     years: u32,
     seen: Option<&Seen<FullDomain, DomainFace>>,
 ) -> Result<Option<Data>, AllocError>
-    ensures { IfOk result (λ told. told ≡ renewed_data charge name.now years seen.entry) }
+    ensures { IfOk result (λ it. it ≡ renewed_data charge name.now years seen.entry) }
 {
     match full_domain(seen) {
         None => Ok(None),
@@ -251,7 +251,7 @@ fn contact_data(
     secret: Option<&Text>,
     known: Option<&ContactFacts>,
 ) -> Result<Option<Data>, AllocError>
-    ensures { IfOk result (λ told. told ≡ contact_data policy.now caller secret.entry known.entry) }
+    ensures { IfOk result (λ it. it ≡ contact_data policy.now caller secret.entry known.entry) }
 {
     let Some(known) = known else {
         return Ok(None);
@@ -342,7 +342,7 @@ fn contact_hidden(
     secret: Option<Text>,
     contact: &Contact,
 ) -> Result<ContactHidden, AllocError>
-    ensures { IfOk result (λ told. told ≡ spec.contact_hidden policy.now secret contact.now) }
+    ensures { IfOk result (λ it. it ≡ spec.contact_hidden policy.now secret contact.now) }
 {
     let mail = contact.mail.clone()?;
     let voice = copied(&contact.voice)?;
@@ -365,7 +365,7 @@ fn domain_data(
     secret: Option<&Text>,
     known: Option<&DomainFacts>,
 ) -> Result<Option<Data>, AllocError>
-    ensures { IfOk result (λ told. told ≡ domain_data policy.now caller secret.entry known.entry) }
+    ensures { IfOk result (λ it. it ≡ domain_data policy.now caller secret.entry known.entry) }
 {
     let Some(known) = known else {
         return Ok(None);
@@ -411,7 +411,7 @@ fn domain_face_info(
     subordinate: &Seq<Text>,
     face: DomainFace,
 ) -> Result<DomainInfo, AllocError>
-    ensures { IfOk result (λ told. told ≡ spec.domain_face_info policy.now subordinate.now face) }
+    ensures { IfOk result (λ it. it ≡ spec.domain_face_info policy.now subordinate.now face) }
 {
     let sponsor = id_of(alloc, policy, face.sponsor)?;
     Ok(DomainInfo {
@@ -492,7 +492,7 @@ fn host_data(
     policy: &Policy,
     known: Option<&HostFacts>,
 ) -> Result<Option<Data>, AllocError>
-    ensures { IfOk result (λ told. told ≡ host_data policy.now known.entry) }
+    ensures { IfOk result (λ it. it ≡ host_data policy.now known.entry) }
 {
     let Some(known) = known else {
         return Ok(None);

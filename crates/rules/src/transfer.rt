@@ -120,7 +120,7 @@ pub(crate) fn transferred_data(
     charge: Option<u64>,
     after: Option<Transfer>,
 ) -> Result<Option<Data>, AllocError>
-    ensures { IfOk result (λ told. told ≡ transferred_data policy.now name.now charge after) }
+    ensures { IfOk result (λ it. it ≡ transferred_data policy.now name.now charge after) }
 {
     let Some(transfer) = after else {
         return Ok(None);

@@ -2,7 +2,7 @@
 ghost use Rattle.std.specs.Prelude.{◌≡◌, IfOk, None};
 ghost use Rattle.rules.specs.Laws.{AnswersLawfully};
 ghost use Rattle.rules.specs.Verdicts.{judged};
-ghost use Rattle.rules.specs.inner.Told.{answer_in, grant_in};
+ghost use Rattle.rules.specs.inner.KnownData.{answer_in, grant_in};
 
 use crate::case::Case;
 use crate::deletion::code_granted;

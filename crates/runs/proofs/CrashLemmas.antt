@@ -114,35 +114,35 @@ same-book : (left : Remains Stored) (s : BookState) → IsFound left.readiness l
 same-book left s it is = subst (λ (r : Ready). IsBook r s.content) (sym it.ready) (subst (IsBook left.readiness) (sym it.content) is)
 
 reaches : (Past : Bool → Stored → Type 0) (events : List Event) (old new : BookState) → Stands Past old → Happen events old new → Reaches Past events new
-reaches Past [] old new stands same =
+reaches Past [] old new is_at same =
     subst (Reaches Past []) (sym same) (record {
-      held = λ clean. (false, old.content, stands.held clean, [], (refl, refl), refl);
-      left = λ left may. ⊎_elim (λ past. (false, left.content, past, [], (refl, refl), refl)) (λ past. (true, left.content, past, [], (refl, refl), refl)) (stands.left left may).past;
+      held = λ clean. (false, old.content, is_at.held clean, [], (refl, refl), refl);
+      left = λ left may. ⊎_elim (λ past. (false, left.content, past, [], (refl, refl), refl)) (λ past. (true, left.content, past, [], (refl, refl), refl)) (is_at.left left may).past;
     })
-reaches Past (answered call ∷ events) old new stands (mid, happens, rest) =
+reaches Past (answered call ∷ events) old new is_at (mid, happens, rest) =
     let more : Reaches (after_answer Past call) events new = reaches (after_answer Past call) events mid new
-    (alone (after_answer Past call) mid (λ clean. (old.content, stands.held (happens.0.clean clean), happens.1 clean)) (λ clean. opened-by call old.content mid.content (happens.1 clean)) happens.2) rest in
+    (alone (after_answer Past call) mid (λ clean. (old.content, is_at.held (happens.0.clean clean), happens.1 clean)) (λ clean. opened-by call old.content mid.content (happens.1 clean)) happens.2) rest in
     record { held = λ clean. comes-answered Past call events _ (more.held clean); left = λ left may. comes-answered Past call (events ++ crash ∷ []) left.content (more.left left may) }
-reaches Past (refused call ∷ events) old new stands (mid, happens, rest) =
+reaches Past (refused call ∷ events) old new is_at (mid, happens, rest) =
     let now : Stands Past mid = record {
-      held = λ clean. subst (Past false) (sym (happens.1 clean)) (stands.held (happens.0.clean clean));
-      left = λ left may. stands.left left (happens.2 left may);
+      held = λ clean. subst (Past false) (sym (happens.1 clean)) (is_at.held (happens.0.clean clean));
+      left = λ left may. is_at.left left (happens.2 left may);
     } in
     let more : Reaches Past events new = reaches Past events mid new now rest in
     record { held = λ clean. comes-refused Past call events _ (more.held clean); left = λ left may. comes-refused Past call (events ++ crash ∷ []) left.content (more.left left may) }
-reaches Past (gave_up call ∷ events) old new stands (mid, happens, rest) =
+reaches Past (gave_up call ∷ events) old new is_at (mid, happens, rest) =
     let now : Stands (after_fault Past call) mid = record {
-      held = λ clean. subst (Past false) (sym (happens.1 clean)) (stands.held (happens.0.clean clean));
+      held = λ clean. subst (Past false) (sym (happens.1 clean)) (is_at.held (happens.0.clean clean));
       left = λ left may. ⊎_elim
-          (λ before. let was = stands.left left before in record { past = ⊎_elim (λ past. inl past) (λ past. inr (inl past)) was.past; is = was.is })
-          (λ it. subst (WasLeft (after_fault Past call)) (sym it.is) (record { past = inr (inr (old.content, stands.held it.clean, it.made)); is = opened-by call old.content it.held it.made }))
+          (λ before. let was = is_at.left left before in record { past = ⊎_elim (λ past. inl past) (λ past. inr (inl past)) was.past; is = was.is })
+          (λ it. subst (WasLeft (after_fault Past call)) (sym it.is) (record { past = inr (inr (old.content, is_at.held it.clean, it.made)); is = opened-by call old.content it.held it.made }))
           (happens.2 left may);
     } in
     let more : Reaches (after_fault Past call) events new = reaches (after_fault Past call) events mid new now rest in
     record { held = λ clean. comes-fault Past call events _ (more.held clean); left = λ left may. comes-fault Past call (events ++ crash ∷ []) left.content (more.left left may) }
-reaches Past (crash ∷ events) old new stands (mid, happens, rest) =
+reaches Past (crash ∷ events) old new is_at (mid, happens, rest) =
     let left : Remains Stored = happens.1.0 in
-    let was : WasLeft Past left = stands.left left (may-of old left happens.0 happens.1.1) in
+    let was : WasLeft Past left = is_at.left left (may-of old left happens.0 happens.1.1) in
     let it : IsFound left.readiness left.content mid = again left.readiness left.content mid was.is happens.1.2 in
     let more : Reaches (after_crash Past) events new = reaches (after_crash Past) events mid new
     (found (after_crash Past) mid (λ clean. subst (after_crash Past false) (sym it.content) was.past) (λ clean. same-book left mid it was.is) happens.2) rest in

@@ -35,6 +35,6 @@ pub fn runs_keep_money()
 /// paid different sums. They answer a registrar alike, look-ups included, as long as it presents no right
 /// secret of such an object. Afterwards everybody may look up the same in both.
 pub fn alike_runs_tell_the_same()
-    ensures told { spec.AlikeRunsTellTheSame }
+    ensures answers { spec.AlikeRunsTellTheSame }
     ensures public { spec.AlikeRunsShowTheSame }
 {}

@@ -21,12 +21,12 @@ use Rattle.script.specs.Runs.{GivesUp, IsAnswered, OperatorSteps, SaidSteps, kep
 use Rattle.script.specs.declared.line.Sender.{Sender}
 use Rattle.script.specs.declared.line.Sender.TheVariants.{Registrar, Operator}
 use Rattle.script.specs.Lines.{registrar_of}
-use Rattle.script.specs.inner.Runs.{told_text}
+use Rattle.script.specs.inner.Runs.{printed_text}
 use Rattle.books.specs.Book.{BookState, Stored}
 
 -- ---- a registrar
 
-told_reply : (last : Bool) (text : List ℕ) → told_text (cond last (ended text) (replied text)) ≡ Some text
+told_reply : (last : Bool) (text : List ℕ) → printed_text (cond last (ended text) (replied text)) ≡ Some text
 told_reply true text = refl
 told_reply false text = refl
 
@@ -37,25 +37,25 @@ number_in None = 0
 module _ (p : PolicyRules) (r moment : ℕ) (old : BookState) (outcome : Outcome) (new : BookState) where
   -- what is printed, if nothing wrong was taken from what keeps the book
   abbrev IsPrinted : (List ℕ → Type 0) → Type 0
-  IsPrinted P = IfSome (told_text outcome) (λ text. new.is_clean ≡ true → P text)
+  IsPrinted P = IfSome (printed_text outcome) (λ text. new.is_clean ≡ true → P text)
 
-  printed : (P : List ℕ → Type 0) (wanted : Outcome) (text : List ℕ) → told_text wanted ≡ Some text → Tells wanted outcome → (new.is_clean ≡ true → P text) → IsPrinted P
-  printed P wanted text is (inl e) holds = subst (λ (o : Option (List ℕ)). IfSome o (λ text. new.is_clean ≡ true → P text)) (sym (ap told_text e ∙ is)) holds
-  printed P wanted text is (inr e) holds = subst (λ (o : Outcome). IfSome (told_text o) (λ text. new.is_clean ≡ true → P text)) (sym e) tt
+  printed : (P : List ℕ → Type 0) (wanted : Outcome) (text : List ℕ) → printed_text wanted ≡ Some text → Tells wanted outcome → (new.is_clean ≡ true → P text) → IsPrinted P
+  printed P wanted text is (inl e) holds = subst (λ (o : Option (List ℕ)). IfSome o (λ text. new.is_clean ≡ true → P text)) (sym (ap printed_text e ∙ is)) holds
+  printed P wanted text is (inr e) holds = subst (λ (o : Outcome). IfSome (printed_text o) (λ text. new.is_clean ≡ true → P text)) (sym e) tt
 
   abbrev IsSaid : InSession → List ℕ → Type 0
   IsSaid words text = GivesUp (kept old) (kept new) text ⊎ SaidSteps p r words moment (kept old) (kept new) text
 
   gave_up : (words : InSession) → wire.GivesUp old outcome new → IsPrinted (IsSaid words)
-  gave_up words gives = subst (λ (o : Outcome). IfSome (told_text o) (λ text. new.is_clean ≡ true → IsSaid words text)) (sym gives.0)
+  gave_up words gives = subst (λ (o : Outcome). IfSome (printed_text o) (λ text. new.is_clean ≡ true → IsSaid words text)) (sym gives.0)
       (λ clean. inl (record { same = ap (λ (s : Stored). s.registry) (gives.1.content clean); fixed = refl }))
 
   said : (words : InSession) → AnswersSaid p r words moment old outcome new → IsPrinted (IsSaid words)
   said Hello (inl gives) = gave_up Hello gives
-  said Hello (inr greeted) = printed (IsSaid Hello) _ (greeting_text greeted.date) refl greeted.told
+  said Hello (inr greeted) = printed (IsSaid Hello) _ (greeting_text greeted.date) refl greeted.is_printed
       (λ clean. inr (record { date = greeted.date; early = greeted.early; step = greeted.step clean; written = refl }))
   said (Ordinary c) (inl gives) = gave_up (Ordinary c) gives
-  said (Ordinary c) (inr served) = printed (IsSaid (Ordinary c)) _ (reply_text served.reply) (told_reply (is_last served.reply.code) (reply_text served.reply)) served.told
+  said (Ordinary c) (inr served) = printed (IsSaid (Ordinary c)) _ (reply_text served.reply) (told_reply (is_last served.reply.code) (reply_text served.reply)) served.is_printed
       (λ clean. inr (record { reply = served.reply; early = served.early; step = served.step clean; written = refl }))
 
   answered : (payload : List ℕ) → AnswersRegistrar p r payload moment old outcome new → IsPrinted (IsAnswered p (Registrar r) payload moment (kept old) (kept new))

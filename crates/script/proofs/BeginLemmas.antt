@@ -15,7 +15,7 @@ use Rattle.script.specs.declared.exit.Exit.TheVariants as exits
 use Rattle.script.specs.Exits.{exit_of}
 use Rattle.script.specs.Runs.{Answers, BeginsBehind, Begins, EndsIn, Prints, Writes, lines_of, printed}
 use Rattle.script.specs.inner.Runs.{AppendsFront, BreaksAt, EndsBehind}
-use Rattle.script.proofs.RunLemmas.{AreTold, Prints-told, Reads, next_lines, under}
+use Rattle.script.proofs.RunLemmas.{ArePrinted, Prints-told, Reads, next_lines, under}
 
 -- ---- fronts of known bytes
 
@@ -33,35 +33,35 @@ front_of_more : (a b : Option (List ℕ)) (text more : List ℕ) → AppendsFron
 front_of_more a b text more (front, rest, wrote, is) = (front, rest ++ more, wrote, ap (λ (l : List ℕ). l ++ more) is ∙ append_assoc front rest more)
 
 -- what was sent and is pending was told behind what was pending
-sent_and_pending : (x y : List ℕ) (before pending sent told : List ℕ) → y ≡ x ++ sent → y ++ pending ≡ (x ++ before) ++ told → sent ++ pending ≡ before ++ told
-sent_and_pending x y before pending sent told is all =
-    append_cancel_left x (sent ++ pending) (before ++ told) (sym (append_assoc x sent pending) ∙ ap (λ (l : List ℕ). l ++ pending) (sym is) ∙ all ∙ append_assoc x before told)
+sent_and_pending : (x y : List ℕ) (before pending sent is_printed : List ℕ) → y ≡ x ++ sent → y ++ pending ≡ (x ++ before) ++ is_printed → sent ++ pending ≡ before ++ is_printed
+sent_and_pending x y before pending sent is_printed is all =
+    append_cancel_left x (sent ++ pending) (before ++ is_printed) (sym (append_assoc x sent pending) ∙ ap (λ (l : List ℕ). l ++ pending) (sym is) ∙ all ∙ append_assoc x before is_printed)
 
 -- a front behind what was told
-pub front_behind : (a b c : Option (List ℕ)) (before pending sent told more : List ℕ) → Appends a b sent → Appends (append_known a before) (append_known b pending) told → AppendsFront b c (pending ++ more)
-    → AppendsFront a c (before ++ (told ++ more))
-front_behind None b c before pending sent told more s t w = ([], before ++ (told ++ more), tt, refl)
-front_behind (Some x) None c before pending sent told more s t w = absurd s
-front_behind (Some x) (Some y) c before pending sent told more s t (front, rest, wrote, is) =
-    let joined : sent ++ pending ≡ before ++ told = sent_and_pending x y before pending sent told s t in (
+pub front_behind : (a b c : Option (List ℕ)) (before pending sent is_printed more : List ℕ) → Appends a b sent → Appends (append_known a before) (append_known b pending) is_printed → AppendsFront b c (pending ++ more)
+    → AppendsFront a c (before ++ (is_printed ++ more))
+front_behind None b c before pending sent is_printed more s t w = ([], before ++ (is_printed ++ more), tt, refl)
+front_behind (Some x) None c before pending sent is_printed more s t w = absurd s
+front_behind (Some x) (Some y) c before pending sent is_printed more s t (front, rest, wrote, is) =
+    let joined : sent ++ pending ≡ before ++ is_printed = sent_and_pending x y before pending sent is_printed s t in (
       sent ++ front,
       rest,
       Appends-trans (Some x) (Some y) c sent front s wrote,
-      sym (append_assoc before told more) ∙ ap (λ (l : List ℕ). l ++ more) (sym joined) ∙ append_assoc sent pending more ∙ ap (λ (l : List ℕ). sent ++ l) is ∙ sym (append_assoc sent front rest),
+      sym (append_assoc before is_printed more) ∙ ap (λ (l : List ℕ). l ++ more) (sym joined) ∙ append_assoc sent pending more ∙ ap (λ (l : List ℕ). sent ++ l) is ∙ sym (append_assoc sent front rest),
     )
 
 -- ---- the front of the replies
 
 -- lines that were told, behind which a fault comes
 pub begun_between : (p : PolicyRules) (lines : List (List ℕ)) (before after : Registry) (a b old new : Option (List ℕ)) (pending : List ℕ)
-    → Reads lines a b → AreTold p lines before after (append_known old pending) new → IfSome a (λ input. Writes old new (BeginsBehind pending p before input))
-begun_between p lines before after None b old new pending r told = tt
-begun_between p lines before after (Some input) None old new pending r told = absurd r
-begun_between p lines before after (Some input) (Some others) old new pending r told =
-    let text : List ℕ = pending ++ printed told.replies in (
+    → Reads lines a b → ArePrinted p lines before after (append_known old pending) new → IfSome a (λ input. Writes old new (BeginsBehind pending p before input))
+begun_between p lines before after None b old new pending r is_printed = tt
+begun_between p lines before after (Some input) None old new pending r is_printed = absurd r
+begun_between p lines before after (Some input) (Some others) old new pending r is_printed =
+    let text : List ℕ = pending ++ printed is_printed.replies in (
       text,
-      known_pending old new pending (printed told.replies) told.written,
-      record { lines = lines; others = lines_of others; split = r; after = after; replies = told.replies; prints = told.prints; rest = []; text = sym (append-nil text) },
+      known_pending old new pending (printed is_printed.replies) is_printed.written,
+      record { lines = lines; others = lines_of others; split = r; after = after; replies = is_printed.replies; prints = is_printed.prints; rest = []; text = sym (append-nil text) },
     )
 
 front_begins : (p : PolicyRules) (lines others : List (List ℕ)) (before after : Registry) (replies : List (List ℕ)) (input : List ℕ) (old new : Option (List ℕ)) (pending : List ℕ)
@@ -72,25 +72,25 @@ front_begins p lines others before after replies input old new pending split pri
 -- a line breaks a run, behind the lines that were told
 pub begun_at : (p q : PolicyRules) (lines : List (List ℕ)) (text line : List ℕ) (before middle : Registry) (a b old between new : Option (List ℕ)) (first pending sent : List ℕ)
     → q ≡ p → line ≡ strip_last 10 text → Reads lines a b → IfSome b (λ xs. text ≡ take_through 10 xs) → 0 < length text
-    → AreTold p lines before middle (append_known old first) (append_known between pending) → Appends old between sent → BreaksAt q line middle between pending new
+    → ArePrinted p lines before middle (append_known old first) (append_known between pending) → Appends old between sent → BreaksAt q line middle between pending new
     → IfSome a (λ input. Writes old new (BeginsBehind first p before input))
-begun_at p q lines text line before middle None b old between new first pending sent same l r t h told s breaks = tt
-begun_at p q lines text line before middle (Some input) None old between new first pending sent same l r t h told s breaks = absurd r
-begun_at p q lines text line before middle (Some input) (Some xs) old between new first pending sent same l r t h told s (more, may, front) =
-    let all : AppendsFront old new (first ++ (printed told.replies ++ printed more)) = front_behind old between new first pending sent (printed told.replies) (printed more) s told.written front in
-    let wrote : AppendsFront old new (first ++ printed (told.replies ++ more)) = subst (λ (l : List ℕ). AppendsFront old new (first ++ l)) (sym (flat_map-append (λ reply. reply ++ codes "\n") told.replies more)) all in
+begun_at p q lines text line before middle None b old between new first pending sent same l r t h is_printed s breaks = tt
+begun_at p q lines text line before middle (Some input) None old between new first pending sent same l r t h is_printed s breaks = absurd r
+begun_at p q lines text line before middle (Some input) (Some xs) old between new first pending sent same l r t h is_printed s (more, may, front) =
+    let all : AppendsFront old new (first ++ (printed is_printed.replies ++ printed more)) = front_behind old between new first pending sent (printed is_printed.replies) (printed more) s is_printed.written front in
+    let wrote : AppendsFront old new (first ++ printed (is_printed.replies ++ more)) = subst (λ (l : List ℕ). AppendsFront old new (first ++ l)) (sym (flat_map-append (λ reply. reply ++ codes "\n") is_printed.replies more)) all in
     by may wrote
   where
-    by : (more ≡ []) ⊎ ((after : Registry) × Prints q (line ∷ []) middle after more) → AppendsFront old new (first ++ printed (told.replies ++ more)) → Writes old new (BeginsBehind first p before input)
+    by : (more ≡ []) ⊎ ((after : Registry) × Prints q (line ∷ []) middle after more) → AppendsFront old new (first ++ printed (is_printed.replies ++ more)) → Writes old new (BeginsBehind first p before input)
     by (inl none) wrote =
-        let same_replies : told.replies ++ more ≡ told.replies = ap (λ (m : List (List ℕ)). told.replies ++ m) none ∙ append-nil told.replies in
-        front_begins p lines (lines_of xs) before middle told.replies input old new first r told.prints (subst (λ (m : List (List ℕ)). AppendsFront old new (first ++ printed m)) same_replies wrote)
+        let same_replies : is_printed.replies ++ more ≡ is_printed.replies = ap (λ (m : List (List ℕ)). is_printed.replies ++ m) none ∙ append-nil is_printed.replies in
+        front_begins p lines (lines_of xs) before middle is_printed.replies input old new first r is_printed.prints (subst (λ (m : List (List ℕ)). AppendsFront old new (first ++ printed m)) same_replies wrote)
     by (inr (after, prints)) wrote =
         let some : 0 < length (take_through 10 xs) = subst (λ (t : List ℕ). 0 < length t) t h in
         let here : List ℕ = strip_last 10 text in
         let next : lines_of xs ≡ here ∷ lines_of (drop_through 10 xs) = next_lines xs some ∙ ap (λ (t : List ℕ). strip_last 10 t ∷ lines_of (drop_through 10 xs)) (sym t) in
         let split : lines_of input ≡ (lines ++ here ∷ []) ++ lines_of (drop_through 10 xs) = r ∙ ap (λ (ls : List (List ℕ)). lines ++ ls) next ∙ sym (append_assoc lines (here ∷ []) (lines_of (drop_through 10 xs))) in
-        front_begins p (lines ++ here ∷ []) (lines_of (drop_through 10 xs)) before after (told.replies ++ more) input old new first split (Prints-told p q lines here line before middle after told.replies more same l told.prints prints) wrote
+        front_begins p (lines ++ here ∷ []) (lines_of (drop_through 10 xs)) before after (is_printed.replies ++ more) input old new first split (Prints-told p q lines here line before middle after is_printed.replies more same l is_printed.prints prints) wrote
 
 -- ---- a line that breaks a run
 
@@ -158,8 +158,8 @@ faults_end exit p before after (Some input) old pending new is begun = fault_end
 
 -- a fault between two lines ends a run
 pub Ends-between : (A : Type 0) (exit : Exit) (p : PolicyRules) (lines : List (List ℕ)) (before middle after : Registry) (a b old new : Option (List ℕ)) (pending : List ℕ) → IsFault exit
-    → Reads lines a b → (A → AreTold p lines before middle (append_known old pending) new) → IfSome a (λ input. A → EndsBehind p before after input old pending new exit)
-Ends-between A exit p lines before middle after a b old new pending is r told = under A a _ (λ given. faults_end exit p before after a old pending new is (begun_between p lines before middle a b old new pending r (told given)))
+    → Reads lines a b → (A → ArePrinted p lines before middle (append_known old pending) new) → IfSome a (λ input. A → EndsBehind p before after input old pending new exit)
+Ends-between A exit p lines before middle after a b old new pending is r is_printed = under A a _ (λ given. faults_end exit p before after a old pending new is (begun_between p lines before middle a b old new pending r (is_printed given)))
 
 -- what was printed in a run, however it ended
 pub begun_by : (exit : Exit) (p : PolicyRules) (before after : Registry) (input : List ℕ) (a new : Option (List ℕ)) → EndsBehind p before after input a [] new exit → Writes a new (Begins p before input)

@@ -52,5 +52,5 @@ text_none bs h = by (is_utf8 bs) refl
 pub no_moment : (bs : List ℕ) (m : ℕ) → None ≡ cond (is_utf8 bs) (Some bs) None → IsMoment m → bs ≡ moment_text m → ⊥
 no_moment bs m none range written =
     let text : is_utf8 bs ≡ true = ap is_utf8 written ∙ moment_utf8 m range in
-    let told : None ≡ Some bs = rw text at none in
+    let is_printed : None ≡ Some bs = rw text at none in
     absurd cc

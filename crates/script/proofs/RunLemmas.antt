@@ -88,10 +88,10 @@ Prints-more p ((b ∷ bs) ∷ lines) line before between after replies more firs
     (first.0, others ++ more, middle, ap (λ r. r ++ more) first.3, first.4, Prints-more p lines line middle between after others more later next)
 
 -- the same, where the policy and the line are known by equations
-pub Prints-told : (p q : PolicyRules) (lines : List (List ℕ)) (line told : List ℕ) (before between after : Registry) (replies more : List (List ℕ))
-    → q ≡ p → told ≡ line → Prints p lines before between replies → Prints q (told ∷ []) between after more → Prints p (lines ++ line ∷ []) before after (replies ++ more)
-Prints-told p q lines line told before between after replies more same e first next =
-    let under : Prints p (told ∷ []) between after more = subst (λ (r : PolicyRules). Prints r (told ∷ []) between after more) same next in
+pub Prints-told : (p q : PolicyRules) (lines : List (List ℕ)) (line is_printed : List ℕ) (before between after : Registry) (replies more : List (List ℕ))
+    → q ≡ p → is_printed ≡ line → Prints p lines before between replies → Prints q (is_printed ∷ []) between after more → Prints p (lines ++ line ∷ []) before after (replies ++ more)
+Prints-told p q lines line is_printed before between after replies more same e first next =
+    let under : Prints p (is_printed ∷ []) between after more = subst (λ (r : PolicyRules). Prints r (is_printed ∷ []) between after more) same next in
     Prints-more p lines line before between after replies more first (subst (λ (l : List ℕ). Prints p (l ∷ []) between after more) e under)
 
 pub Appends-printed : (a b c : Option (List ℕ)) (replies more : List (List ℕ)) → Appends a b (printed replies) → Appends b c (printed more) → Appends a c (printed (replies ++ more))
@@ -105,21 +105,21 @@ TellsLine-one p (byte ∷ bytes) text before after a b some answers wrote =
     (text ∷ [], (text, [], after, refl, answers, (refl, refl)), subst (Appends a b) (sym (append-nil _)) wrote)
 
 -- lines that are answered: the replies, and what of them is known to be written
-pub record AreTold (p : PolicyRules) (lines : List (List ℕ)) (before after : Registry) (old new : Option (List ℕ)) : Type 0 where
+pub record ArePrinted (p : PolicyRules) (lines : List (List ℕ)) (before after : Registry) (old new : Option (List ℕ)) : Type 0 where
   pub replies : List (List ℕ)
   pub prints : Prints p lines before after replies
   pub written : Appends old new (printed replies)
 
 -- no line
-pub AreTold-nil : (p : PolicyRules) (before : Registry) (a : Option (List ℕ)) → AreTold p [] before before a a
-AreTold-nil p before a = record { replies = []; prints = (refl, refl); written = Appends-nil a }
+pub ArePrinted-nil : (p : PolicyRules) (before : Registry) (a : Option (List ℕ)) → ArePrinted p [] before before a a
+ArePrinted-nil p before a = record { replies = []; prints = (refl, refl); written = Appends-nil a }
 
 -- one line more, where the policy and the line are known by equations
-pub AreTold-more : (p q : PolicyRules) (lines : List (List ℕ)) (line told : List ℕ) (before between after : Registry) (a b c : Option (List ℕ))
-    → q ≡ p → told ≡ line → AreTold p lines before between a b → TellsLine q told between after b c → AreTold p (lines ++ line ∷ []) before after a c
-AreTold-more p q lines line told before between after a b c same e first next = record {
+pub ArePrinted-more : (p q : PolicyRules) (lines : List (List ℕ)) (line is_printed : List ℕ) (before between after : Registry) (a b c : Option (List ℕ))
+    → q ≡ p → is_printed ≡ line → ArePrinted p lines before between a b → TellsLine q is_printed between after b c → ArePrinted p (lines ++ line ∷ []) before after a c
+ArePrinted-more p q lines line is_printed before between after a b c same e first next = record {
   replies = first.replies ++ next.0;
-  prints = Prints-told p q lines line told before between after first.replies next.0 same e first.prints next.1;
+  prints = Prints-told p q lines line is_printed before between after first.replies next.0 same e first.prints next.1;
   written = Appends-printed a b c first.replies next.0 first.written next.2;
 }
 
@@ -131,13 +131,13 @@ under A None P h = tt
 under A (Some input) P h = h
 
 ends_done : (p : PolicyRules) (lines : List (List ℕ)) (before after : Registry) (a b old new : Option (List ℕ))
-    → Reads lines a b → IsAtEnd b → AreTold p lines before after old new → IfSome a (λ input. EndsIn p before after input old new exits.Done)
-ends_done p lines before after None b old new r e told = tt
-ends_done p lines before after (Some input) None old new r e told = absurd r
-ends_done p lines before after (Some input) (Some rest) old new r e told =
+    → Reads lines a b → IsAtEnd b → ArePrinted p lines before after old new → IfSome a (λ input. EndsIn p before after input old new exits.Done)
+ends_done p lines before after None b old new r e is_printed = tt
+ends_done p lines before after (Some input) None old new r e is_printed = absurd r
+ends_done p lines before after (Some input) (Some rest) old new r e is_printed =
     let all : lines_of input ≡ lines = r ∙ ap (λ (x : List ℕ). lines ++ lines_of x) e ∙ append-nil lines in
-    (printed told.replies, told.written, record { replies = told.replies; prints = subst (λ (ls : List (List ℕ)). Prints p ls before after told.replies) (sym all) told.prints; text = refl })
+    (printed is_printed.replies, is_printed.written, record { replies = is_printed.replies; prints = subst (λ (ls : List (List ℕ)). Prints p ls before after is_printed.replies) (sym all) is_printed.prints; text = refl })
 
 pub Ends-done : (A : Type 0) (p : PolicyRules) (lines : List (List ℕ)) (before after : Registry) (a b old new : Option (List ℕ))
-    → Reads lines a b → IsAtEnd b → (A → AreTold p lines before after old new) → IfSome a (λ input. A → EndsIn p before after input old new exits.Done)
-Ends-done A p lines before after a b old new r e told = under A a _ (λ given. ends_done p lines before after a b old new r e (told given))
+    → Reads lines a b → IsAtEnd b → (A → ArePrinted p lines before after old new) → IfSome a (λ input. A → EndsIn p before after input old new exits.Done)
+Ends-done A p lines before after a b old new r e is_printed = under A a _ (λ given. ends_done p lines before after a b old new r e (is_printed given))

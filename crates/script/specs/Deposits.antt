@@ -33,10 +33,10 @@ IsCarriedOut p request moment old new =
 
 -- How what is to be done ends that isn't answered: the registry gave up, and nothing is printed; or it was
 -- done, but the output failed, or memory did; or memory failed before.
-abbrev pub EndsUntold : (BookState → BookState → Type 0)
+abbrev pub EndsUnprinted : (BookState → BookState → Type 0)
     → (old new : BookState) → (before after : Option (List ℕ)) → Exit → Type 0
-EndsUntold Does old new before after (exits.Registry fault) =
+EndsUnprinted Does old new before after (exits.Registry fault) =
     Fails fault old new × Keeps before after
-EndsUntold Does old new before after exits.File = Does old new
-EndsUntold Does old new before after exits.Memory = IsUnchanged old new ⊎ Does old new
-EndsUntold Does old new before after _ = ⊥
+EndsUnprinted Does old new before after exits.File = Does old new
+EndsUnprinted Does old new before after exits.Memory = IsUnchanged old new ⊎ Does old new
+EndsUnprinted Does old new before after _ = ⊥

@@ -9,7 +9,7 @@ use Rattle.protocol.specs.declared.order.OperatorRequest.{OperatorRequest}
 use Rattle.registry.specs.Execution.{IsUnchanged}
 use Rattle.script.specs.declared.exit.Exit.{Exit}
 use Rattle.script.specs.declared.exit.Exit.TheVariants as exits
-use Rattle.script.specs.Deposits.{EndsUntold, IsAnsweredBy, IsCarriedOut}
+use Rattle.script.specs.Deposits.{EndsUnprinted, IsAnsweredBy, IsCarriedOut}
 use Rattle.books.specs.Book.{BookState}
 
 -- the payload is an order or a settlement of which P holds
@@ -17,9 +17,9 @@ abbrev pub IsOrdered : List ℕ → (OperatorRequest → Type 0) → Type 0
 IsOrdered payload P = (request : OperatorRequest) × (order_in payload ≡ Some request) × P request
 
 -- an order or a settlement takes its step, and its answer is printed
-abbrev pub IsTold : PolicyRules → OperatorRequest → ℕ → Code
+abbrev pub PrintsAnswer : PolicyRules → OperatorRequest → ℕ → Code
     → (old new : BookState) → (before after : Option (List ℕ)) → Type 0
-IsTold p request moment code old new before after =
+PrintsAnswer p request moment code old new before after =
     (lapsed : Option ℕ) × IsAnsweredBy p request moment code lapsed old new
     × Appends before after (answer_text code lapsed ++ codes "\n")
 
@@ -37,4 +37,4 @@ abbrev pub EndsUnanswered : PolicyRules → List ℕ → ℕ
 EndsUnanswered p payload moment old new before after exit =
     IsNoOrder payload old new before after exit
     ⊎ IsOrdered payload (λ request.
-    EndsUntold (IsCarriedOut p request moment) old new before after exit)
+    EndsUnprinted (IsCarriedOut p request moment) old new before after exit)

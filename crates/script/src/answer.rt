@@ -4,7 +4,7 @@ ghost use Rattle.frames.specs.Outcomes.{outcome_of};
 ghost use Rattle.registry.specs.Execution.{IsUnchanged};
 ghost use Rattle.script.specs.Lines.{IsKnown};
 ghost use Rattle.script.specs.Runs.{Answers, Asks, AsksNothing, IsAnswered, kept};
-ghost use Rattle.script.specs.inner.Runs.{IsAnsweredOperator, told_text};
+ghost use Rattle.script.specs.inner.Runs.{IsAnsweredOperator, printed_text};
 ghost use Rattle.books.specs.Book.{Follows};
 
 use crate::line::Line;
@@ -25,7 +25,7 @@ pub(crate) fn answer<B: Book + Drop>(
     registry: &mut Registry<B>,
     line: &[u8],
 ) -> Option<Answer>
-    ensures answered { IfSome result (λ answer. IfSome (told_text (outcome_of answer)) (λ text.
+    ensures answered { IfSome result (λ answer. IfSome (printed_text (outcome_of answer)) (λ text.
         (B.state registry.new.book).is_clean ≡ true → Answers registry.old.policy line.now
         (kept (B.state registry.old.book)) (kept (B.state registry.new.book)) text)) }
     ensures unread { IfNone result (AsksNothing registry.old.policy line.now) }
@@ -47,7 +47,7 @@ fn answer_asked<B: Book + Drop>(
     line: &Line<'_>,
 ) -> Option<Answer>
     requires { IsKnown registry.old.policy line.now.sender }
-    ensures answered { IfSome result (λ answer. IfSome (told_text (outcome_of answer)) (λ text.
+    ensures answered { IfSome result (λ answer. IfSome (printed_text (outcome_of answer)) (λ text.
         (B.state registry.new.book).is_clean ≡ true
         → IsAnswered registry.old.policy line.now.sender line.now.payload.now line.now.moment
         (kept (B.state registry.old.book)) (kept (B.state registry.new.book)) text)) }
@@ -75,7 +75,7 @@ fn answer_operator<B: Book + Drop>(
     request: OperatorRequest,
     moment: Moment,
 ) -> Answer
-    ensures answered { IfSome (told_text (outcome_of result)) (λ text.
+    ensures answered { IfSome (printed_text (outcome_of result)) (λ text.
         (B.state registry.new.book).is_clean ≡ true
         → IsAnsweredOperator registry.old.policy request moment (kept (B.state registry.old.book))
         (kept (B.state registry.new.book)) text) }

@@ -5,8 +5,8 @@ ghost use Rattle.eppreplies.specs.Answer.{answer_text};
 ghost use Rattle.protocol.specs.declared.order.OperatorRequest.TheVariants as requests;
 ghost use Rattle.protocol.specs.declared.order.Order.TheVariants as orders;
 ghost use Rattle.registry.specs.Execution.{Fails, last_call};
-ghost use Rattle.script.specs.Deposits.{EndsUntold, IsAnsweredBy, IsCarriedOut, IsOfMachine};
-ghost use Rattle.script.specs.Orders.{EndsUnanswered, IsOrdered, IsTold};
+ghost use Rattle.script.specs.Deposits.{EndsUnprinted, IsAnsweredBy, IsCarriedOut, IsOfMachine};
+ghost use Rattle.script.specs.Orders.{EndsUnanswered, IsOrdered, PrintsAnswer};
 ghost use Rattle.books.specs.Book.{Follows};
 
 use crate::exit::Exit;
@@ -38,8 +38,8 @@ pub fn order_on<B: Book + Drop, W: Write>(
     payload: &[u8],
     writer: &mut W,
 ) -> Result<Code, Exit>
-    ensures told { IfOk result (λ code. IsOrdered payload.now (λ request.
-        IsTold registry.old.policy request moment code
+    ensures is_printed { IfOk result (λ code. IsOrdered payload.now (λ request.
+        PrintsAnswer registry.old.policy request moment code
         (B.state registry.old.book) (B.state registry.new.book)
         (W.contents writer.old) (W.contents writer.new))) }
     ensures early { OnOk result (moment ≤ last_call) }
@@ -67,12 +67,12 @@ pub fn deposit_on<B: Book + Drop, W: Write>(
     cents: i64,
     writer: &mut W,
 ) -> Result<Code, Exit>
-    ensures told { IfOk result (λ code. IsTold registry.old.policy
+    ensures is_printed { IfOk result (λ code. PrintsAnswer registry.old.policy
         (requests.Order (orders.Deposit registrar.now cents)) moment code
         (B.state registry.old.book) (B.state registry.new.book)
         (W.contents writer.old) (W.contents writer.new)) }
     ensures early { OnOk result (moment ≤ last_call) }
-    ensures stopped { IfErr result (EndsUntold
+    ensures stopped { IfErr result (EndsUnprinted
         (IsCarriedOut registry.old.policy (requests.Order (orders.Deposit registrar.now cents)) moment)
         (B.state registry.old.book) (B.state registry.new.book)
         (W.contents writer.old) (W.contents writer.new)) }
@@ -99,11 +99,11 @@ fn answer_on<B: Book + Drop, W: Write>(
     moment: Moment,
     writer: &mut W,
 ) -> Result<Code, Exit>
-    ensures told { IfOk result (λ code. IsTold registry.old.policy request moment code
+    ensures is_printed { IfOk result (λ code. PrintsAnswer registry.old.policy request moment code
         (B.state registry.old.book) (B.state registry.new.book)
         (W.contents writer.old) (W.contents writer.new)) }
     ensures early { OnOk result (moment ≤ last_call) }
-    ensures stopped { IfErr result (EndsUntold
+    ensures stopped { IfErr result (EndsUnprinted
         (IsCarriedOut registry.old.policy request moment)
         (B.state registry.old.book) (B.state registry.new.book)
         (W.contents writer.old) (W.contents writer.new)) }
@@ -154,7 +154,7 @@ pub(crate) fn carry_out<B: Book + Drop>(
 
 /// Prints the answer to an order or to a settlement.
 fn print_answer<W: Write>(alloc: Global, answer: OrderAnswer, writer: &mut W) -> Result<(), Exit>
-    ensures told { OnOk result (Appends (W.contents writer.old) (W.contents writer.new)
+    ensures is_printed { OnOk result (Appends (W.contents writer.old) (W.contents writer.new)
         (answer_text answer.code answer.lapsed ++ codes "\n")) }
     ensures stopped { IfErr result IsOfMachine }
 {

@@ -3,7 +3,7 @@ ghost use Rattle.std.specs.Prelude.{◌≡◌, ℕ, List, [], ◌++◌, codes, o
 ghost use Rattle.std.specs.Io.BufRead.{strip_last};
 ghost use Rattle.std.specs.Io.KnownBytes.{Appends, Keeps, append_known};
 ghost use Rattle.frames.specs.Outcomes.{outcome_of};
-ghost use Rattle.script.specs.inner.Runs.{AppendsFront, BreaksAt, EndsBehind, HaltsAt, LeavesAsWas, TellsLine, end_of, told_text};
+ghost use Rattle.script.specs.inner.Runs.{AppendsFront, BreaksAt, EndsBehind, HaltsAt, LeavesAsWas, TellsLine, end_of, printed_text};
 ghost use Rattle.script.specs.Runs.{EndsIn, kept};
 ghost use Rattle.books.specs.Book.{Follows};
 
@@ -109,7 +109,7 @@ fn print_answer<B: Book + Drop, W: Write>(
     pending: &mut Vec<u8>,
     writer: &mut W,
 ) -> Result<(), Exit>
-    ensures told { OnOk result ((B.state registry.new.book).is_clean ≡ true
+    ensures is_printed { OnOk result ((B.state registry.new.book).is_clean ≡ true
         → TellsLine registry.old.policy line.now (kept (B.state registry.old.book))
         (kept (B.state registry.new.book)) (append_known (W.contents writer.old) pending.old.items)
         (append_known (W.contents writer.new) pending.new.items)) }
@@ -141,7 +141,7 @@ fn print_answer<B: Book + Drop, W: Write>(
 
 /// The text that is printed of an answer, unless it found no memory.
 fn text_of(answer: &Answer) -> Option<&[u8]>
-    ensures { option_map (λ text. text.now) result ≡ told_text (outcome_of answer.now) }
+    ensures { option_map (λ text. text.now) result ≡ printed_text (outcome_of answer.now) }
 {
     match answer {
         Answer::Reply(text) | Answer::LastReply(text) => Some(text),

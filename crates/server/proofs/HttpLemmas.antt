@@ -76,7 +76,7 @@ pub shown_by : {X : Type 0} (lapses : ℕ → Registry → Registry) (p q : Poli
     → IfOk result (λ found. (faces : Faces) → (new.is_clean ≡ true) × MayShow q moment new faces → found ≡ of faces)
 shown_by lapses p q moment find of is (Ok found) old new same step early = λ faces shown.
     let looked = step shown.0 in
-    looked.told
+    looked.answer_is
     ∙ ap (find p) (sym (same_then p moment old.content.registry new.content.registry looked.left))
     ∙ ap (λ (r : PolicyRules). find r (lapsed r moment new.content.registry)) (sym same)
     ∙ sym (is q (lapsed q moment new.content.registry))
@@ -87,16 +87,16 @@ shown_by lapses p q moment find of is (Err fault) old new same step early = tt
 pub answer_then : (p q : PolicyRules) (moment later : ℕ) (old new : BookState) (head bytes : List ℕ) → q ≡ p → later ≡ moment → Passes p moment old new
     → ((faces : Faces) → (new.is_clean ≡ true) × MayShow q later new faces → IsAnswer p faces head bytes)
     → new.is_clean ≡ true → (faces : Faces) → MayShow p moment old faces → IsAnswer p faces head bytes
-answer_then p q moment later old new head bytes same told passes all clean faces shown =
+answer_then p q moment later old new head bytes same clock_tells passes all clean faces shown =
     let path : faces_at q later new.content.registry ≡ faces_at p moment old.content.registry =
-    (λ i. faces_at (same i) (told i) new.content.registry) ∙ ap (faces_of p) (at_that_moment p moment old new passes clean) in
-    all faces (clean, λ early. shown (subst (λ (t : ℕ). t ≤ last_call) told early) ∙ sym path)
+    (λ i. faces_at (same i) (clock_tells i) new.content.registry) ∙ ap (faces_of p) (at_that_moment p moment old new passes clean) in
+    all faces (clean, λ early. shown (subst (λ (t : ℕ). t ≤ last_call) clock_tells early) ∙ sym path)
 
 pub answer_by : {V E : Type 0} (items : V → List ℕ) (p q : PolicyRules) (moment later : ℕ) (old new end : BookState) (head : List ℕ) (result : Result V E) → end ≡ new → q ≡ p → later ≡ moment → Passes p moment old new
     → IfOk result (λ bytes. (faces : Faces) → (new.is_clean ≡ true) × MayShow q later new faces → IsAnswer p faces head (items bytes))
     → IfOk result (λ bytes. end.is_clean ≡ true → (faces : Faces) → MayShow p moment old faces → IsAnswer p faces head (items bytes))
-answer_by items p q moment later old new end head (Ok bytes) left same told passes all = λ clean. answer_then p q moment later old new head (items bytes) same told passes all (subst (λ (b : BookState). b.is_clean ≡ true) left clean)
-answer_by items p q moment later old new end head (Err fault) left same told passes all = tt
+answer_by items p q moment later old new end head (Ok bytes) left same clock_tells passes all = λ clean. answer_then p q moment later old new head (items bytes) same clock_tells passes all (subst (λ (b : BookState). b.is_clean ≡ true) left clean)
+answer_by items p q moment later old new end head (Err fault) left same clock_tells passes all = tt
 
 -- ---- what was read of an input
 
@@ -122,11 +122,11 @@ head_of n room read rest fits small = take-take n room (read ++ rest) small ∙ 
 
 module _ (p : PolicyRules) (clock : Option (List ℕ)) (old : BookState) (later : Option (List ℕ)) (new : BookState) where
   answered_input : (input rest : Option (List ℕ)) (read answer : List ℕ) → IsRead input rest read → IsAnswered p (Some read) clock old answer later new → IsAnswered p input clock old answer later new
-  answered_input None rest read answer r is = record { moment = is.moment; told = is.told; passes = is.passes; head = is.head; agrees = tt; answer = is.answer }
+  answered_input None rest read answer r is = record { moment = is.moment; clock_tells = is.clock_tells; passes = is.passes; head = is.head; agrees = tt; answer = is.answer }
   answered_input (Some bytes) None read answer r is = absurd r.bytes
   answered_input (Some bytes) (Some rest) read answer r is = record {
     moment = is.moment;
-    told = is.told;
+    clock_tells = is.clock_tells;
     passes = is.passes;
     head = bytes;
     agrees = refl;
@@ -134,9 +134,9 @@ module _ (p : PolicyRules) (clock : Option (List ℕ)) (old : BookState) (later 
   }
     where
       by : (faces : Faces) → IsAnswer p faces read answer → IsAnswer p faces bytes answer
-      by faces told = subst (λ (head : List ℕ). IsAnswer p faces head answer) (sym r.bytes) (elim (r.enough) [
-        | inl decided ↦ stands p faces read rest answer decided told
-        | inr end ↦ subst (λ (head : List ℕ). IsAnswer p faces head answer) (sym (ap (λ (l : List ℕ). read ++ l) end ∙ append-nil read)) told
+      by faces clock_tells = subst (λ (head : List ℕ). IsAnswer p faces head answer) (sym r.bytes) (elim (r.enough) [
+        | inl decided ↦ stands p faces read rest answer decided clock_tells
+        | inr end ↦ subst (λ (head : List ℕ). IsAnswer p faces head answer) (sym (ap (λ (l : List ℕ). read ++ l) end ∙ append-nil read)) clock_tells
       ])
 
   pub of_input : (input rest : Option (List ℕ)) (read : List ℕ) (before after : Option (List ℕ)) (end : HttpEnd) → IsRead input rest read
@@ -151,10 +151,10 @@ module _ (p : PolicyRules) (clock : Option (List ℕ)) (old : BookState) (later 
 pub answered : {V E : Type 0} (items : V → List ℕ) (p : PolicyRules) (head : List ℕ) (clock : Option (List ℕ)) (old : BookState) (before after next : Option (List ℕ)) (new : BookState) (moment : ℕ) (answer : Result V E) (end : HttpEnd)
     → Tells clock next moment → Passes p moment old new → IfOk answer (λ bytes. new.is_clean ≡ true → (faces : Faces) → MayShow p moment old faces → IsAnswer p faces head (items bytes))
     → IsWritten items answer before after end → AnswersHttp p (Some head) clock old before after next new end
-answered items p head clock old before after next new moment (Ok bytes) end told passes is (inl whole) =
-    let answer : IsAnswered p (Some head) clock old (items bytes) next new = record { moment = moment; told = told; passes = passes; head = head; agrees = refl; answer = is } in
+answered items p head clock old before after next new moment (Ok bytes) end clock_tells passes is (inl whole) =
+    let answer : IsAnswered p (Some head) clock old (items bytes) next new = record { moment = moment; clock_tells = clock_tells; passes = passes; head = head; agrees = refl; answer = is } in
     rw whole.0 (items bytes, whole.1, answer)
-answered items p head clock old before after next new moment (Ok bytes) end told passes is (inr begun) =
-    let answer : IsAnswered p (Some head) clock old (items bytes) next new = record { moment = moment; told = told; passes = passes; head = head; agrees = refl; answer = is } in
+answered items p head clock old before after next new moment (Ok bytes) end clock_tells passes is (inr begun) =
+    let answer : IsAnswered p (Some head) clock old (items bytes) next new = record { moment = moment; clock_tells = clock_tells; passes = passes; head = head; agrees = refl; answer = is } in
     rw begun.0 (take begun.1 (items bytes), begun.2, (items bytes, answer, begun.1, refl))
-answered items p head clock old before after next new moment (Err fault) end told passes is nothing = rw nothing.0 (nothing.1, inr (moment, told, passes))
+answered items p head clock old before after next new moment (Err fault) end clock_tells passes is nothing = rw nothing.0 (nothing.1, inr (moment, clock_tells, passes))

@@ -34,7 +34,7 @@ use Rattle.books.specs.Book.{BookState, Follows, Stored}
 record IsOne (p : PolicyRules) (g : List (List ℕ)) (caller : Option ℕ) (turn : Turn) (old new : Registry) (next : Option ℕ) : Type 0 where
   pub answers : List Answer
   pub run : IsRun p (asked_by caller turn) answers old new
-  pub told : has_failed turn.outcome ≡ false → Tells (outcome_by p g caller turn.payload answers) turn.outcome
+  pub answer_is : has_failed turn.outcome ≡ false → Tells (outcome_by p g caller turn.payload answers) turn.outcome
   pub sender : next ≡ caller_after p g caller turn
 
 asked-none : (caller : Option ℕ) (turn : Turn) → has_failed turn.outcome ≡ true → asked_by caller turn ≡ []
@@ -53,17 +53,17 @@ one-failed p g caller turn old new next gave same stays =
     record {
       answers = [];
       run = subst (λ (xs : List (ℕ × Question)). IsRun p xs [] old new) (sym (asked-none caller turn is)) (refl, same);
-      told = λ e. absurd (true≢false (sym is ∙ e));
+      answer_is = λ e. absurd (true≢false (sym is ∙ e));
       sender = stays ∙ sym (caller-failed p g caller turn is);
     }
 
 one-answered : (p : PolicyRules) (g : List (List ℕ)) (caller : Option ℕ) (turn : Turn) (old new : Registry) (next : Option ℕ) (answers : List Answer) → has_failed turn.outcome ≡ false
     → IsRun p (map (λ q. (turn.moment, q)) (questions_said caller turn.payload)) answers old new → Tells (outcome_by p g caller turn.payload answers) turn.outcome → next ≡ caller_after p g caller turn
     → IsOne p g caller turn old new next
-one-answered p g caller turn old new next answers is run told stays = record {
+one-answered p g caller turn old new next answers is run answer_is stays = record {
   answers = answers;
   run = subst (λ (xs : List (ℕ × Question)). IsRun p xs answers old new) (sym (asked-some caller turn is)) run;
-  told = λ e. told;
+  answer_is = λ e. answer_is;
   sender = stays;
 }
 
@@ -91,15 +91,15 @@ module _ (p : PolicyRules) (g : List (List ℕ)) (moment : ℕ) (old : BookState
     pub answer : Answer
     pub call : IsCall p moment q old.content.registry new.content.registry answer
     pub carried_out : has_failed outcome ≡ false
-    pub told : Tells (outcome_told answer) outcome
+    pub answer_is : Tells (outcome_told answer) outcome
 
   hello-asked : AnswersHello p moment old outcome new → HasGivenUp ⊎ IsAsked date
   hello-asked (inl gives) = inl (gave-up gives)
   hello-asked (inr greeted) = inr (record {
     answer = dated greeted.date;
     call = record { answered = ap dated (greeted.step clean).dated; left = (greeted.step clean).left };
-    carried_out = told-so _ outcome refl greeted.told;
-    told = greeted.told;
+    carried_out = told-so _ outcome refl greeted.answer_is;
+    answer_is = greeted.answer_is;
   })
 
   said-asked : (r : ℕ) (words : InSession) → AnswersSaid p r words moment old outcome new → HasGivenUp ⊎ IsAsked (question_within r words)
@@ -108,8 +108,8 @@ module _ (p : PolicyRules) (g : List (List ℕ)) (moment : ℕ) (old : BookState
   said-asked r (within.Ordinary c) (inr served) = inr (record {
     answer = reply served.reply;
     call = record { answered = ap reply (served.step clean).answered; left = (served.step clean).left };
-    carried_out = told-so _ outcome (last-told (reply_text served.reply) (is_last served.reply.code)) served.told;
-    told = served.told;
+    carried_out = told-so _ outcome (last-told (reply_text served.reply) (is_last served.reply.code)) served.answer_is;
+    answer_is = served.answer_is;
   })
 
   of-registrar : (r : ℕ) (payload : List ℕ) → AnswersRegistrar p r payload moment old outcome new → HasGivenUp ⊎ IsAsked (question_within r (in_session payload))
@@ -121,7 +121,7 @@ module _ (p : PolicyRules) (g : List (List ℕ)) (moment : ℕ) (old : BookState
     pub answers : List Answer
     pub run : IsRun p (map (λ q. (moment, q)) (questions_before words)) answers old.content.registry new.content.registry
     pub carried_out : has_failed outcome ≡ false
-    pub told : Tells (outcome_before p g words answers) outcome
+    pub answer_is : Tells (outcome_before p g words answers) outcome
     pub caller : next ≡ caller_with p g words
 
   nothing-asked : new ≡ old → IsRun p [] [] old.content.registry new.content.registry
@@ -134,14 +134,14 @@ module _ (p : PolicyRules) (g : List (List ℕ)) (moment : ℕ) (old : BookState
       answers = asked.answer ∷ [];
       run = (asked.answer, [], new.content.registry, refl, asked.call, (refl, refl));
       carried_out = asked.carried_out;
-      told = asked.told;
+      answer_is = asked.answer_is;
       caller = nobody;
     })
   ]
   opening-asked (before.Login cl_trid c) next (login, same) =
-      inr (record { answers = []; run = nothing-asked same; carried_out = told-so _ outcome refl login.told; told = login.told; caller = login.logged_in })
-  opening-asked (before.Refused cl_trid fault) next (told, same, nobody) =
-      inr (record { answers = []; run = nothing-asked same; carried_out = told-so _ outcome refl told; told = told; caller = nobody })
+      inr (record { answers = []; run = nothing-asked same; carried_out = told-so _ outcome refl login.answer_is; answer_is = login.answer_is; caller = login.logged_in })
+  opening-asked (before.Refused cl_trid fault) next (answer_is, same, nobody) =
+      inr (record { answers = []; run = nothing-asked same; carried_out = told-so _ outcome refl answer_is; answer_is = answer_is; caller = nobody })
 
   of-stranger : (payload : List ℕ) (next : Option ℕ) → AnswersBeforeLogin p g payload moment old outcome new next → (HasGivenUp × (next ≡ None)) ⊎ IsOpened (before_login payload) next
   of-stranger payload next (inl gives) = inl (gave-up gives.0, gives.1)
@@ -152,7 +152,7 @@ registrar-one : (p : PolicyRules) (g : List (List ℕ)) (r : ℕ) (turn : Turn) 
     → IsOne p g (Some r) turn old.content.registry new.content.registry next
 registrar-one p g r turn old new next clean stays (inl gives) = one-failed p g (Some r) turn old.content.registry new.content.registry next gives.0 gives.1 stays
 registrar-one p g r turn old new next clean stays (inr asked) =
-    one-answered p g (Some r) turn old.content.registry new.content.registry next (asked.answer ∷ []) asked.carried_out (asked.answer, [], new.content.registry, refl, asked.call, (refl, refl)) asked.told stays
+    one-answered p g (Some r) turn old.content.registry new.content.registry next (asked.answer ∷ []) asked.carried_out (asked.answer, [], new.content.registry, refl, asked.call, (refl, refl)) asked.answer_is stays
 
 caller-said : (p : PolicyRules) (g : List (List ℕ)) (turn : Turn) → has_failed turn.outcome ≡ false → caller_after p g None turn ≡ caller_with p g (before_login turn.payload)
 caller-said p g turn e = ap (λ (b : Bool). let c : Option ℕ = if b then None else caller_with p g (before_login turn.payload) in c) e
@@ -162,7 +162,7 @@ stranger-one : (p : PolicyRules) (g : List (List ℕ)) (turn : Turn) (old new : 
     → IsOne p g None turn old.content.registry new.content.registry next
 stranger-one p g turn old new next clean (inl gives) = one-failed p g None turn old.content.registry new.content.registry next gives.0.0 gives.0.1 gives.1
 stranger-one p g turn old new next clean (inr opened) =
-    one-answered p g None turn old.content.registry new.content.registry next opened.answers opened.carried_out opened.run opened.told (opened.caller ∙ sym (caller-said p g turn opened.carried_out))
+    one-answered p g None turn old.content.registry new.content.registry next opened.answers opened.carried_out opened.run opened.answer_is (opened.caller ∙ sym (caller-said p g turn opened.carried_out))
 
 one-turn : (p : PolicyRules) (g : List (List ℕ)) (caller next : Option ℕ) (turn : Turn) (old new : BookState) → AnswersAt p g (record { caller = caller; book = old }) turn.moment turn.payload turn.outcome (record { caller = next; book = new })
     → new.is_clean ≡ true → IsOne p g caller turn old.content.registry new.content.registry next
@@ -184,7 +184,7 @@ answered-on : (p : PolicyRules) (g : List (List ℕ)) (turns rest : List Turn) (
 answered-on p g [] rest old mid new same clean more = subst (λ (s : SessionState Desk). AreAnswered p g s.peer.caller rest s.peer.book.content.registry new) same more
 answered-on p g (turn ∷ turns) rest old mid new (goes, next, is, run) clean more =
     let one = one-turn p g old.peer.caller next.peer.caller turn old.peer.book next.peer.book is.outcome ((run-follows p g turns next mid run).clean clean) in
-    (one.answers, next.peer.book.content.registry, one.run, one.told, subst (λ (c : Option ℕ). AreAnswered p g c (turns ++ rest) next.peer.book.content.registry new) one.sender (answered-on p g turns rest next mid new run clean more))
+    (one.answers, next.peer.book.content.registry, one.run, one.answer_is, subst (λ (c : Option ℕ). AreAnswered p g c (turns ++ rest) next.peer.book.content.registry new) one.sender (answered-on p g turns rest next mid new run clean more))
 
 -- those that were heard in a run, and some that are behind them
 heard-on : (p : PolicyRules) (g : List (List ℕ)) (turns rest : List Turn) (old mid : SessionState Desk) (input clock : Option (List ℕ)) → Run (AnswersAt p g) turns old mid
@@ -197,7 +197,7 @@ answered-last : (p : PolicyRules) (g : List (List ℕ)) (turn : Turn) (old new :
     → AreAnswered p g old.peer.caller (turn ∷ []) old.peer.book.content.registry new.peer.book.content.registry
 answered-last p g turn old new is clean =
     let one = one-turn p g old.peer.caller new.peer.caller turn old.peer.book new.peer.book is.outcome clean in
-    (one.answers, new.peer.book.content.registry, one.run, one.told, refl)
+    (one.answers, new.peer.book.content.registry, one.run, one.answer_is, refl)
 
 -- ---- what was written
 
@@ -282,14 +282,14 @@ runs-on p (x ∷ xs) ys first second s t u (a, rest, between, parts, call, run) 
 
 pub sessions-are-runs : SessionsAreRuns
 sessions-are-runs p g caller [] old new same = ([], (refl, same))
-sessions-are-runs p g caller (turn ∷ turns) old new (answers, between, run, told, more) =
+sessions-are-runs p g caller (turn ∷ turns) old new (answers, between, run, answer_is, more) =
     let rest = sessions-are-runs p g (caller_after p g caller turn) turns between new more in
     (answers ++ rest.0, runs-on p (asked_by caller turn) (asked_over p g (caller_after p g caller turn) turns) answers rest.0 old between new run rest.1)
 
 -- after a login
 pub passwords-are-for-logins : PasswordsAreForLogins
 passwords-are-for-logins p g h r [] old new same = same
-passwords-are-for-logins p g h r (turn ∷ turns) old new (answers, between, run, told, more) = (answers, between, run, told, passwords-are-for-logins p g h r turns between new more)
+passwords-are-for-logins p g h r (turn ∷ turns) old new (answers, between, run, answer_is, more) = (answers, between, run, answer_is, passwords-are-for-logins p g h r turns between new more)
 
 -- ---- the same frames are sent the same
 
@@ -311,7 +311,7 @@ pub sessions-are-sent-the-same : SessionsAreSentTheSame
 sessions-are-sent-the-same p g caller [] [] s t x y same one other alike all every = (refl, ap (now p) one ∙ same ∙ sym (ap (now p) other))
 sessions-are-sent-the-same p g caller [] (b ∷ ys) s t x y same one other alike all every = absurd cc
 sessions-are-sent-the-same p g caller (a ∷ xs) [] s t x y same one other alike all every = absurd cc
-sessions-are-sent-the-same p g caller (a ∷ xs) (b ∷ ys) s t x y same (firsts, u, run, told, more) (seconds, v, run2, told2, more2) alike all every =
+sessions-are-sent-the-same p g caller (a ∷ xs) (b ∷ ys) s t x y same (firsts, u, run, answer_is, more) (seconds, v, run2, told2, more2) alike all every =
     let both = and_parts (has_text a.outcome) (are_sent xs) all in
     let both2 = and_parts (has_text b.outcome) (are_sent ys) every in
     let here : (a.moment, a.payload) ≡ (b.moment, b.payload) = ap first_said alike in
@@ -324,7 +324,7 @@ sessions-are-sent-the-same p g caller (a ∷ xs) (b ∷ ys) s t x y same (firsts
     let answered : (firsts ≡ seconds) × (now p u ≡ now p v) =
     answers-are-determined p (asked_by caller a) firsts seconds s t u v same run (subst (λ (qs : List (ℕ × Question)). IsRun p qs seconds t v) asked run2) in
     let outcomes : a.outcome ≡ b.outcome =
-    text-told (outcome_by p g caller a.payload firsts) a.outcome both.0 (told carried)
+    text-told (outcome_by p g caller a.payload firsts) a.outcome both.0 (answer_is carried)
     ∙ (λ i. outcome_by p g caller (payloads i) (answered.0 i))
     ∙ sym (text-told (outcome_by p g caller b.payload seconds) b.outcome both2.0 (told2 carried2)) in
     let turns : a ≡ b = λ i. record { payload = payloads i; moment = moments i; outcome = outcomes i } in

@@ -52,7 +52,7 @@ pub record IsRead (input rest : Option (List ℕ)) (read : List ℕ) : Type 0 wh
 -- the clock. Of an input that isn't known, some head is answered.
 pub record IsAnswered (p : PolicyRules) (input clock : Option (List ℕ)) (old : BookState) (written : List ℕ) (later : Option (List ℕ)) (new : BookState) : Type 0 where
   pub moment : ℕ
-  pub told : Tells clock later moment
+  pub clock_tells : Tells clock later moment
   pub passes : Passes p moment old new
   pub head : List ℕ
   pub agrees : IfSome input (λ bytes. head ≡ bytes)

@@ -31,14 +31,17 @@ use Rattle.sqlaccounts.proofs.FindingLemmas.{equal}
 
 -- ---- written
 
-account-made : {D : Type 0} (account : ℤ) (row : table.Line) (domain : Option D) (cents : Option ℤ) (make : D → ℤ → table.Line) → ((d : D) (c : ℤ) → (make d c).account ≡ account)
-    → (domain >>= (λ d. cents >>= (λ c. Some (make d c)))) ≡ Some row → row.account ≡ account
-account-made account row None cents make own e = cc
-account-made account row (Some d) None make own e = cc
-account-made account row (Some d) (Some c) make own e = sym (ap (λ (r : table.Line). r.account) (same_some (make d c) row e)) ∙ own d c
+column-made : {A D : Type 0} (of : table.Line → A) (column : A) (row : table.Line) (domain : Option D) (cents : Option ℤ) (make : D → ℤ → table.Line) → ((d : D) (c : ℤ) → of (make d c) ≡ column)
+    → (domain >>= (λ d. cents >>= (λ c. Some (make d c)))) ≡ Some row → of row ≡ column
+column-made of column row None cents make own e = cc
+column-made of column row (Some d) None make own e = cc
+column-made of column row (Some d) (Some c) make own e = sym (ap of (same_some (make d c) row e)) ∙ own d c
 
 pub account_written : (id account : ℤ) (line : Line) (ends : Option ℤ) (row : table.Line) → line_row id account line ends ≡ Some row → row.account ≡ account
-account_written id account line ends row e = account-made account row (domain_columns line.roid) (exact_column line.cents) (λ d c. row_with id account line ends d c) (λ d c. refl) e
+account_written id account line ends row e = column-made (λ (r : table.Line). r.account) account row (domain_columns line.roid) (exact_column line.cents) (λ d c. row_with id account line ends d c) (λ d c. refl) e
+
+pub end_written : (id account : ℤ) (line : Line) (ends : Option ℤ) (row : table.Line) → line_row id account line ends ≡ Some row → row.grace.ends ≡ ends
+end_written id account line ends row e = column-made (λ (r : table.Line). r.grace.ends) ends row (domain_columns line.roid) (exact_column line.cents) (λ d c. row_with id account line ends d c) (λ d c. refl) e
 
 -- ---- one row among others
 
@@ -98,10 +101,10 @@ repaid xs ys r change cents row new place found paid put messages elsewhere here
 
 -- ---- one line more
 
-pub added : (xs : Content) (r : ℕ) (line : Line) (row new : account_table.Account) (it : table.Line) → is_place r ≡ true → Some row ≡ row_of xs (pos r)
-    → IsPaid (amount line) row new → IsWritten r line it
+pub added : (xs : Content) (r : ℕ) (line : Line) (ends : Option ℤ) (row new : account_table.Account) (it : table.Line) → is_place r ≡ true → Some row ≡ row_of xs (pos r)
+    → IsPaid (amount line) row new → IsWritten r line ends it
     → IsChange r (with_lines (add in_order line)) xs (lines_to (appended table.lines (λ id. record it { id = id })) (accounts_to (λ rows. insert_by account_table.accounts.key rows new) xs))
-added xs r line row new it place found paid written =
+added xs r line ends row new it place found paid written =
     let x : table.Line = record it { id = next_key (λ (y : table.Line). y.id) xs.lines } in
     let ys : Content = lines_to (appended table.lines (λ id. record it { id = id })) (accounts_to (λ rows. insert_by account_table.accounts.key rows new) xs) in
     let lines : lines_of ys (pos r) ≡ add in_order line (lines_of xs (pos r)) =

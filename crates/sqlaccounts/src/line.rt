@@ -7,7 +7,8 @@ ghost use Rattle.accounts.specs.Lines as lines;
 ghost use Rattle.accounts.specs.Lines.{in_order};
 ghost use Rattle.basis.specs.Bag.{add, taken};
 ghost use Rattle.sqlaccounts.specs.Accounts.{account_of, balance_in, sums_are_right};
-ghost use Rattle.sqlaccounts.specs.inner.Changes.{IsChange, without_line};
+ghost use Rattle.sqlaccounts.specs.inner.Changes.{AddsLine, IsChange, without_line};
+ghost use Rattle.sqlcolumns.specs.Numbers.{maybe_moment_column};
 ghost use Rattle.sqlrows.specs.Meanings.{FindsIfRight, Changes};
 ghost use Rattle.states.specs.States.{Makes};
 
@@ -52,7 +53,7 @@ pub fn add_line<S: Alter>(
     ends: Option<Moment>,
 ) -> Result<(), BookFault>
     requires { store.old.is_open ≡ true }
-    ensures { Changes result (IsChange registrar (with_lines (add in_order line))) store.old
+    ensures { Changes result (AddsLine registrar line (maybe_moment_column ends)) store.old
         store.new }
 {
     let row = found_row(store, registrar)?;

@@ -20,7 +20,7 @@ pub(crate) fn written(
     line: &Line,
     ends: Option<i64>,
 ) -> Result<LineRow, BookFault>
-    ensures { IfOk result (IsWritten registrar line.now) }
+    ensures { IfOk result (IsWritten registrar line.now ends) }
 {
     if !is_line(line) {
         return Err(BookFault::Store);

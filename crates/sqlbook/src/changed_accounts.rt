@@ -1,6 +1,10 @@
 //! Accounts, changed in a book over rows. One that has no row is refused.
-ghost use Rattle.std.specs.Prelude.{◌≡◌, true};
+ghost use Rattle.std.specs.Prelude.{◌≡◌, true, IfOk};
 ghost use Rattle.books.specs.Tables as tables;
+ghost use Rattle.sqlaccounts.specs.inner.Changes.{IsLineAppended};
+ghost use Rattle.sqlbook.specs.Graces as graces;
+ghost use Rattle.sqlcolumns.specs.Numbers.{maybe_moment_column};
+ghost use Rattle.sqlterms.specs.Terms.{days_of};
 ghost use Rattle.sqlbook.specs.Meaning.{are_right, stored_of};
 ghost use Rattle.sqlbook.specs.AsBook.{MakesAs};
 
@@ -52,8 +56,12 @@ pub fn add_line<S: Alter>(
     line: Line,
 ) -> Result<(), BookFault>
     requires { store.old.is_open ≡ true }
-    ensures { MakesAs result stored_of are_right (tables.line_added registrar line
+    ensures held { MakesAs result stored_of are_right (tables.line_added registrar line
         (stored_of store.old.content)) store.old store.new }
+    ensures ends { IfOk result (λ done. store.new.is_clean ≡ true
+        → IsLineAppended line (maybe_moment_column
+        (graces.maybe_grace_end (days_of store.old.content) line)) store.old.content.lines
+        store.new.content.lines) }
 {
     store.show_whole();
     let days = sqlterms::days(store, alloc)?;

@@ -105,8 +105,8 @@ left_in is_there s = record { readiness = readiness_of is_there; content = rows_
 abbrev pub leaves_of : {C : Type 0} → (C → State) → List (C × Bool) → List (Remains Content)
 leaves_of {C} state-of items = map (λ (it : C × Bool). left_in it.1 (state-of it.0)) items
 
-abbrev pub stands : Bool → State → List (Remains Content) → OldState
-stands is_there s leaves = record {
+abbrev pub as_found : Bool → State → List (Remains Content) → OldState
+as_found is_there s leaves = record {
   content = rows_in is_there s.now.trees;
   is_clean = s.is_clean && s.is_open;
   is_honest = s.is_clean;

@@ -69,7 +69,7 @@ IsAsNow what find =
 -- now is its lapse.
 pub record IsPassed (p : PolicyRules) (what : Extent) (moment : ℕ) (before after : Registry)
     (date : ℕ) : Type 0 where
-  pub told : date ≡ max moment before.clock
+  pub answer_is : date ≡ max moment before.clock
   pub clock : after.clock ≡ max moment before.clock
   pub settled : IsSettledAs p what after
   pub future : now p after ≡ lapsed p moment before

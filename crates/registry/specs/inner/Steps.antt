@@ -11,7 +11,7 @@ use Rattle.protocol.specs.declared.code.Code.{Code}
 use Rattle.registry.specs.Calls.{IsRefused}
 use Rattle.registry.specs.Crashes.{Makes, RefusedTo}
 use Rattle.registry.specs.Execution.{SameTerms}
-use Rattle.registry.specs.Opening.{DoesNotFit, IsOurs, Opens, Refuses, goes_on, opened}
+use Rattle.registry.specs.Opening.{HasOtherTerms, IsOurs, Opens, Refuses, goes_on, opened}
 use Rattle.registry.specs.declared.fault.OpenFault.{OpenFault}
 use Rattle.registry.specs.declared.fault.OpenFault.TheVariants as refusals
 use Rattle.books.specs.Book.{BookReads, BookState, BookStays, BookWrites, Follows, GivesUp, LeavesItself, LeavesOldOrMade, LeavesSame, NoRefusal, WentBack}
@@ -68,13 +68,13 @@ Keeps (Err fault) step old new =
 
 -- The clock is at the moment, or where it was if that is later, and is the answer.
 pub record HasMoved (moment : ℕ) (before after : Registry) (clock : ℕ) : Type 0 where
-  pub told : clock ≡ max moment before.clock
+  pub answer_is : clock ≡ max moment before.clock
   pub left : after ≡ at (max moment before.clock) before
 
 -- These changes are made, and this is the answer.
 pub record IsMade {A : Type 0} (p : PolicyRules) (changes : List Change) (answer : A)
     (before after : Registry) (it : A) : Type 0 where
-  pub told : it ≡ answer
+  pub answer_is : it ≡ answer
   pub left : after ≡ changed_all p changes before
 
 -- a decision on an order is carried out
@@ -93,7 +93,7 @@ pub record IsTakenUp (p : PolicyRules) (old new : BookState) : Type 0 where
 -- the book was taken up, or it went back
 abbrev pub TakesUp : Result Bool BookFault → PolicyRules → BookState → BookState → Type 0
 TakesUp (Ok true) p old new = IsTakenUp p old new
-TakesUp (Ok false) p old new = DoesNotFit p old new × (Follows old new × LeavesSame old new)
+TakesUp (Ok false) p old new = HasOtherTerms p old new × (Follows old new × LeavesSame old new)
 TakesUp (Err fault) p old new = WentBack fault old new
 
 -- A book that is known to be ours is opened, and a crash leaves what is held; or it was refused.

@@ -15,11 +15,11 @@ use Rattle.script.specs.Runs.{GivesUp, OperatorSteps, AsksNothing, Prints, print
 -- ---- one line
 
 -- the text that is printed of an outcome, unless it found no memory
-abbrev pub told_text : Outcome → Option (List ℕ)
-told_text (replied reply) = Some reply
-told_text (ended reply) = Some reply
-told_text failed = Some failed_text
-told_text lost = None
+abbrev pub printed_text : Outcome → Option (List ℕ)
+printed_text (replied reply) = Some reply
+printed_text (ended reply) = Some reply
+printed_text failed = Some failed_text
+printed_text lost = None
 
 -- what the operator sends is answered
 abbrev pub IsAnsweredOperator : PolicyRules → OperatorRequest → ℕ → Registry → Registry → List ℕ

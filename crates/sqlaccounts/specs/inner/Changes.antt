@@ -1,5 +1,5 @@
 -- What calls make of the rows.
-use Rattle.std.specs.Prelude.{◌≡◌, ℕ, ℤ, pos, ◌+ℤ◌, false, Option, Some}
+use Rattle.std.specs.Prelude.{◌≡◌, ℕ, ℤ, pos, ◌+ℤ◌, false, List, Option, Some}
 use Rattle.std.specs.FinMap.{FinMap, get, insert}
 use Rattle.std.specs.Option.{option_map_or, unwrap_or}
 use Rattle.std.specs.Ordering.{int_eq, nat_cmp}
@@ -8,8 +8,12 @@ use Rattle.sqlite_keyed.specs.Lists.{delete_where}
 use Rattle.accounts.specs.declared.account.Account.{Account}
 use Rattle.accounts.specs.Account.{empty_account}
 use Rattle.accounts.specs.Counters.{with_counters}
+use Rattle.accounts.specs.Entries.{with_lines}
+use Rattle.accounts.specs.Lines.{in_order}
+use Rattle.basis.specs.Bag.{add}
 use Rattle.accounts.specs.declared.line.Line.{Line}
 use Rattle.sqlcolumns.specs.Lines.{line_in}
+use Rattle.sqlrows.specs.inner.Layouts.{appended}
 use Rattle.sqlcolumns.specs.Numbers.{counter_column, counter_in, registrar_column}
 use Rattle.sqltables.specs.Account as account_table
 use Rattle.sqltables.specs.inner.Balance.{balance_bytes}
@@ -80,9 +84,22 @@ pub record IsCounted (x : Counters) (row changed : account_table.Account) : Type
 -- ---- one row of line more, or less
 
 -- a row of the account's that reads as this line
-pub record IsWritten (r : ℕ) (line : Line) (row : line_table.Line) : Type 0 where
+pub record IsWritten (r : ℕ) (line : Line) (ends : Option ℤ) (row : line_table.Line) : Type 0 where
   pub account : row.account ≡ registrar_column r
   pub reads : line_in row ≡ Some line
+  pub grace_end : row.grace.ends ≡ ends
+
+-- a row of this line comes last, with the column for the end of its grace
+pub record IsLineAppended (line : Line) (ends : Option ℤ) (old new : List line_table.Line) : Type 0 where
+  pub row : line_table.Line
+  pub reads : line_in row ≡ Some line
+  pub grace_end : row.grace.ends ≡ ends
+  pub last : new ≡ appended line_table.lines (λ id. record row { id = id }) old
+
+-- a registrar's account has a line more
+abbrev pub AddsLine : ℕ → Line → Option ℤ → Content → Content → Type 0
+AddsLine r line ends old new =
+    IsChange r (with_lines (add in_order line)) old new × IsLineAppended line ends old.lines new.lines
 
 -- without the row of line that has this number, and with this row of account in its place
 abbrev pub without_line : ℤ → account_table.Account → Content → Content

@@ -7,6 +7,6 @@ use Rattle.tldreg.proofs.deposit.Goals as goal
 pub returns : goal.returns
 returns g c =
     let same : to_z w64 (of_z w64 c.args.cents) ≡ c.args.cents = omega (arith, ints) in
-    let told = rw same at c.deposit_on-answered.ensures.told in
+    let is_printed = rw same at c.deposit_on-answered.ensures.is_printed in
     let stopped = rw same at c.deposit_on-answered.ensures.stopped in
-    (c.deposit_on-answered.result, g.B.Book.state c.deposit_on-answered.new.registry.book, None, None, c.request_end.ensures, told, stopped)
+    (c.deposit_on-answered.result, g.B.Book.state c.deposit_on-answered.new.registry.book, None, None, c.request_end.ensures, is_printed, stopped)

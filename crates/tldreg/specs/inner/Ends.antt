@@ -10,8 +10,8 @@ use Rattle.protocol.specs.declared.code.Code.TheVariants.{Completed}
 use Rattle.protocol.specs.declared.order.OperatorRequest.{OperatorRequest}
 use Rattle.protocol.specs.declared.order.OperatorRequest.TheVariants as requests
 use Rattle.protocol.specs.declared.order.Order.TheVariants as orders
-use Rattle.script.specs.Deposits.{EndsUntold, IsCarriedOut}
-use Rattle.script.specs.Orders.{EndsUnanswered, IsOrdered, IsTold}
+use Rattle.script.specs.Deposits.{EndsUnprinted, IsCarriedOut}
+use Rattle.script.specs.Orders.{EndsUnanswered, IsOrdered, PrintsAnswer}
 use Rattle.script.specs.declared.exit.Exit.{Exit}
 use Rattle.script.specs.declared.exit.Exit.TheVariants as exits
 use Rattle.server.specs.Http.{Passes}
@@ -41,8 +41,8 @@ abbrev pub EndsRequest : PolicyRules → OperatorRequest → ℕ → BookState �
 EndsRequest p request moment old result =
     (answered : Result Code Exit) × (new : BookState) × (before : Option (List ℕ))
     × (after : Option (List ℕ)) × (result ≡ request_end answered)
-    × IfOk answered (λ code. IsTold p request moment code old new before after)
-    × IfErr answered (EndsUntold (IsCarriedOut p request moment) old new before after)
+    × IfOk answered (λ code. PrintsAnswer p request moment code old new before after)
+    × IfErr answered (EndsUnprinted (IsCarriedOut p request moment) old new before after)
 
 -- the same of a payload
 abbrev pub EndsOrder : PolicyRules → List ℕ → ℕ → BookState → Result ⊤ Exit → Type 0
@@ -50,7 +50,7 @@ EndsOrder p payload moment old result =
     (answered : Result Code Exit) × (new : BookState) × (before : Option (List ℕ))
     × (after : Option (List ℕ)) × (result ≡ request_end answered)
     × IfOk answered (λ code. IsOrdered payload (λ request.
-    IsTold p request moment code old new before after))
+    PrintsAnswer p request moment code old new before after))
     × IfErr answered (EndsUnanswered p payload moment old new before after)
 
 -- a zone that broke off, or wasn't begun, is never an end without a fault

@@ -13,5 +13,5 @@ returns-in-Ok-clause-answered g c =
       isolation = h.isolation;
       bytes = λ clean other same. ap reply_text ((h.isolation clean).same_reply other same);
       follows = c.execute.ensures.keeps.follows;
-      told = c.reply_answer-answer.ensures;
+      answer_is = c.reply_answer-answer.ensures;
     })

@@ -10,5 +10,5 @@ returns-in-Ok-clause-answered g c =
       early = in_time c.in-Ok.date c.args.moment h.late;
       step = h.step;
       follows = c.greet.ensures.keeps.follows;
-      told = c.greeting.ensures;
+      answer_is = c.greeting.ensures;
     })

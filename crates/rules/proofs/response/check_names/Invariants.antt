@@ -1,5 +1,5 @@
 use Rattle.std.proofs.Common.{◌≡◌, map, take}
-use Rattle.rules.specs.inner.Told.{name_result}
+use Rattle.rules.specs.inner.KnownData.{name_result}
 use Rattle.rules.proofs.response.check_names.Given as goal
 
 abbrev pub invariant-loop-name : goal.invariant-loop-name

@@ -8,8 +8,8 @@ returns g c = record {
   look_ups = λ p find lapses moment before after found public is. (
     public_part p (lapsed p moment before),
     record { answered = refl; left = is.left },
-    is.told ∙ public.1 (lapsed p moment before),
+    is.answer_is ∙ public.1 (lapsed p moment before),
   );
   inspections = λ p find lapses moment before after found is.
-      (lapsed p moment before, record { answered = refl; left = is.left }, is.told);
+      (lapsed p moment before, record { answered = refl; left = is.left }, is.answer_is);
 }

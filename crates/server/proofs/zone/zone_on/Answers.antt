@@ -16,7 +16,7 @@ use Rattle.server.proofs.zone.zone_on.Goals as goal
 -- the text of what was found is that of the zone at the moment
 text_is : (lapses : ℕ → Registry → Registry) (p q : PolicyRules) (moment : ℕ) (zone : ZoneData) (old new : BookState) → q ≡ p → LooksUp p (zone_data p.zone) lapses moment zone old new → new.is_clean ≡ true
     → text_of q zone ≡ zone_at p moment old.content.registry
-text_is lapses p q moment zone old new same found clean = λ i. text_of (same i) ((found clean).told i)
+text_is lapses p q moment zone old new same found clean = λ i. text_of (same i) ((found clean).answer_is i)
 
 pub returns-in_err-zone-clause-begun : goal.returns-in_err-zone-clause-begun
 returns-in_err-zone-clause-begun g c = OnErr-from c.from_residual.result (λ clean. (0, Appends-nil _))

@@ -14,6 +14,7 @@ pub returns : goal.returns
 returns g c =
     let fits : FitsSigned w128 c.amount.result = search rules in
     let paid = subst (λ z. IsPaid z c.in_ok-row.row c.in_ok-row-2.row) (to_z-of_z fits ∙ c.amount.ensures.value) c.in_ok-row-2.ensures.paid in
+    let written = c.in_ok-line.ensures {u = tt} in
     then-twice (accounts_to (λ rows. insert_by accounts.key rows c.in_ok-row-2.row)) (lines_to (appended lines (λ id. record (c.in_ok-line.line) { id = id }))) _ c.args.store.now c.found_row.new.store c.put_account.new.self c.append_line.new.self
     c.in_ok-row.ensures.row.0 (c.in_ok-put_account.ensures {u = tt}) (c.in_ok-append_line.ensures {u = tt})
-    (λ clean. added c.args.store.now.content c.args.registrar c.args.line c.in_ok-row.row c.in_ok-row-2.row c.in_ok-line.line c.in_ok-row.ensures.place (c.in_ok-row.ensures.row.1 clean) paid (c.in_ok-line.ensures {u = tt}))
+    (λ clean. (added c.args.store.now.content c.args.registrar c.args.line _ c.in_ok-row.row c.in_ok-row-2.row c.in_ok-line.line c.in_ok-row.ensures.place (c.in_ok-row.ensures.row.1 clean) paid written, record { row = c.in_ok-line.line; reads = written.reads; grace_end = written.grace_end ∙ c.maybe_moment_column.ensures; last = refl }))

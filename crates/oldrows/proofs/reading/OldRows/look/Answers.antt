@@ -4,7 +4,7 @@ use Rattle.sqlite.specs.State.{HasCleanDisk}
 use Rattle.sqlrows.specs.inner.Calls.{Stands}
 use Rattle.sqltables.proofs.StandingLemmas.{honest, prepared}
 use Rattle.states.specs.declared.fault.BookFault.{BookFault}
-use Rattle.oldrows.specs.inner.Stored.{leaves_of, stands}
+use Rattle.oldrows.specs.inner.Stored.{leaves_of, as_found}
 use Rattle.oldrows.specs.Stored.{IsRead, OldState}
 use Rattle.oldrows.proofs.AskingLemmas.{fits-looked, guards-looked, reads-looked}
 use Rattle.oldrows.proofs.reading.OldRows.look.Goals as goal
@@ -27,7 +27,7 @@ returns-clause-same g c =
     let new = state g.S.Store c.prepare.new.self in
     let leaves = leaves_of (state g.S.Store) c.self.inside.seen.items in
     let stood : (HasCleanDisk new → Stands old new) = prepared _ old new c.args.sql.now c.prepare.result c.prepare.ensures.ok c.prepare.ensures.err in
-    subst (λ (s : OldState). IsRead s (stands is_there new leaves)) c.self.view_is (reads-looked is_there old new c.prepare.ensures.survives c.self.invariant.0 stood leaves)
+    subst (λ (s : OldState). IsRead s (as_found is_there new leaves)) c.self.view_is (reads-looked is_there old new c.prepare.ensures.survives c.self.invariant.0 stood leaves)
 
 pub returns-clause-answers : goal.returns-clause-answers
 returns-clause-answers g c =

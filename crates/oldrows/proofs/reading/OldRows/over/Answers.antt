@@ -5,7 +5,7 @@ use Rattle.sqlite.specs.State.{HasCleanDisk}
 use Rattle.sqltables.specs.Content.{Content}
 use Rattle.states.specs.States.{Remains}
 use Rattle.oldrows.specs.inner.Adoption.{IsSeen}
-use Rattle.oldrows.specs.inner.Stored.{Guards, stands}
+use Rattle.oldrows.specs.inner.Stored.{Guards, as_found}
 use Rattle.oldrows.proofs.AdoptedLemmas.{fits_found, guards_found, seen-alone, shown}
 use Rattle.oldrows.proofs.reading.OldRows.over.Goals as goal
 
@@ -22,7 +22,7 @@ pub returns-clause-seen : goal.returns-clause-seen
 returns-clause-seen g c trees same =
     let s = state g.S.Store c.args.conn in
     let alone = seen-alone (state g.S.Store) c.new.result.items c.and-seen.result.items c.args.conn c.in-Ok.said c.new.ensures c.and-seen.ensures in
-    subst (λ (l : List (Remains Content)). IsSeen trees (stands c.in-Ok.said s l)) (sym alone)
+    subst (λ (l : List (Remains Content)). IsSeen trees (as_found c.in-Ok.said s l)) (sym alone)
     (shown s c.requires c.in-Ok.said (λ e. sym c.schema.ensures.value ∙ c.in-Ok.ensures.same e) (λ e is. c.in-Ok.ensures.other e (c.schema.ensures.value ∙ is)) trees same)
 
 pub returns-in-Err-clause-left : goal.returns-in-Err-clause-left

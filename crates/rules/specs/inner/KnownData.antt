@@ -15,7 +15,7 @@ use Rattle.objects.specs.declared.sight.Seen.{Seen}
 use Rattle.policy.specs.Rules.{PolicyRules}
 use Rattle.protocol.specs.declared.reply.CheckResult.{CheckResult}
 use Rattle.protocol.specs.declared.reply.Data.{Data}
-use Rattle.protocol.specs.declared.reply.Data.TheVariants as told
+use Rattle.protocol.specs.declared.reply.Data.TheVariants as res_data
 use Rattle.rules.specs.declared.case.Case.{Case}
 use Rattle.rules.specs.declared.response.Named.{Named}
 use Rattle.rules.specs.declared.response.Named.TheVariants as names
@@ -33,26 +33,26 @@ name_result names.OfDomain = domain_result
 name_result names.OfHost = host_result
 
 abbrev pub deleted_data : Option (Bor DomainFacts) → Option Data
-deleted_data known = option_map told.Deleted (option_map deleted (option_copied known))
+deleted_data known = option_map res_data.Deleted (option_map deleted (option_copied known))
 
 abbrev pub polled_data : QueueFacts → Option Data
-polled_data queue = option_map told.Polled (option_map (polled queue.waiting) queue.oldest)
+polled_data queue = option_map res_data.Polled (option_map (polled queue.waiting) queue.oldest)
 
 -- of a domain that is seen in full
 abbrev pub renewed_data : ℕ → RequestedName → ℕ → Option (Bor (Seen FullDomain DomainFace))
     → Option Data
-renewed_data charge name years seen = option_map told.Renewed (option_map (renewed charge name years) (option_and_then domain_in_full (option_copied seen)))
+renewed_data charge name years seen = option_map res_data.Renewed (option_map (renewed charge name years) (option_and_then domain_in_full (option_copied seen)))
 
 abbrev pub contact_data : PolicyRules → ℕ → Option (Bor (List ℕ)) → Option (Bor ContactFacts)
     → Option Data
-contact_data p r secret known = option_map told.Contact (option_and_then (contact_info_at p r (option_copied secret)) (option_copied known))
+contact_data p r secret known = option_map res_data.Contact (option_and_then (contact_info_at p r (option_copied secret)) (option_copied known))
 
 abbrev pub domain_data : PolicyRules → ℕ → Option (Bor (List ℕ)) → Option (Bor DomainFacts)
     → Option Data
-domain_data p r secret known = option_map told.Domain (option_and_then (domain_info_at p r (option_copied secret)) (option_copied known))
+domain_data p r secret known = option_map res_data.Domain (option_and_then (domain_info_at p r (option_copied secret)) (option_copied known))
 
 abbrev pub host_data : PolicyRules → Option (Bor HostFacts) → Option Data
-host_data p known = option_map told.Host (option_and_then (host_info_at p) (option_copied known))
+host_data p known = option_map res_data.Host (option_and_then (host_info_at p) (option_copied known))
 
 -- what a well formed command is answered, and what unless it is refused
 abbrev pub grant_in : Case → Verdict
