@@ -11,21 +11,21 @@
 
 mod account;
 mod counting;
-mod domain;
 mod finding;
 mod line;
-mod message;
 mod opening;
 mod paying;
 mod queue;
 mod queue_account;
+mod queue_length;
 mod queue_message;
+mod reading_lines;
 mod writing;
 
 pub use account::{found_row, maybe_row, number_of};
 pub use counting::{counts, set_counters};
-pub use domain::{lines, lines_on, swaps};
 pub use line::{add_line, balance, take_line};
-pub use message::waiting;
 pub use opening::open_account;
 pub use queue::{oldest, put_message, take_message};
+pub use queue_length::waiting;
+pub use reading_lines::{lines, lines_on, swaps};

@@ -1,7 +1,7 @@
 use Rattle.std.proofs.Common.{rules, ap, sym, ◌∙◌, FitsSigned, w64, to_z-of_z}
 use Rattle.sqlcolumns.specs.Numbers.{exact_in}
 use Rattle.sqlaccounts.proofs.AccountLemmas.{waiting-found}
-use Rattle.sqlaccounts.proofs.message.waiting.Goals as goal
+use Rattle.sqlaccounts.proofs.queue_length.waiting.Goals as goal
 
 pub returns-in-Some : goal.returns-in-Some
 returns-in-Some g c =

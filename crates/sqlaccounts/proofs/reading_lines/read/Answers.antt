@@ -6,7 +6,7 @@ use Rattle.basis.specs.Bag.{add, bag_of}
 use Rattle.sqlcolumns.specs.Lines.{line_in}
 use Rattle.sqltables.specs.Line.{Line}
 use Rattle.sqlaccounts.proofs.LinesOnLemmas.{read-more}
-use Rattle.sqlaccounts.proofs.domain.read.Goals as goal
+use Rattle.sqlaccounts.proofs.reading_lines.read.Goals as goal
 
 pub loop-row-init : goal.loop-row-init
 unfolding bag_of

@@ -8,7 +8,7 @@ use Rattle.basis.specs.Bag.{remade}
 use Rattle.sqlaccounts.specs.Accounts.{account_of}
 use Rattle.sqlaccounts.proofs.LinesOnLemmas.{lines-bag}
 use Rattle.sqlaccounts.proofs.SwapLemmas.{swaps-on}
-use Rattle.sqlaccounts.proofs.domain.swaps.Goals as goal
+use Rattle.sqlaccounts.proofs.reading_lines.swaps.Goals as goal
 
 pub returns : goal.returns
 returns g c = (
