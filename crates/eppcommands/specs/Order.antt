@@ -90,8 +90,8 @@ settle_order d = do
 
 -- an order to be carried out by the rules
 abbrev pub as_order : Result the_order.Order FormFault → Result OperatorRequest FormFault
-as_order found = do
-  order ← found
+as_order told = do
+  order ← told
   Ok (requests.Order order)
 
 -- what `order` says
