@@ -1,4 +1,3 @@
-pub mod Ends
 pub mod Files
 pub mod Graces
 pub mod Migrating

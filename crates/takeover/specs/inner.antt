@@ -1,2 +1,3 @@
 -- Words for this crate's own functions, which no promise of the registry names.
+pub mod Ends
 pub mod Migrating
