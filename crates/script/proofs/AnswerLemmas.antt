@@ -52,10 +52,10 @@ module _ (p : PolicyRules) (r moment : ℕ) (old : BookState) (outcome : Outcome
 
   said : (words : InSession) → AnswersSaid p r words moment old outcome new → IsPrinted (IsSaid words)
   said Hello (inl gives) = gave_up Hello gives
-  said Hello (inr greeted) = printed (IsSaid Hello) _ (greeting_text greeted.date) refl greeted.is_printed
+  said Hello (inr greeted) = printed (IsSaid Hello) _ (greeting_text greeted.date) refl greeted.answer_is
       (λ clean. inr (record { date = greeted.date; early = greeted.early; step = greeted.step clean; written = refl }))
   said (Ordinary c) (inl gives) = gave_up (Ordinary c) gives
-  said (Ordinary c) (inr served) = printed (IsSaid (Ordinary c)) _ (reply_text served.reply) (told_reply (is_last served.reply.code) (reply_text served.reply)) served.is_printed
+  said (Ordinary c) (inr served) = printed (IsSaid (Ordinary c)) _ (reply_text served.reply) (told_reply (is_last served.reply.code) (reply_text served.reply)) served.answer_is
       (λ clean. inr (record { reply = served.reply; early = served.early; step = served.step clean; written = refl }))
 
   answered : (payload : List ℕ) → AnswersRegistrar p r payload moment old outcome new → IsPrinted (IsAnswered p (Registrar r) payload moment (kept old) (kept new))
