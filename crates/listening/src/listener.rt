@@ -2,6 +2,7 @@
 ghost use Rattle.std.specs.Prelude.{◌≡◌};
 ghost use Rattle.server.specs.Listening.{ServesInTurn, ServesUnknown};
 ghost use Rattle.books.specs.Book.{Follows};
+ghost use Rattle.listening.specs.inner.Log as spec;
 
 use books::Book;
 use frames::SessionEnd;
@@ -53,7 +54,7 @@ pub(crate) fn serve_public<M: time::Clock + Print, B: Book + Drop>(
     alloc: Global,
     routes: &Routes,
     machine: &M,
-    rooms: &Rooms<'_>,
+    rooms: &Rooms<Room<'_>>,
     limits: &Limits,
     log: &Log<'_, M>,
     turn: &Turn,
@@ -79,36 +80,52 @@ pub(crate) fn serve_public<M: time::Clock + Print, B: Book + Drop>(
         registry,
         passwords,
     );
-    wire.end(word_of(served.end, wire.is_late()));
-    end_of_turn(alloc, &turn.stream, wire.is_late(), served.end);
+    let end = (!wire.is_late()).then_some(served.end);
+    wire.end(word_of(end));
+    end_of_turn(alloc, &turn.stream, end);
     served.registry
 }
 
-/// How a connection ended, in a word.
-fn word_of(end: ConnectionEnd, is_late: bool) -> &'static str {
-    if is_late {
-        return "late";
-    }
+/// How a connection ended, in a word. One that took longer than it may has no end of its own.
+fn word_of(end: Option<ConnectionEnd>) -> &'static str
+    ensures { result.now ≡ spec.end_word end }
+{
     match end {
-        ConnectionEnd::Session(SessionEnd::Logout) => "logout",
-        ConnectionEnd::Session(SessionEnd::End) => "closed",
-        ConnectionEnd::Session(SessionEnd::Cut) => "cut",
-        ConnectionEnd::Session(SessionEnd::Length) => "length",
-        ConnectionEnd::Session(SessionEnd::Lost) => "memory",
-        ConnectionEnd::Http(HttpEnd::Answered) => "answered",
-        ConnectionEnd::Http(HttpEnd::Unanswered) => "unanswered",
-        ConnectionEnd::Session(SessionEnd::ReadFault | SessionEnd::WriteFault)
-        | ConnectionEnd::Http(HttpEnd::WriteFault)
-        | ConnectionEnd::Unread => "broken",
+        None => "late",
+        Some(ConnectionEnd::Session(session)) => session_word(session),
+        Some(ConnectionEnd::Http(request)) => http_word(request),
+        Some(ConnectionEnd::Unread) => "broken",
+    }
+}
+
+fn session_word(end: SessionEnd) -> &'static str
+    ensures { result.now ≡ spec.session_word end }
+{
+    match end {
+        SessionEnd::Logout => "logout",
+        SessionEnd::End => "closed",
+        SessionEnd::Cut => "cut",
+        SessionEnd::Length => "length",
+        SessionEnd::Lost => "memory",
+        SessionEnd::ReadFault | SessionEnd::WriteFault => "broken",
+    }
+}
+
+fn http_word(end: HttpEnd) -> &'static str
+    ensures { result.now ≡ spec.http_word end }
+{
+    match end {
+        HttpEnd::Answered => "answered",
+        HttpEnd::Unanswered => "unanswered",
+        HttpEnd::WriteFault => "broken",
     }
 }
 
 /// Closes a connection. After one that took longer than it may, replies that its client hasn't read yet
 /// aren't lost.
-fn end_of_turn(alloc: Global, stream: &TcpStream, is_late: bool, end: ConnectionEnd) {
-    if is_late {
-        let_go_with_more(alloc, stream);
-    } else {
-        let_go(alloc, stream, end);
+fn end_of_turn(alloc: Global, stream: &TcpStream, end: Option<ConnectionEnd>) {
+    match end {
+        None => let_go_with_more(alloc, stream),
+        Some(end) => let_go(alloc, stream, end),
     }
 }

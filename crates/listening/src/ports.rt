@@ -1,6 +1,7 @@
 //! Connections of two ports.
 ghost use Rattle.std.specs.Prelude.{◌≡◌, None};
 ghost use Rattle.listening.specs.Ports.{LeavesOne, ServesPorts};
+ghost use Rattle.listening.specs.inner.Log as spec;
 ghost use Rattle.operator.specs.Operations.{Operates};
 ghost use Rattle.operator.specs.declared.serving.RequestEnd.{RequestEnd};
 ghost use Rattle.books.specs.Book.{Follows};
@@ -75,7 +76,7 @@ fn serve_turn<M: time::Clock + Print + Files, B: Book + Drop>(
     alloc: Global,
     routes: &Routes,
     machine: &M,
-    rooms: &Rooms<'_>,
+    rooms: &Rooms<Room<'_>>,
     limits: &Limits,
     log: &Log<'_, M>,
     office: &Office<'_>,
@@ -100,7 +101,7 @@ fn serve_turn<M: time::Clock + Print + Files, B: Book + Drop>(
 fn serve_office<M: time::Clock + Print + Files, B: Book + Drop>(
     alloc: Global,
     machine: &M,
-    rooms: &Rooms<'_>,
+    rooms: &Rooms<Room<'_>>,
     limits: &Limits,
     log: &Log<'_, M>,
     office: &Office<'_>,
@@ -134,7 +135,7 @@ fn serve_office<M: time::Clock + Print + Files, B: Book + Drop>(
         &mut clock,
         &mut registry,
     );
-    wire.end(word_of(end, wire.is_late()));
+    wire.end(word_of((!wire.is_late()).then_some(end)));
     let_go_with_more(alloc, &turn.stream);
     registry
 }
@@ -144,7 +145,7 @@ fn serve_office<M: time::Clock + Print + Files, B: Book + Drop>(
 struct Told<'t, M: time::Clock + Print + Files> {
     machine: &'t M,
     log: &'t Log<'t, M>,
-    rooms: &'t Rooms<'t>,
+    rooms: &'t Rooms<Room<'t>>,
     log_file: Option<&'t str>,
 }
 
@@ -166,14 +167,14 @@ fn length_of(files: &impl Files, path: Option<&str>) -> u64 {
     }
 }
 
-/// How a connection ended, in a word.
-fn word_of(end: RequestEnd, is_late: bool) -> &'static str {
-    if is_late {
-        return "late";
-    }
+/// How a connection ended, in a word. One that took longer than it may has no end of its own.
+fn word_of(end: Option<RequestEnd>) -> &'static str
+    ensures { result.now ≡ spec.request_word end }
+{
     match end {
-        RequestEnd::Answered => "answered",
-        RequestEnd::Cut => "broken",
-        RequestEnd::Unanswered => "unanswered",
+        None => "late",
+        Some(RequestEnd::Answered) => "answered",
+        Some(RequestEnd::Cut) => "broken",
+        Some(RequestEnd::Unanswered) => "unanswered",
     }
 }

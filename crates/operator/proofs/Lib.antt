@@ -1,3 +1,4 @@
+mod HeadLemmas
 mod HeardLemmas
 mod OperationLemmas
 mod TokenLemmas

@@ -3,7 +3,7 @@ use Rattle.std.specs.Prelude.{ℕ, List, [], ◌∷◌, ◌++◌, codes, decimal
 use Rattle.operator.specs.declared.answer.Outcome.{Outcome}
 use Rattle.operator.specs.declared.answer.Outcome.TheVariants.{Done, Malformed, Unauthorized, NotFound, OnlyGet, OnlyPost, Conflict, LengthRequired, TooLarge, Failed}
 use Rattle.operator.specs.declared.answer.Kind.{Kind}
-use Rattle.operator.specs.declared.answer.Kind.TheVariants.{Json, Plain, Prometheus, Csv}
+use Rattle.operator.specs.declared.answer.Kind.TheVariants.{Json, Plain, Prometheus, Csv, Dns}
 use Rattle.operator.specs.declared.request.Refusal.{Refusal}
 use Rattle.operator.specs.declared.request.Refusal.TheVariants as refusals
 use Rattle.registry.specs.declared.backlog.Backlog.{Backlog}
@@ -40,6 +40,8 @@ type_of Plain = codes "text/plain"
 type_of Prometheus = codes "text/plain; version=0.0.4"
 -- RFC 4180, 3
 type_of Csv = codes "text/csv"
+-- RFC 4027, 2
+type_of Dns = codes "text/dns"
 
 -- the pieces, one after the other
 abbrev pub joined : List (List ℕ) → List ℕ

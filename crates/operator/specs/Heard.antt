@@ -1,15 +1,21 @@
 -- A request that was heard (RFC 9112, 2.1 and 6.2).
-use Rattle.std.specs.Prelude.{◌≡◌, ℕ, List, [], ◌++◌, length, Option, IfSome}
-use Rattle.httparse.specs.Grammar.{ReadsRequest, RequestHead}
+use Rattle.std.specs.Prelude.{◌≡◌, ℕ, ◌<◌, ◌≤◌, List, [], ◌++◌, length, Option, IfSome, ⊤}
+use Rattle.httparse.specs.Grammar.{HasNoRequest, MayBecomeRequest, ReadsRequest, RequestHead, print_request}
 use Rattle.operator.specs.declared.request.Asked.{Asked}
 use Rattle.operator.specs.declared.request.Asked.TheVariants.{Order, Zone, Metrics, Statement, Refused}
 use Rattle.operator.specs.declared.hearing.TheConstants.{MOST_HEAD}
-use Rattle.operator.specs.Requests.{IsAskedBy}
+use Rattle.operator.specs.declared.hearing.Unheard.{Unheard}
+use Rattle.operator.specs.declared.hearing.Unheard.TheVariants.{Headless, Lost}
+use Rattle.operator.specs.Requests.{IsAskedBy, most_fields}
 use Rattle.policy.specs.Rules.{PolicyRules}
 
 -- the most bytes of a head, with the empty line at its end
 abbrev pub most_head : ℕ
 most_head = MOST_HEAD
+
+-- as long as a head may be, and with as many fields
+abbrev pub KeepsLimits : RequestHead → Type 0
+KeepsLimits h = (length (print_request h) ≤ most_head) × (length h.fields ≤ most_fields)
 
 -- an order has a body of the length that was given, and nothing else has one
 abbrev pub IsBodyOf : Asked → List ℕ → Type 0
@@ -23,6 +29,26 @@ IsBodyOf (Refused why) body = body ≡ []
 -- known, some head is heard.
 pub record IsHeard (p : PolicyRules) (credentials : List ℕ) (input : Option (List ℕ)) (asked : Asked) (body : List ℕ) : Type 0 where
   pub head : RequestHead
+  pub limits : KeepsLimits head
   pub by : IsAskedBy p credentials head asked
   pub begins : IfSome input (λ bytes. (rest : List ℕ) × ReadsRequest bytes head (body ++ rest))
-  pub whole : IsBodyOf asked body
+  pub body_is : IsBodyOf asked body
+
+-- the input begins with no head that keeps the limits
+abbrev pub IsHeadless : List ℕ → Type 0
+IsHeadless bytes = (h : RequestHead) (rest : List ℕ) → ReadsRequest bytes h rest → ¬ (KeepsLimits h)
+
+-- Why none is heard. A read may fail at any byte, and memory may run out.
+abbrev pub IsUnheard : Option (List ℕ) → Unheard → Type 0
+IsUnheard input Headless = IfSome input IsHeadless
+IsUnheard input Lost = ⊤
+
+-- ---- how much is read
+
+-- if the bytes begin with no such head, they never will, whatever follows
+abbrev pub IsDecided : List ℕ → Type 0
+IsDecided bytes = IsHeadless bytes → (more : List ℕ) → IsHeadless (bytes ++ more)
+
+-- they begin with no whole head yet, and may become one
+abbrev pub IsOpen : List ℕ → Type 0
+IsOpen bytes = (length bytes < most_head) × HasNoRequest bytes × MayBecomeRequest bytes

@@ -7,10 +7,12 @@ use Rattle.accounts.specs.declared.line.Line.{Line}
 use Rattle.model.specs.Lapse.{lapsed}
 use Rattle.model.specs.Registry.{account_of}
 use Rattle.operator.specs.Answers.{outcome_of, refusal, registry_figures, response}
-use Rattle.operator.specs.Heard.{IsHeard}
+use Rattle.operator.specs.Heard.{IsHeard, IsUnheard}
 use Rattle.operator.specs.declared.answer.Kind.TheVariants as kinds
 use Rattle.operator.specs.declared.answer.Outcome.{Outcome}
 use Rattle.operator.specs.declared.answer.Outcome.TheVariants as outcomes
+use Rattle.operator.specs.declared.hearing.Unheard.{Unheard}
+use Rattle.operator.specs.declared.hearing.Unheard.TheVariants.{Headless, Lost}
 use Rattle.operator.specs.declared.request.Asked.{Asked}
 use Rattle.operator.specs.declared.request.Asked.TheVariants.{Order, Zone, Metrics, Statement, Refused}
 use Rattle.operator.specs.declared.serving.RequestEnd.{RequestEnd}
@@ -25,6 +27,7 @@ use Rattle.script.specs.declared.exit.Exit.TheVariants as exits
 use Rattle.script.specs.Deposits.{IsCarriedOut}
 use Rattle.script.specs.Orders.{IsOrdered, PrintsAnswer}
 use Rattle.server.specs.Http.{Passes}
+use Rattle.server.specs.ZoneExport.{zone_at}
 use Rattle.statements.specs.Tables.{statement}
 use Rattle.statements.specs.declared.extract.Extract.{Extract}
 use Rattle.books.specs.Book.{BookState}
@@ -81,9 +84,18 @@ DoesOrder p body clock later old new before after end =
     × (outcome : Outcome) × (text : List ℕ) × Orders p body moment outcome text old new
     × IsSent (response outcome kinds.Json text) before after end
 
--- a zone at one moment, which changes nothing but that time passes
-abbrev pub DoesZone : PolicyRules → (clock later : Option (List ℕ)) → (old new : BookState) → Type 0
-DoesZone p clock later old new = (moment : ℕ) × Tells clock later moment × Passes p moment old new
+-- the text of the zone at a moment, if nothing wrong was taken from what keeps the book
+abbrev pub IsZone : PolicyRules → ℕ → (old new : BookState) → List ℕ → Type 0
+IsZone p moment old new text = new.is_clean ≡ true → text ≡ zone_at p moment old.content.registry
+
+-- A zone at one moment, which changes nothing but that time passes. Where the registry gave up, or there was no
+-- memory, that is said.
+abbrev pub DoesZone : PolicyRules → (clock later : Option (List ℕ)) → (old new : BookState)
+    → (before after : Option (List ℕ)) → RequestEnd → Type 0
+DoesZone p clock later old new before after end =
+    (moment : ℕ) × Tells clock later moment × Passes p moment old new
+    × (((text : List ℕ) × IsZone p moment old new text × IsSent (response outcomes.Done kinds.Dns text) before after end)
+    ⊎ IsSent (refusal outcomes.Failed) before after end)
 
 -- ---- statements
 
@@ -127,16 +139,20 @@ DoesMetrics p clock later old new before after end =
 abbrev pub Does : PolicyRules → Asked → List ℕ → (clock later : Option (List ℕ)) → (old new : BookState)
     → (before after : Option (List ℕ)) → RequestEnd → Type 0
 Does p (Order n) body clock later old new before after end = DoesOrder p body clock later old new before after end
-Does p Zone body clock later old new before after end = DoesZone p clock later old new
+Does p Zone body clock later old new before after end = DoesZone p clock later old new before after end
 Does p Metrics body clock later old new before after end = DoesMetrics p clock later old new before after end
 Does p (Statement extract) body clock later old new before after end = DoesStatement p extract clock later old new before after end
 Does p (Refused why) body clock later old new before after end =
     (later ≡ clock) × (new ≡ old) × IsSent (refusal (outcome_of why)) before after end
 
--- A request: what is done is what its head asks for, of who has the token. Where none is heard nothing is done, and
--- that is said or nothing is.
+-- what is answered where none is heard
+abbrev pub AnswersUnheard : Unheard → (before after : Option (List ℕ)) → RequestEnd → Type 0
+AnswersUnheard Headless before after end = IsSent (refusal outcomes.Malformed) before after end
+AnswersUnheard Lost before after end = (end ≡ ends.Unanswered) × Appends before after []
+
+-- A request: what is done is what its head asks for, of who has the token. Where none is heard nothing is done.
 abbrev pub Operates : PolicyRules → List ℕ → (input clock : Option (List ℕ)) → BookState
     → (before after later : Option (List ℕ)) → BookState → RequestEnd → Type 0
 Operates p credentials input clock old before after later new end =
-    ((later ≡ clock) × (new ≡ old) × IsSent (refusal outcomes.Malformed) before after end)
+    ((later ≡ clock) × (new ≡ old) × (why : Unheard) × IsUnheard input why × AnswersUnheard why before after end)
     ⊎ ((asked : Asked) × (body : List ℕ) × IsHeard p credentials input asked body × Does p asked body clock later old new before after end)

@@ -1,9 +1,9 @@
 -- What a request of the operator's asks for: its token (RFC 6750), its method and its target (RFC 9110, 9112).
-use Rattle.std.specs.Prelude.{◌≡◌, ◌⊎◌, ℕ, ◌≤◌, Bool, true, false, List, [], ◌∷◌, ◌++◌, drop, length, map, if◌then◌else◌, nat_le, bytes_eq, codes, Option, None, Some, IfSome}
-use Rattle.std.specs.List.{list_any}
-use Rattle.std.specs.Char.{to_ascii_lowercase}
+use Rattle.std.specs.Prelude.{◌≡◌, ℕ, ◌-◌, ◌<◌, ◌≤◌, ◌^◌, Bool, true, false, List, [], ◌∷◌, ◌++◌, drop, take, length, map, if◌then◌else◌, nat_eq, nat_le, bytes_eq, codes, Option, None, Some, SomeIff, ⊤}
+use Rattle.std.specs.List.{ends_with, list_all, list_any}
+use Rattle.std.specs.Char.{is_ascii_graphic, to_ascii_lowercase}
 use Rattle.std.specs.Str.Parse.{IsNumeral, digits_value}
-use Rattle.httparse.specs.Grammar.{ReadsRequest, RequestHead}
+use Rattle.httparse.specs.Grammar.{ReadsRequest, RequestHead, print_request}
 use Rattle.httparse.specs.Spans.{name_and_value}
 use Rattle.operator.specs.declared.request.Asked.{Asked}
 use Rattle.operator.specs.declared.request.Asked.TheVariants.{Order, Zone, Metrics, Statement, Refused}
@@ -11,8 +11,10 @@ use Rattle.operator.specs.declared.request.Refusal.TheVariants as refusals
 use Rattle.statements.specs.declared.extract.Bounds.{Bounds}
 use Rattle.statements.specs.Extracts.{account_asked, after, bounds_asked}
 use Rattle.policy.specs.Rules.{PolicyRules}
-use Rattle.operator.specs.declared.request.TheConstants.{MOST_BODY}
+use Rattle.operator.specs.declared.request.TheConstants.{MOST_BODY, MOST_FIELDS}
 use Rattle.operator.specs.declared.token.TheConstants.{LEAST_TOKEN}
+use Rattle.operator.specs.declared.token.TokenFault.{TokenFault}
+use Rattle.operator.specs.declared.token.TokenFault.TheVariants.{Short, Byte, Memory}
 
 -- ---- fields, as names and values
 
@@ -29,8 +31,8 @@ only_value name (f ∷ fields) =
 -- ---- the token
 
 -- the token of a file is its bytes, without the line feed at their end
-abbrev pub IsTokenOf : List ℕ → List ℕ → Type 0
-IsTokenOf file token = (file ≡ token) ⊎ (file ≡ token ++ (10 ∷ []))
+abbrev pub token_of : List ℕ → List ℕ
+token_of file = if ends_with nat_eq file (10 ∷ []) then take (length file - 1) file else file
 
 -- the fewest bytes of a token
 abbrev pub least_token : ℕ
@@ -40,12 +42,19 @@ least_token = LEAST_TOKEN
 abbrev pub credentials_of : List ℕ → List ℕ
 credentials_of token = codes "Bearer " ++ token
 
--- a token that may open the port, and what is said of it
-pub record IsToldOf (file told : List ℕ) : Type 0 where
-  pub token : List ℕ
-  pub of_file : IsTokenOf file token
-  pub long : least_token ≤ length token
-  pub told_is : told ≡ credentials_of token
+-- whether each byte is a letter, a digit or a sign
+abbrev pub is_visible : List ℕ → Bool
+is_visible token = list_all is_ascii_graphic token
+
+-- a token that may open the port
+abbrev pub IsFit : List ℕ → Type 0
+IsFit token = (least_token ≤ length token) × (is_visible token ≡ true)
+
+-- why one may not
+abbrev pub IsUnfit : List ℕ → TokenFault → Type 0
+IsUnfit token Short = length token < least_token
+IsUnfit token Byte = (least_token ≤ length token) × (is_visible token ≡ false)
+IsUnfit token Memory = ⊤
 
 -- whether the only field Authorization says so, whole
 abbrev pub is_right : List ℕ → Option (List ℕ) → Bool
@@ -61,14 +70,18 @@ bears credentials fields = is_right credentials (only_value (codes "Authorizatio
 abbrev pub most_body : ℕ
 most_body = MOST_BODY
 
--- a number in digits
-abbrev pub IsNumber : List ℕ → ℕ → Type 0
-IsNumber digits n = IsNumeral 10 digits × (digits_value 10 digits ≡ n)
+-- the number of digits, for which 64 bits have room
+abbrev pub IsNumber : List ℕ → Option ℕ → Type 0
+IsNumber digits number =
+    SomeIff number (IsNumeral 10 digits × (digits_value 10 digits < 2 ^ 64)) (digits_value 10 digits)
 
--- the only field Content-Length is this number in digits (RFC 9110, 8.6)
-abbrev pub IsLength : List (List ℕ × List ℕ) → ℕ → Type 0
-IsLength fields n =
-    (digits : List ℕ) × (only_value (codes "Content-Length") fields ≡ Some digits) × IsNumber digits n
+abbrev pub IsNumberIn : Option (List ℕ) → Option ℕ → Type 0
+IsNumberIn None number = number ≡ None
+IsNumberIn (Some digits) number = IsNumber digits number
+
+-- the number that the only field Content-Length is (RFC 9110, 8.6)
+abbrev pub IsLength : List (List ℕ × List ℕ) → Option ℕ → Type 0
+IsLength fields length = IsNumberIn (only_value (codes "Content-Length") fields) length
 
 -- ---- what is asked
 
@@ -111,10 +124,19 @@ asked_by p true method target length = routed p method target length
 -- what is asked by a head, of who has these credentials
 pub record IsAskedBy (p : PolicyRules) (credentials : List ℕ) (h : RequestHead) (asked : Asked) : Type 0 where
   pub length : Option ℕ
-  pub told : IfSome length (IsLength (map name_and_value h.fields))
+  pub in_digits : IsLength (map name_and_value h.fields) length
   pub is : asked ≡ asked_by p (bears credentials (map name_and_value h.fields)) h.method h.target length
 
--- the bytes begin with a head by which this is asked, and which ends after so many of them
+-- the most fields of a head
+abbrev pub most_fields : ℕ
+most_fields = MOST_FIELDS
+
+-- the bytes begin with a head by which this is asked, and which is so many of them
 abbrev pub HasHead : PolicyRules → List ℕ → List ℕ → Asked → ℕ → Type 0
 HasHead p credentials bytes asked len =
-    (h : RequestHead) × ReadsRequest bytes h (drop len bytes) × (len ≤ length bytes) × IsAskedBy p credentials h asked
+    (h : RequestHead) × ReadsRequest bytes h (drop len bytes) × (len ≡ length (print_request h)) × (len ≤ length bytes)
+    × (length h.fields ≤ most_fields) × IsAskedBy p credentials h asked
+
+-- they begin with no head of so few fields
+abbrev pub HasNoHead : List ℕ → Type 0
+HasNoHead bytes = (h : RequestHead) (rest : List ℕ) → ReadsRequest bytes h rest → most_fields < length h.fields

@@ -29,6 +29,8 @@ pub enum Kind {
     Plain,
     Prometheus,
     Csv,
+    /// The text of a zone.
+    Dns,
 }
 
 impl Outcome {
@@ -72,6 +74,7 @@ impl Kind {
             Kind::Plain => "text/plain",
             Kind::Prometheus => "text/plain; version=0.0.4",
             Kind::Csv => "text/csv",
+            Kind::Dns => "text/dns",
         }
     }
 }

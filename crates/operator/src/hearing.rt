@@ -1,8 +1,7 @@
 //! Requests of the operator's, as a connection gives them.
-ghost use Rattle.std.specs.Prelude.{◌≡◌, ◌≤◌, Some, drop, take, length, vec_len, IfOk};
-ghost use Rattle.std.specs.Fmt.{option_append};
-ghost use Rattle.std.specs.Io.KnownBytes.{Consumes};
-ghost use Rattle.operator.specs.Heard.{IsBodyOf, IsHeard, most_head};
+ghost use Rattle.std.specs.Prelude.{◌≡◌, ◌≤◌, ◌⊎◌, true, false, drop, take, length, vec_len, IfOk, IfSome, MatchResult};
+ghost use Rattle.std.specs.Io.KnownBytes.{Consumes, IsAtEnd};
+ghost use Rattle.operator.specs.Heard.{IsBodyOf, IsDecided, IsHeard, IsOpen, IsUnheard, most_head};
 
 use crate::request::{Asked, MOST_FIELDS, read_head};
 use httparse::Status;
@@ -38,8 +37,8 @@ pub fn hear<R: Read>(
     credentials: &[u8],
     reader: &mut R,
 ) -> Result<Heard, Unheard>
-    ensures { IfOk result (λ heard. IsHeard policy.now credentials.now (R.remaining reader.old) heard.asked
-        heard.body.items) }
+    ensures { MatchResult result (λ heard. IsHeard policy.now credentials.now (R.remaining reader.old)
+        heard.asked heard.body.items) (IsUnheard (R.remaining reader.old)) }
 {
     let Ok(mut buffer) = head_buffer(alloc) else {
         return Err(Unheard::Lost);
@@ -55,57 +54,45 @@ fn hear_in<R: Read>(
     buffer: &mut [u8],
     reader: &mut R,
 ) -> Result<Heard, Unheard>
-    ensures { IfOk result (λ heard. IsHeard policy.now credentials.now (R.remaining reader.old) heard.asked
-        heard.body.items) }
+    requires { length buffer.old ≡ most_head }
+    ensures { MatchResult result (λ heard. IsHeard policy.now credentials.now (R.remaining reader.old)
+        heard.asked heard.body.items) (IsUnheard (R.remaining reader.old)) }
 {
-    match read_to_head(reader, buffer) {
-        Ok(count) => hear_behind(alloc, policy, credentials, front_of(buffer, count), reader),
-        Err(ReadFault) => Err(Unheard::Lost),
-    }
-}
-
-/// The same where a beginning was read.
-fn hear_behind<R: Read>(
-    alloc: Global,
-    policy: &Policy,
-    credentials: &[u8],
-    front: &[u8],
-    reader: &mut R,
-) -> Result<Heard, Unheard>
-    ensures { IfOk result (λ heard. IsHeard policy.now credentials.now
-        (option_append (Some front.now) (R.remaining reader.old)) heard.asked heard.body.items) }
-{
+    let Ok(count) = read_to_head(reader, buffer) else {
+        return Err(Unheard::Lost);
+    };
+    let front = front_of(buffer, count);
     let Some((asked, len)) = read_head(policy, credentials, front) else {
         return Err(Unheard::Headless);
     };
-    let body = body_of(alloc, &asked, &mut behind(front, len).chain(reader))?;
-    Ok(Heard { asked, body })
+    match body_of(alloc, &asked, &mut behind(front, len).chain(reader)) {
+        Some(body) => Ok(Heard { asked, body }),
+        None => Err(Unheard::Lost),
+    }
 }
 
-/// The body that an order has.
-fn body_of<R: Read>(alloc: Global, asked: &Asked, reader: &mut R) -> Result<Vec<u8>, Unheard>
-    ensures bytes { IfOk result (λ body. Consumes (R.remaining reader.old) (R.remaining reader.new)
+/// The body that an order has. None where a read fails, the input ends in it, or there is no memory.
+fn body_of<R: Read>(alloc: Global, asked: &Asked, reader: &mut R) -> Option<Vec<u8>>
+    ensures bytes { IfSome result (λ body. Consumes (R.remaining reader.old) (R.remaining reader.new)
         body.items) }
-    ensures whole { IfOk result (λ body. IsBodyOf asked.now body.items) }
+    ensures body_is { IfSome result (λ body. IsBodyOf asked.now body.items) }
 {
     match asked {
         Asked::Order(length) => read_body(alloc, *length, reader),
-        _ => Ok(Vec::new(alloc)),
+        _ => Some(Vec::new(alloc)),
     }
 }
 
 /// So many bytes.
-fn read_body<R: Read>(alloc: Global, count: usize, reader: &mut R) -> Result<Vec<u8>, Unheard>
-    ensures bytes { IfOk result (λ body. Consumes (R.remaining reader.old) (R.remaining reader.new)
+fn read_body<R: Read>(alloc: Global, count: usize, reader: &mut R) -> Option<Vec<u8>>
+    ensures bytes { IfSome result (λ body. Consumes (R.remaining reader.old) (R.remaining reader.new)
         body.items) }
-    ensures whole { IfOk result (λ body. length body.items ≡ count) }
+    ensures size { IfSome result (λ body. length body.items ≡ count) }
 {
-    let Ok(mut body) = body_buffer(alloc, count) else {
-        return Err(Unheard::Lost);
-    };
+    let mut body = body_buffer(alloc, count).ok()?;
     match read_to_fill(reader, &mut body) {
-        Ok(read) if read == count => Ok(body),
-        _ => Err(Unheard::Lost),
+        Ok(read) if read == count => Some(body),
+        _ => None,
     }
 }
 
@@ -137,16 +124,17 @@ fn body_buffer(alloc: Global, count: usize) -> Result<Vec<u8>, AllocError>
     vec![in alloc; 0u8; count]
 }
 
-/// Reads until the bytes begin with a whole head, or can't any more, or the buffer is full or the input ends, and
-/// answers how many bytes were read.
+/// Reads until more bytes can't bring a head, or the input ends, and answers how many bytes were read.
 fn read_to_head<R: Read>(reader: &mut R, buffer: &mut [u8]) -> Result<usize, ReadFault>
+    requires { most_head ≤ length buffer.old }
     ensures bound { IfOk result (λ n. n ≤ length buffer.new) }
     ensures bytes { IfOk result (λ n. Consumes (R.remaining reader.old) (R.remaining reader.new)
         (take n buffer.new)) }
+    ensures enough { IfOk result (λ n. IsDecided (take n buffer.new) ⊎ IsAtEnd (R.remaining reader.new)) }
 {
     let mut count = 0;
     'reads: for _ in 0..u64::MAX {
-        if count >= buffer.len() || is_decided(&buffer[..count]) {
+        if is_decided(&buffer[..count]) {
             return Ok(count);
         }
         match reader.read(&mut buffer[count..]) {
@@ -159,8 +147,18 @@ fn read_to_head<R: Read>(reader: &mut R, buffer: &mut [u8]) -> Result<usize, Rea
     Err(ReadFault)
 }
 
-/// Whether it is decided which head the bytes begin with.
-fn is_decided(bytes: &[u8]) -> bool {
+/// Whether more bytes can't bring a head where there is none.
+fn is_decided(bytes: &[u8]) -> bool
+    ensures decided { result ≡ true → IsDecided bytes.now }
+    ensures cut { result ≡ false → IsOpen bytes.now }
+{
+    if bytes.len() >= MOST_HEAD {
+        return true;
+    }
     let mut headers = [EMPTY_HEADER_SPAN; MOST_FIELDS];
-    !matches!(parse_request(bytes, &mut headers), Ok(Status::Partial))
+    match parse_request(bytes, &mut headers) {
+        Ok(Status::Complete(_)) => true,
+        Ok(Status::Partial) => false,
+        Err(_) => true,
+    }
 }

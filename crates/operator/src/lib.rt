@@ -3,13 +3,12 @@
 //!
 //! - `request`: what a head asks for, by its token, its method and its target; `token` compares.
 //! - `hearing`: a request as a connection gives it, head and body.
-//! - `answer`: an answer as bytes; `chunks`: an answer in pieces.
+//! - `answer`: an answer as bytes.
 //! - `orders`: what becomes of an order; `figures`: a text for Prometheus.
 //! - `serving`: one request, from its head to its answer.
 #![tactic(auto)]
 
 mod answer;
-mod chunks;
 mod figures;
 mod hearing;
 mod orders;

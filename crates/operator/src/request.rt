@@ -1,9 +1,9 @@
 //! What a request of the operator's asks for.
-ghost use Rattle.std.specs.Prelude.{◌≡◌, ◌≤◌, length, map, drop, All, IfSome, Some, option_map};
+ghost use Rattle.std.specs.Prelude.{◌≡◌, length, map, All, Some, MatchOption, option_map};
 ghost use Rattle.std.specs.List.{list_any};
 ghost use Rattle.httparse.specs.Spans.{IsHeaderWithin, header_bytes};
 ghost use Rattle.operator.specs.Requests as spec;
-ghost use Rattle.operator.specs.Requests.{HasHead, IsLength};
+ghost use Rattle.operator.specs.Requests.{HasHead, HasNoHead, IsLength, IsNumber};
 
 use crate::token::is_same;
 use basis::registrar::RegistrarNo;
@@ -16,7 +16,7 @@ use statements::{Bounds, Extract, account_asked, after, bounds_asked};
 pub const MOST_BODY: usize = 65_536;
 
 /// The most fields of a head.
-pub(crate) const MOST_FIELDS: usize = 64;
+pub const MOST_FIELDS: usize = 64;
 
 /// What is asked.
 #[derive(Clone, Copy, Debug, PartialEq, Eq)]
@@ -54,7 +54,8 @@ pub enum Refusal {
 
 /// What the head asks for that bytes begin with, and how long it is. None where they begin with none.
 pub fn read_head(policy: &Policy, credentials: &[u8], bytes: &[u8]) -> Option<(Asked, usize)>
-    ensures { IfSome result (λ read. HasHead policy.now credentials.now bytes.now read.0 read.1) }
+    ensures { MatchOption result (HasNoHead bytes.now) (λ read. HasHead policy.now credentials.now bytes.now
+        read.0 read.1) }
 {
     let mut headers = [EMPTY_HEADER_SPAN; MOST_FIELDS];
     match parse_request(bytes, &mut headers) {
@@ -69,7 +70,8 @@ pub fn read_head(policy: &Policy, credentials: &[u8], bytes: &[u8]) -> Option<(A
             );
             Some((asked, head.len))
         }
-        _ => None,
+        Ok(Status::Partial) => None,
+        Err(_) => None,
     }
 }
 
@@ -174,17 +176,17 @@ fn bears(credentials: &[u8], bytes: &[u8], fields: &[HeaderSpan]) -> bool
 /// The number that the only field Content-Length is.
 fn length_of(bytes: &[u8], fields: &[HeaderSpan]) -> Option<usize>
     requires { All (IsHeaderWithin (length bytes.now)) fields.now }
-    ensures { IfSome result (IsLength (map (header_bytes bytes.now) fields.now)) }
+    ensures { IsLength (map (header_bytes bytes.now) fields.now) result }
 {
     let value = only_value(bytes, fields, b"Content-Length")?;
     number_of(value)
 }
 
-/// The number of these digits.
+/// The number of these digits. A sign is none of them.
 fn number_of(digits: &[u8]) -> Option<usize>
-    ensures { IfSome result (spec.IsNumber digits.now) }
+    ensures { IsNumber digits.now result }
 {
-    if digits.first() == Some(&b'+') {
+    if digits.starts_with(b"+") {
         return None;
     }
     let Ok(text) = str::from_utf8(digits) else {

@@ -1,14 +1,13 @@
 //! A connection of the operator's: one request.
 ghost use Rattle.std.specs.Prelude.{◌≡◌, ◌≤◌, true, string_bytes, IfSome, OnOk};
 ghost use Rattle.operator.specs.Answers.{refusal, response};
-ghost use Rattle.operator.specs.Operations.{Does, IsSent, Operates};
+ghost use Rattle.operator.specs.Operations.{AnswersUnheard, Does, IsSent, Operates};
 ghost use Rattle.operator.specs.Operations as spec;
 ghost use Rattle.server.specs.Http.{Passes};
 ghost use Rattle.registry.specs.Execution.{IsUnchanged, ShowsBacklog};
 ghost use Rattle.books.specs.Book.{Follows};
 
 use crate::answer::{Kind, Outcome, outcome_of, response};
-use crate::chunks::Chunks;
 use crate::figures::{Figures, figures_of};
 use crate::hearing::{Heard, Unheard, hear};
 use crate::orders::order_at;
@@ -19,7 +18,7 @@ use books::Book;
 use calendar::Moment;
 use frames::Clock;
 use registry::{Backlog, Registry};
-use server::{ZoneExportFault, zone_on};
+use server::zone_on;
 use statements::{Extract, statement};
 use std::alloc::Global;
 use std::io::{Read, Write};
@@ -58,8 +57,17 @@ pub fn serve_request<R: Read, W: Write, C: Clock, F: Figures, B: Book + Drop>(
             let Heard { asked, body } = heard;
             answer(alloc, figures, asked, &body, writer, clock, registry)
         }
-        Err(Unheard::Headless) => refuse(alloc, Outcome::Malformed, writer),
-        Err(Unheard::Lost) => RequestEnd::Unanswered,
+        Err(why) => answer_unheard(alloc, why, writer),
+    }
+}
+
+/// Answers where no request was heard.
+fn answer_unheard<W: Write>(alloc: Global, why: Unheard, writer: &mut W) -> RequestEnd
+    ensures { AnswersUnheard why (W.contents writer.old) (W.contents writer.new) result }
+{
+    match why {
+        Unheard::Headless => refuse(alloc, Outcome::Malformed, writer),
+        Unheard::Lost => RequestEnd::Unanswered,
     }
 }
 
@@ -107,7 +115,7 @@ fn answer_order<W: Write, C: Clock, B: Book + Drop>(
     send(alloc, ordered.outcome, Kind::Json, &ordered.text, writer)
 }
 
-/// Sends the zone at the clock's moment, in pieces.
+/// Sends the zone at the clock's moment.
 fn answer_zone<W: Write, C: Clock, B: Book + Drop>(
     alloc: Global,
     writer: &mut W,
@@ -115,49 +123,34 @@ fn answer_zone<W: Write, C: Clock, B: Book + Drop>(
     registry: &mut Registry<B>,
 ) -> RequestEnd
     ensures does { spec.DoesZone registry.old.policy (C.moments clock.old) (C.moments clock.new)
-        (B.state registry.old.book) (B.state registry.new.book) }
+        (B.state registry.old.book) (B.state registry.new.book) (W.contents writer.old)
+        (W.contents writer.new) result }
     ensures follows { Follows (B.state registry.old.book) (B.state registry.new.book) }
     ensures policy { registry.new.policy ≡ registry.old.policy }
 {
     let moment = clock.moment();
-    match write_zone(alloc, registry, moment, writer) {
-        Written::Whole => RequestEnd::Answered,
-        Written::Cut => RequestEnd::Cut,
-        Written::Nothing => refuse(alloc, Outcome::Failed, writer),
+    match zone_at(alloc, registry, moment) {
+        Some(text) => send(alloc, Outcome::Done, Kind::Dns, &text, writer),
+        None => refuse(alloc, Outcome::Failed, writer),
     }
 }
 
-/// How much of a zone was sent.
-#[derive(Clone, Copy)]
-enum Written {
-    Whole,
-    Cut,
-    Nothing,
-}
-
-/// Sends the zone of a moment, in pieces.
-fn write_zone<W: Write, B: Book + Drop>(
+/// The text of the zone at a moment.
+fn zone_at<B: Book + Drop>(
     alloc: Global,
     registry: &mut Registry<B>,
     moment: Moment,
-    writer: &mut W,
-) -> Written
+) -> Option<Vec<u8>>
+    ensures text { IfSome result (λ text. spec.IsZone registry.old.policy moment
+        (B.state registry.old.book) (B.state registry.new.book) text.items) }
     ensures passes { Passes registry.old.policy moment (B.state registry.old.book)
         (B.state registry.new.book) }
     ensures policy { registry.new.policy ≡ registry.old.policy }
 {
-    let mut chunks = Chunks::new(alloc, writer);
-    let told = zone_on(alloc, registry, moment, &mut chunks);
-    end_of_zone(told, chunks)
-}
-
-/// Sends the end of a zone, if all of it was sent.
-fn end_of_zone<W: Write + Drop>(told: Result<(), ZoneExportFault>, chunks: Chunks<W>) -> Written {
-    let mut chunks = chunks;
-    match told {
-        Ok(()) if chunks.end().is_ok() => Written::Whole,
-        _ if chunks.is_begun() => Written::Cut,
-        _ => Written::Nothing,
+    let mut text = Vec::new(alloc);
+    match zone_on(alloc, registry, moment, &mut text) {
+        Ok(()) => Some(text),
+        Err(_) => None,
     }
 }
 
@@ -189,7 +182,7 @@ fn statement_at<B: Book + Drop>(
     moment: Moment,
     extract: Extract,
 ) -> Option<String>
-    ensures told { IfSome result (λ text. spec.IsStatement registry.old.policy extract moment
+    ensures text { IfSome result (λ text. spec.IsStatement registry.old.policy extract moment
         (B.state registry.old.book) (B.state registry.new.book) (string_bytes text)) }
     ensures passes { Passes registry.old.policy moment (B.state registry.old.book)
         (B.state registry.new.book) }
@@ -205,7 +198,7 @@ fn lines_at<B: Book + Drop>(
     moment: Moment,
     registrar: RegistrarNo,
 ) -> Option<Lines>
-    ensures told { IfSome result (λ lines. (B.state registry.new.book).is_clean ≡ true
+    ensures lines { IfSome result (λ lines. (B.state registry.new.book).is_clean ≡ true
         → lines ≡ spec.lines_at registry.old.policy registrar moment (B.state registry.old.book)) }
     ensures passes { Passes registry.old.policy moment (B.state registry.old.book)
         (B.state registry.new.book) }
@@ -258,7 +251,7 @@ fn send_figures<W: Write, F: Figures>(
 
 /// What waits in the registry at a moment.
 fn backlog_at<B: Book + Drop>(registry: &mut Registry<B>, moment: Moment) -> Option<Backlog>
-    ensures told { IfSome result (λ backlog. ShowsBacklog registry.old.policy moment backlog
+    ensures backlog { IfSome result (λ backlog. ShowsBacklog registry.old.policy moment backlog
         (B.state registry.old.book) (B.state registry.new.book)) }
     ensures same { IsUnchanged (B.state registry.old.book) (B.state registry.new.book) }
     ensures follows { Follows (B.state registry.old.book) (B.state registry.new.book) }

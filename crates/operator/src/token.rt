@@ -1,6 +1,7 @@
 //! The token that opens the operator's port (RFC 6750).
-ghost use Rattle.std.specs.Prelude.{◌≡◌, bytes_eq, IfOk};
-ghost use Rattle.operator.specs.Requests.{IsToldOf, IsTokenOf};
+ghost use Rattle.std.specs.Prelude.{◌≡◌, bytes_eq, IfErr, IfOk};
+ghost use Rattle.operator.specs.Requests as spec;
+ghost use Rattle.operator.specs.declared.token.TokenFault.TheVariants as faults;
 
 use std::alloc::{AllocError, Global};
 
@@ -19,6 +20,8 @@ pub enum TokenFault {
 }
 
 impl From<AllocError> for TokenFault {
+    ghost from_gives = { λ _ fault. fault ≡ faults.Memory };
+
     fn from(_: AllocError) -> TokenFault {
         TokenFault::Memory
     }
@@ -26,7 +29,9 @@ impl From<AllocError> for TokenFault {
 
 /// What a request says whose sender has the token of a file: the file's bytes, without the line feed at their end.
 pub fn credentials_in(alloc: Global, file: &[u8]) -> Result<Vec<u8>, TokenFault>
-    ensures { IfOk result (λ told. IsToldOf file.now told.items) }
+    ensures ok { IfOk result (λ credentials. spec.IsFit (spec.token_of file.now)
+        × (credentials.items ≡ spec.credentials_of (spec.token_of file.now))) }
+    ensures err { IfErr result (spec.IsUnfit (spec.token_of file.now)) }
 {
     let token = token_in(file);
     if token.len() < LEAST_TOKEN {
@@ -42,16 +47,19 @@ pub fn credentials_in(alloc: Global, file: &[u8]) -> Result<Vec<u8>, TokenFault>
 
 /// The bytes without a line feed at their end.
 fn token_in(file: &[u8]) -> &[u8]
-    ensures { IsTokenOf file.now result.now }
+    ensures { result.now ≡ spec.token_of file.now }
 {
-    match file.split_last() {
-        Some((last, front)) if *last == b'\n' => front,
-        _ => file,
+    if file.ends_with(b"\n") {
+        &file[..file.len() - 1]
+    } else {
+        file
     }
 }
 
 /// Whether each byte is a letter, a digit or a sign.
-fn is_visible(token: &[u8]) -> bool {
+fn is_visible(token: &[u8]) -> bool
+    ensures { result ≡ spec.is_visible token.now }
+{
     token.iter().all(|byte| byte.is_ascii_graphic())
 }
 

@@ -155,6 +155,15 @@ module _ (xs : Content) (is : IsOldContent xs) where
 
 -- ---- one call after another
 
+stays-then : (s m t : StateOf Content) → Stays s m → Stays m t → Stays s t
+stays-then s m t a b = record { clean = λ e. a.clean (b.clean e); before = λ e. b.before e ∙ a.before (b.clean e); leaves = leaves-on s m t a.leaves b.leaves }
+
+stays-read : (s t : StateOf Content) → Reads s t → Stays s t
+stays-read s t r = record { clean = r.clean; before = r.before; leaves = r.leaves }
+
+stays-copied : (put : Content → Content → Content) (from read : OldState) (to mid : StateOf Content) → IsCopied put from read to mid → Stays to mid
+stays-copied put from read to mid c = record { clean = c.clean; before = c.before; leaves = c.leaves }
+
 copied-then : (one two : Content → Content → Content) (from read more : OldState) (to mid wrote : StateOf Content)
     → IsCopied one from read to mid → IsCopied two read more mid wrote → IsCopied (λ c d. two c (one c d)) from more to wrote
 copied-then one two from read more to mid wrote a b = record {
@@ -173,7 +182,7 @@ left-then : (one : Content → Content → Content) (from read more : OldState) 
     → IsCopied one from read to mid → IsLeft read more mid wrote → IsLeft from more to wrote
 left-then one from read more to mid wrote a b = record {
   source = read-on from read more a.asked.reads b.source;
-  target = record { clean = λ e. a.clean (b.target.clean e); before = λ e. b.target.before e ∙ a.before (b.target.clean e); leaves = leaves-on to mid wrote a.leaves b.target.leaves };
+  target = stays-then to mid wrote (stays-copied one from read to mid a) b.target;
 }
 
 pub copied-after : {A : Type 0} (r : Result A BookFault) (one two : Content → Content → Content) (from read more : OldState) (to mid wrote : StateOf Content)
@@ -185,18 +194,14 @@ copied-after (Err fault) one two from read more to mid wrote a b = left-then one
 pub left-looked : (put : Content → Content → Content) (from read : OldState) (to written looked : StateOf Content) → IsCopied put from read to written → Stays written looked → IsLeft from read to looked
 left-looked put from read to written looked copied stays = record {
   source = copied.asked.reads;
-  target = record { clean = λ e. copied.clean (stays.clean e); before = λ e. stays.before e ∙ copied.before (stays.clean e); leaves = leaves-on to written looked copied.leaves stays.leaves };
+  target = stays-then to written looked (stays-copied put from read to written copied) stays;
 }
 
 -- a copy that failed behind a copy and a question
 pub left-rest : (put : Content → Content → Content) (from read more : OldState) (to written looked wrote : StateOf Content) → IsCopied put from read to written → Reads written looked → IsLeft read more looked wrote → IsLeft from more to wrote
 left-rest put from read more to written looked wrote copied looks left = record {
   source = read-on from read more copied.asked.reads left.source;
-  target = record {
-    clean = λ e. copied.clean (looks.clean (left.target.clean e));
-    before = λ e. let w = left.target.clean e in left.target.before e ∙ looks.before w ∙ copied.before (looks.clean w);
-    leaves = leaves-on to looked wrote (leaves-on to written looked copied.leaves looks.leaves) left.target.leaves;
-  };
+  target = stays-then to looked wrote (stays-then to written looked (stays-copied put from read to written copied) (stays-read written looked looks)) left.target;
 }
 
 module _ (p : PolicyRules) (from read : OldState) (to written looked : StateOf Content) (old : from.is_clean ≡ true → IsOldContent from.content) (blank : to.is_clean ≡ true → to.content ≡ no_content)
@@ -208,12 +213,13 @@ module _ (p : PolicyRules) (from read : OldState) (to written looked : StateOf C
       ∙ ap (λ (c : Content). suits p (stored_of c)) (copied.content c w ∙ ap (put_of_all heads from.content) (blank (copied.clean w)))
       ∙ suits-heads from.content (old (copied.asked.reads.clean c)) p
 
+  stays-looked : Stays to looked
+  stays-looked = stays-then to written looked (stays-copied (put_of_all heads) from read to written copied) (stays-read written looked found.0)
+
   pub refused : said ≡ false → IsRefused p from read to looked
   refused unsaid = record {
     asked = copied.asked;
-    clean = λ e. copied.clean (found.0.clean e);
-    before = λ e. found.0.before e ∙ copied.before (found.0.clean e);
-    leaves = leaves-on to written looked copied.leaves found.0.leaves;
+    stays = stays-looked;
     differs = λ c e. sym (suits-there c e) ∙ unsaid;
   }
 
@@ -221,10 +227,8 @@ module _ (p : PolicyRules) (from read : OldState) (to written looked : StateOf C
       → HasMade stored_of are_right (redated p (stored_of wrote.content)) wrote dated → (dated.is_clean ≡ true → dated.content.lines ≡ wrote.content.lines) → IsTakenOver p from more to dated
   taken-over more wrote dated so rest days kept = record {
     asked = asked-on from read more copied.asked rest.asked;
-    clean = λ e. copied.clean (found.0.clean (rest.clean (days.clean e)));
-    before = λ e. let w = rest.clean (days.clean e) in days.before e ∙ rest.before (days.clean e) ∙ found.0.before w ∙ copied.before (found.0.clean w);
+    stays = stays-then to wrote dated (stays-then to looked wrote stays-looked (stays-copied _ read more looked wrote rest)) (record { clean = days.clean; before = days.before; leaves = days.leaves });
     opened = days.opened;
-    leaves = leaves-on to wrote dated (leaves-on to looked wrote (leaves-on to written looked copied.leaves found.0.leaves) rest.leaves) days.leaves;
     fits = λ c e. sym (suits-there (rest.asked.reads.clean c) (rest.clean (days.clean e))) ∙ so;
     stored = λ c e. days.content e ∙ ap (λ (xs : Content). redated p (stored_of xs)) (whole c (days.clean e)) ∙ ap (redated p) (stored-taken p.days from.content);
     sums = λ c e. days.sums e ∙ ap are_right (whole c (days.clean e)) ∙ right-taken p.days from.content;
@@ -309,14 +313,7 @@ made-already p from a b shut it = tried-nothing p from from a b (it.source refl)
 pub unbegun : (p : PolicyRules) (from : OldState) (a b c : StateOf Content) (why : BookFault) (fault : MigrateFault) → fault ≡ fault_of why → a.before ≡ a.content → AreAsked true from a b → Closes b.before b c
     → Migrates {A = Unit {0}} (Err fault) p from from a c
 unbegun p from a b c why fault is idle it back =
-    by-fault p from from a c why fault is
-    (tried-nothing p from from a c (it.source refl) (as-read from)
-    (home a c idle (record {
-      clean = λ e. it.back.clean (back.clean e);
-      closed = back.closed;
-      content = λ e. back.content e ∙ it.back.before (back.clean e);
-      leaves = leaves-on a b c it.back.leaves back.leaves;
-    })))
+    unasked p from a c why fault is idle (it.source refl, undone a b c (stays-read a b it.back) back)
 
 module _ (p : PolicyRules) (from read : OldState) (a b c d e : StateOf Content) (asked : AreAsked true from a b) (begun : Starts b c) where
   before-all : c.is_clean ≡ true → c.before ≡ a.content
@@ -328,19 +325,19 @@ module _ (p : PolicyRules) (from read : OldState) (a b c d e : StateOf Content) 
   clean-begun : c.is_clean ≡ true → a.is_clean ≡ true
   clean-begun t = asked.back.clean (begun.clean t)
 
-  closed-back : (d.is_clean ≡ true → c.is_clean ≡ true) → (d.is_clean ≡ true → d.before ≡ c.before) → LeavesSame c d → Closes d.before d e → Closes a.content a e
-  closed-back clean before leaves back = record {
-    clean = λ t. clean-begun (clean (back.clean t));
+  closed-back : Stays c d → Closes d.before d e → Closes a.content a e
+  closed-back stays back = record {
+    clean = λ t. clean-begun (stays.clean (back.clean t));
     closed = back.closed;
-    content = λ t. let w = back.clean t in back.content t ∙ before w ∙ before-all (clean w);
-    leaves = leaves-on a d e (leaves-on a c d leaves-begun leaves) back.leaves;
+    content = λ t. let w = back.clean t in back.content t ∙ stays.before w ∙ before-all (stays.clean w);
+    leaves = leaves-on a d e (leaves-on a c d leaves-begun stays.leaves) back.leaves;
   }
 
   there-then : c.is_clean ≡ true → AreThere from a
   there-then t = asked.there refl (begun.clean t)
 
   may-be : (took : IsTakenOver p from read c d) → read.is_clean ≡ true → d.is_clean ≡ true → MayBeTaken p from a
-  may-be took m t = (there-then (took.clean t), took.fits m t)
+  may-be took m t = (there-then (took.stays.clean t), took.fits m t)
 
   all-in : (took : IsTakenOver p from read c d) → read.is_clean ≡ true → d.is_clean ≡ true → (left : Remains Content) → left ≡ holding d.content → IsAll p from.content left
   all-in took m t left is = (
@@ -354,7 +351,7 @@ module _ (p : PolicyRules) (from read : OldState) (a b c d e : StateOf Content) 
   kept-all : IsTakenOver p from read c d → Keeps d e → IsMigrated p from read a e
   kept-all took kept = record {
     asked = took.asked;
-    clean = λ t. clean-begun (took.clean (kept.clean t));
+    clean = λ t. clean-begun (took.stays.clean (kept.clean t));
     answers = kept.answers;
     closed = kept.closed;
     used = kept.ready;
@@ -370,26 +367,26 @@ module _ (p : PolicyRules) (from read : OldState) (a b c d e : StateOf Content) 
   failed-all took failed = record {
     reads = took.asked.reads;
     source = asked.source refl;
-    clean = λ t. clean-begun (took.clean (failed.clean t));
-    honest = λ t. leaves-begun.honest (took.leaves.honest (failed.honest t));
+    clean = λ t. clean-begun (took.stays.clean (failed.clean t));
+    honest = λ t. leaves-begun.honest (took.stays.leaves.honest (failed.honest t));
     closed = failed.closed;
-    content = λ t. let w = failed.clean t in failed.content t ∙ took.before w ∙ before-all (took.clean w);
-    ready = failed.ready ∙ (leaves-on a c d leaves-begun took.leaves).ready;
+    content = λ t. let w = failed.clean t in failed.content t ∙ took.stays.before w ∙ before-all (took.stays.clean w);
+    ready = failed.ready ∙ (leaves-on a c d leaves-begun took.stays.leaves).ready;
     leaves = λ was h honest left has. elim (failed.leaves left has) [
-      | inl before ↦ inl (subst (λ (l : List (Remains Content)). Has l left) (leaves-on a c d leaves-begun took.leaves).same before)
+      | inl before ↦ inl (subst (λ (l : List (Remains Content)). Has l left) (leaves-on a c d leaves-begun took.stays.leaves).same before)
       | inr is ↦ let m : read.is_clean ≡ true = took.asked.answers was h in let t = failed.answered honest in inr (may-be took m t, all-in took m t left is)
     ];
   }
 
   undone-all : IsLeft from read c d → Closes d.before d e → IsTried p from read a e
-  undone-all left back = tried-nothing p from read a e (asked.source refl) left.source (closed-back left.target.clean left.target.before left.target.leaves back)
+  undone-all left back = tried-nothing p from read a e (asked.source refl) left.source (closed-back left.target back)
 
   unsuited : IsRefused p from read c d → Closes d.before d e → IsUnsuited p from read a e
   unsuited refused back = record {
     asked = refused.asked;
-    back = closed-back refused.clean refused.before refused.leaves back;
+    back = closed-back refused.stays back;
     source = asked.source refl;
-    there = λ t. there-then (refused.clean (back.clean t));
+    there = λ t. there-then (refused.stays.clean (back.clean t));
     differs = λ m t. refused.differs m (back.clean t);
   }
 

@@ -1,3 +1,2 @@
 -- Words for this crate's own functions, which no promise of the registry names.
-pub mod Ends
 pub mod Migrating

@@ -2,3 +2,4 @@
 pub mod Ends
 pub mod Words
 pub mod Nearness
+pub mod Options

@@ -1,5 +1,5 @@
 //! Moments that are far from a registry's clock, as a slip makes them.
-ghost use Rattle.std.specs.Prelude.{◌≡◌, true, OnOk};
+ghost use Rattle.std.specs.Prelude.{◌≡◌};
 ghost use Rattle.tldreg.specs.inner.Nearness as spec;
 
 use books::Book;
@@ -16,8 +16,18 @@ pub fn require_near<B: Book + Drop>(
     registry: &mut Registry<B>,
     moment: Moment,
     days: u32,
-) -> Result<(), Exit> {
-    match registry.greet(Moment::first()) {
+) -> Result<(), Exit>
+    ensures { spec.IsNear registry.old.policy moment days (B.state registry.old.book)
+        (B.state registry.new.book) result }
+{
+    near_end(registry.greet(Moment::first()), moment, days)
+}
+
+/// The same by the clock that a registry shows.
+fn near_end(shown: Result<Moment, Fault>, moment: Moment, days: u32) -> Result<(), Exit>
+    ensures { result ≡ spec.near_end shown moment days }
+{
+    match shown {
         Ok(clock) if is_far(clock, moment, days) => Err(Exit::Registry(Fault::Moment)),
         Ok(_) => Ok(()),
         Err(fault) => Err(Exit::Registry(fault)),

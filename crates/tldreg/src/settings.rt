@@ -1,6 +1,8 @@
 //! The options of a command line: `--NAME VALUE`, and `--quiet`, among its other words.
-ghost use Rattle.std.specs.Prelude.{◌≡◌, ◌⊎◌, ◌≤◌, ◌<◌, IfErr, IfOk};
+ghost use Rattle.std.specs.Prelude.{◌≡◌, ◌⊎◌, IfErr};
 ghost use Rattle.script.specs.declared.exit.Exit.TheVariants as exits;
+ghost use Rattle.tldreg.specs.inner.Options as spec;
+ghost use Rattle.tldreg.specs.inner.Words.{Reads};
 
 use script::Exit;
 use std::alloc::Global;
@@ -63,24 +65,11 @@ impl Settings {
             return Ok(());
         }
         let time = Duration::from_secs(u64::from(number_of(value, MOST_SECONDS)?));
+        let Some(limits) = with_limit(self.limits, name, time) else {
+            return Err(Exit::Usage);
+        };
+        self.limits = limits;
         self.kind = OptionKind::Serving;
-        self.set_limit(name, time)
-    }
-
-    /// Takes a limit.
-    fn set_limit(&mut self, name: &str, time: Duration) -> Result<(), Exit>
-        ensures { IfErr result (λ exit. (exit ≡ exits.Usage) ⊎ (exit ≡ exits.Memory)) }
-    {
-        match name {
-            "--first" => self.limits.first = time,
-            "--head" => self.limits.head = time,
-            "--frame" => self.limits.frame = time,
-            "--login" => self.limits.login = time,
-            "--pause" => self.limits.pause = time,
-            "--still" => self.limits.still = time,
-            "--session" => self.limits.session = time,
-            _ => return Err(Exit::Usage),
-        }
         Ok(())
     }
 
@@ -139,10 +128,27 @@ fn is_option(word: &str) -> bool {
     word.starts_with("--") && word != "--help" && word != "--version"
 }
 
+/// The limits where an option of this name says another time, if there is such an option.
+fn with_limit(limits: Limits, name: &str, time: Duration) -> Option<Limits>
+    ensures { result ≡ spec.with_limit limits name.now time }
+{
+    let mut limits = limits;
+    match name {
+        "--first" => limits.first = time,
+        "--head" => limits.head = time,
+        "--frame" => limits.frame = time,
+        "--login" => limits.login = time,
+        "--pause" => limits.pause = time,
+        "--still" => limits.still = time,
+        "--session" => limits.session = time,
+        _ => return None,
+    }
+    Some(limits)
+}
+
 /// A number from 1 to the most.
 fn number_of(word: &str, most: u32) -> Result<u32, Exit>
-    ensures number { IfOk result (λ number. (0 < number) × (number ≤ most)) }
-    ensures fault { IfErr result (λ exit. exit ≡ exits.Usage) }
+    ensures { Reads (spec.IsCount most word.now) result }
 {
     match word.parse::<u32>() {
         Ok(number) if number > 0 && number <= most => Ok(number),

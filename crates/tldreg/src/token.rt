@@ -10,9 +10,6 @@ use std::io::{self, Read};
 use std::os::unix::fs::PermissionsExt;
 use std::rt::Files;
 
-/// What others than its owner may do with a file.
-const OTHERS: u32 = 0o077;
-
 /// Why a file isn't fit to hold the token.
 #[derive(Clone, Copy)]
 pub enum Unfit {
@@ -92,10 +89,17 @@ fn token_end(fault: TokenFault) -> End
 /// A file's bytes. None where others than its owner may do something with it, and then it isn't read.
 fn read_kept(rt: &(impl Files + AllocGlobal), path: &str) -> io::Result<Option<Vec<u8>>> {
     let mut file = fs::open(rt, path)?;
-    if file.metadata()?.permissions().mode() & OTHERS != 0 {
+    if is_open(file.metadata()?.permissions().mode()) {
         return Ok(None);
     }
     let mut bytes = Vec::new(rt.alloc());
     file.read_to_end(&mut bytes)?;
     Ok(Some(bytes))
+}
+
+/// Whether others than its owner may do something with a file of this mode.
+fn is_open(mode: u32) -> bool
+    ensures { result ≡ spec.is_open mode }
+{
+    mode & 0o077 != 0
 }

@@ -1,6 +1,6 @@
 //! Waiting until somebody comes.
 
-use crate::room::Next;
+use crate::room::{Next, Room};
 use crate::rooms::Rooms;
 use crate::turn::Turn;
 use mio::unix::SourceFd;
@@ -59,7 +59,11 @@ impl Door {
 }
 
 /// The next connection whose turn it is. None where there can't be one any more.
-pub fn next_turn<M: time::Clock>(machine: &M, rooms: &Rooms<'_>, door: &mut Door) -> Option<Turn> {
+pub fn next_turn<M: time::Clock>(
+    machine: &M,
+    rooms: &Rooms<Room<'_>>,
+    door: &mut Door,
+) -> Option<Turn> {
     'waits: for _ in 0..u64::MAX {
         let now = machine.monotonic().ok()?;
         match rooms.next(now) {

@@ -3,6 +3,7 @@
 use crate::counts::Tally;
 use crate::line::plain;
 use crate::log::Log;
+use crate::room::Room;
 use crate::rooms::Rooms;
 use std::alloc::{AllocError, Global};
 use std::time::{self, Duration};
@@ -14,7 +15,7 @@ const COMPLETED: u16 = 1_000;
 pub fn write_figures<M: time::Clock + Print>(
     alloc: Global,
     log: &Log<'_, M>,
-    rooms: &Rooms<'_>,
+    rooms: &Rooms<Room<'_>>,
     log_bytes: u64,
     text: &mut String,
 ) -> Result<(), AllocError> {
@@ -54,7 +55,7 @@ fn write_counts(alloc: Global, counts: &[Tally], text: &mut String) -> Result<()
 fn write_connections<M: time::Clock + Print>(
     alloc: Global,
     log: &Log<'_, M>,
-    rooms: &Rooms<'_>,
+    rooms: &Rooms<Room<'_>>,
     text: &mut String,
 ) -> Result<(), AllocError> {
     let (turns, waiting) = (log.turns(), rooms.count() as u64);

@@ -1,4 +1,6 @@
 //! How long a connection may take.
+ghost use Rattle.std.specs.Prelude.{◌≡◌, ◌*◌, map};
+ghost use Rattle.wires.specs.inner.Lateness as spec;
 
 use std::time::Duration;
 
@@ -22,13 +24,10 @@ pub struct Limits {
 }
 
 impl Limits {
-    /// Until a reply is taken, where another connection waits or none does.
-    pub(crate) fn reply(&self, is_awaited: bool) -> Duration {
-        if is_awaited { self.still } else { self.pause }
-    }
-
     /// Those of a registry whose operator names no others.
-    pub fn usual() -> Limits {
+    pub fn usual() -> Limits
+        ensures { spec.nanos_of result ≡ map (λ secs. secs * 1_000_000_000) spec.usual }
+    {
         Limits {
             first: Duration::from_secs(10),
             head: Duration::from_secs(10),
@@ -39,4 +38,11 @@ impl Limits {
             session: Duration::from_secs(60),
         }
     }
+}
+
+/// Whether more time than a limit has passed from one moment to another.
+pub(crate) fn has_passed(limit: Duration, from: Duration, now: Duration) -> bool
+    ensures { result ≡ spec.has_passed limit from now }
+{
+    now.saturating_sub(from).as_nanos() > limit.as_nanos()
 }

@@ -1,4 +1,6 @@
 //! A line of the log as it is made, of `key=value` with spaces between.
+ghost use Rattle.std.specs.Prelude.{◌≡◌};
+ghost use Rattle.wires.specs.inner.Log as spec;
 
 use itoa::{Buffer, Integer};
 use std::alloc::{AllocError, Global};
@@ -77,7 +79,10 @@ pub(crate) fn plain(alloc: Global, bytes: &[u8]) -> Result<String, AllocError> {
     Ok(text)
 }
 
-fn plain_of(byte: u8) -> u8 {
+/// A byte that a client sent, as a line has it.
+fn plain_of(byte: u8) -> u8
+    ensures { result ≡ spec.plain_of byte }
+{
     match byte {
         b'-' | b'.' | b'/' | b':' | b'_' => byte,
         _ if byte.is_ascii_alphanumeric() => byte,

@@ -1,4 +1,6 @@
 //! A log: a line for each command and for each connection, of what is asked and answered; and counts of these.
+ghost use Rattle.std.specs.Prelude.{◌≡◌};
+ghost use Rattle.wires.specs.inner.Log as spec;
 
 use crate::asks::{Members, is_word, members_of, target_of};
 use crate::counts::{Tally, count};
@@ -22,8 +24,6 @@ const OBJECTS: &[&str] = &["contact", "domain", "host"];
 const OPERATIONS: &[&str] = &[
     "ack", "approve", "cancel", "query", "reject", "report", "req", "request",
 ];
-
-const OFFICE_TARGETS: &[&str] = &["/orders", "/zone", "/metrics"];
 
 /// The beginning of a statement's target, before the registrar's id and the moments.
 const STATEMENT: &[u8] = b"/statement/";
@@ -147,7 +147,7 @@ impl<'l, M: time::Clock + Print> Log<'l, M> {
             command: self.service(),
             operation: "-",
             object: "-",
-            name: self.name_of(&asked),
+            name: shown_of(target_of(&asked), self.is_office.get()),
             code: http_code_of(answer),
             sv_trid: b"",
         };
@@ -161,19 +161,6 @@ impl<'l, M: time::Clock + Print> Log<'l, M> {
             "operator"
         } else {
             "rdap"
-        }
-    }
-
-    /// The target that a head asks for. On the operator's port an unknown one may be a slip, so it isn't printed, and
-    /// of a statement's only the beginning is.
-    fn name_of<'h>(&self, head: &'h [u8]) -> &'h [u8] {
-        let target = target_of(head);
-        if !self.is_office.get() || is_office_target(target) {
-            target
-        } else if target.starts_with(STATEMENT) {
-            STATEMENT
-        } else {
-            b""
         }
     }
 
@@ -341,18 +328,33 @@ fn micros_of(took: Duration) -> u64 {
     u64::try_from(took.as_micros()).unwrap_or(u64::MAX)
 }
 
-/// Whether the operator's port has such a target.
-fn is_office_target(target: &[u8]) -> bool {
-    for known in OFFICE_TARGETS.iter() {
-        if known.as_bytes() == target {
-            return true;
-        }
+/// So much of a request's target as a line has. On the operator's port an unknown one may be a slip, so it isn't printed,
+/// and of a statement's only the beginning is.
+fn shown_of(target: &[u8], is_office: bool) -> &[u8]
+    ensures { result.now ≡ spec.shown_of target.now is_office }
+{
+    if !is_office || is_office_target(target) {
+        target
+    } else if target.starts_with(STATEMENT) {
+        STATEMENT
+    } else {
+        b""
     }
-    false
+}
+
+/// Whether the operator's port has such a target.
+fn is_office_target(target: &[u8]) -> bool
+    ensures { result ≡ spec.is_office_target target.now }
+{
+    target == b"/orders".as_slice()
+        || target == b"/zone".as_slice()
+        || target == b"/metrics".as_slice()
 }
 
 /// Whether a command had another form than it may, so that a secret may be in the place of a name.
-fn is_fault_of_form(code: Option<u16>) -> bool {
+fn is_fault_of_form(code: Option<u16>) -> bool
+    ensures { result ≡ spec.is_fault_of_form code }
+{
     matches!(code, Some(2000..=2005))
 }
 

@@ -1,6 +1,9 @@
 //! Connections that wait for their turn.
-ghost use Rattle.std.specs.Prelude.{◌<◌, IfSome, length};
+ghost use Rattle.std.specs.Prelude.{◌≡◌, true, false, Bool, ⊤};
+ghost use Rattle.wires.specs.inner.Lateness as lateness;
+ghost use Rattle.wires.specs.inner.Rooms as spec;
 
+use crate::limits::has_passed;
 use crate::turn::{Port, Turn};
 use mio::unix::SourceFd;
 use mio::{Interest, Registry, Token};
@@ -17,6 +20,14 @@ const MOST_WAITING: usize = 256;
 /// How many come in at once at most.
 const MOST_ENTERING: usize = 1_024;
 
+/// What waits, and tells whether a turn could come now. Contracts see what it may tell.
+pub(crate) trait Waits {
+    ghost Tells: { Self → Bool → Type 0 };
+
+    fn is_ready(&self) -> bool
+        ensures { Tells self.now result };
+}
+
 /// A connection that waits, and since when.
 #[derive(Drop)]
 struct Waiting {
@@ -24,7 +35,9 @@ struct Waiting {
     came: Duration,
 }
 
-impl Waiting {
+impl Waits for Waiting {
+    ghost Tells = { λ waiting is_ready. ⊤ };
+
     /// Whether a first byte is there, or no byte will come any more.
     fn is_ready(&self) -> bool {
         let mut first = [0u8; 1];
@@ -33,10 +46,17 @@ impl Waiting {
             Err(error) => !is_passing(error.kind()),
         }
     }
+}
 
+impl Waiting {
     /// Whether it may wait on.
-    fn may_wait(&self, first: Duration, now: Duration) -> bool {
-        now.saturating_sub(self.came) <= first || self.is_ready()
+    fn may_wait(&self, first: Duration, now: Duration) -> bool
+        ensures { result ≡ false → lateness.has_passed first self.now.came now ≡ true }
+    {
+        if has_passed(first, self.came, now) {
+            return self.is_ready();
+        }
+        true
     }
 }
 
@@ -97,7 +117,7 @@ impl<'l> Room<'l> {
     /// Lets in who came, and says what is to be done next.
     pub(crate) fn next(&self, now: Duration) -> Next {
         let mut waiting = self.waiting.replace(Vec::new(self.alloc));
-        let entered = self.let_in(&mut waiting, now);
+        let entered = self.seat_all(&mut waiting, now);
         let turn = take_ready(&mut waiting);
         self.waiting.set(waiting);
         match turn {
@@ -118,17 +138,15 @@ impl<'l> Room<'l> {
         count
     }
 
-    /// Lets in who came, and says whether somebody's turn could come.
-    pub(crate) fn is_awaited(&self, now: Duration) -> bool {
+    /// Lets in who came.
+    pub(crate) fn let_in(&self, now: Duration) {
         let mut waiting = self.waiting.replace(Vec::new(self.alloc));
-        let _entered = self.let_in(&mut waiting, now);
-        let is_awaited = ready_place(&waiting).is_some();
+        let _entered = self.seat_all(&mut waiting, now);
         self.waiting.set(waiting);
-        is_awaited
     }
 
-    /// Lets in who came, while there is room.
-    fn let_in(&self, waiting: &mut Vec<Waiting>, now: Duration) -> Entered {
+    /// The same, while there is room.
+    fn seat_all(&self, waiting: &mut Vec<Waiting>, now: Duration) -> Entered {
         let first = self.first;
         waiting.retain(|it| it.may_wait(first, now));
         for _ in 0..MOST_ENTERING {
@@ -166,7 +184,21 @@ impl<'l> Room<'l> {
     }
 }
 
-fn next_of(entered: Entered) -> Next {
+impl Waits for Room<'_> {
+    ghost Tells = { λ room is_ready. ⊤ };
+
+    /// Whether somebody's turn could come.
+    fn is_ready(&self) -> bool {
+        let waiting = self.waiting.replace(Vec::new(self.alloc));
+        let is_ready = ready_place(&waiting).is_some();
+        self.waiting.set(waiting);
+        is_ready
+    }
+}
+
+fn next_of(entered: Entered) -> Next
+    ensures { result ≡ spec.next_of entered }
+{
     match entered {
         Entered::All => Next::Nobody,
         Entered::Want => Next::Want,
@@ -175,8 +207,8 @@ fn next_of(entered: Entered) -> Next {
 }
 
 /// The place of the first one whose turn can come.
-fn ready_place(waiting: &[Waiting]) -> Option<usize>
-    ensures { IfSome result (λ place. place < length waiting.now) }
+fn ready_place<W: Waits>(waiting: &[W]) -> Option<usize>
+    ensures { spec.IsFirst W.Tells true false waiting.now result }
 {
     waiting.iter().position(|it| it.is_ready())
 }
@@ -199,24 +231,30 @@ fn let_go_oldest_silent(waiting: &mut Vec<Waiting>) -> bool {
 }
 
 /// The place of the oldest one of which no byte came.
-fn silent_place(waiting: &[Waiting]) -> Option<usize>
-    ensures { IfSome result (λ place. place < length waiting.now) }
+fn silent_place<W: Waits>(waiting: &[W]) -> Option<usize>
+    ensures { spec.IsFirst W.Tells false true waiting.now result }
 {
     waiting.iter().position(|it| !it.is_ready())
 }
 
 /// Whether a call that failed so may be made again.
-pub(crate) fn is_passing(kind: ErrorKind) -> bool {
+pub(crate) fn is_passing(kind: ErrorKind) -> bool
+    ensures { result ≡ spec.is_passing kind }
+{
     matches!(kind, ErrorKind::WouldBlock | ErrorKind::Interrupted)
 }
 
 /// Whether a fault of accepting concerns one connection alone.
-fn is_of_one_connection(kind: ErrorKind) -> bool {
+fn is_of_one_connection(kind: ErrorKind) -> bool
+    ensures { result ≡ spec.is_of_one_connection kind }
+{
     matches!(kind, ErrorKind::ConnectionAborted | ErrorKind::Interrupted)
 }
 
 /// Whether a fault of accepting, by Linux's number of it, is want of what others may give back: of memory
 /// (`ENOMEM`, `ENOBUFS`), or of descriptors, in the system (`ENFILE`) or in this process (`EMFILE`).
-fn is_want(number: Option<i32>) -> bool {
+fn is_want(number: Option<i32>) -> bool
+    ensures { result ≡ spec.is_want number }
+{
     matches!(number, Some(12 | 23 | 24 | 105))
 }

@@ -1,6 +1,7 @@
 //! The rooms of a program's ports.
+ghost use Rattle.wires.specs.inner.Rooms as spec;
 
-use crate::room::{Next, Room};
+use crate::room::{Next, Room, Waits};
 use crate::turn::{Port, Turn};
 use std::cell::Cell;
 use std::time::Duration;
@@ -8,15 +9,27 @@ use std::time::Duration;
 /// The room of one port, or those of two. Where connections of both wait, they have their turns one by one, so
 /// neither port keeps the other waiting.
 #[derive(Drop)]
-pub struct Rooms<'l> {
-    public: Room<'l>,
-    office: Option<Room<'l>>,
+pub struct Rooms<R> {
+    public: R,
+    office: Option<R>,
     /// Whose turn was the last one.
     last: Cell<Port>,
 }
 
-impl<'l> Rooms<'l> {
-    pub fn of_one(public: Room<'l>) -> Rooms<'l> {
+impl<R: Waits> Rooms<R> {
+    /// Whether somebody's turn could come.
+    fn is_ready(&self) -> bool
+        ensures { spec.IsTold R.Tells self.now.public self.now.office result }
+    {
+        match &self.office {
+            Some(office) => self.public.is_ready() || office.is_ready(),
+            None => self.public.is_ready(),
+        }
+    }
+}
+
+impl<'l> Rooms<Room<'l>> {
+    pub fn of_one(public: Room<'l>) -> Rooms<Room<'l>> {
         Rooms {
             public,
             office: None,
@@ -24,7 +37,7 @@ impl<'l> Rooms<'l> {
         }
     }
 
-    pub fn of_two(public: Room<'l>, office: Room<'l>) -> Rooms<'l> {
+    pub fn of_two(public: Room<'l>, office: Room<'l>) -> Rooms<Room<'l>> {
         Rooms {
             public,
             office: Some(office),
@@ -54,11 +67,11 @@ impl<'l> Rooms<'l> {
 
     /// Lets in who came, and says whether somebody's turn could come.
     pub(crate) fn is_awaited(&self, now: Duration) -> bool {
-        let is_awaited = self.public.is_awaited(now);
-        match &self.office {
-            Some(office) => office.is_awaited(now) || is_awaited,
-            None => is_awaited,
+        self.public.let_in(now);
+        if let Some(office) = &self.office {
+            office.let_in(now);
         }
+        self.is_ready()
     }
 
     /// How many wait.

@@ -3,7 +3,7 @@
 use crate::limits::Limits;
 use crate::log::Log;
 use crate::progress::{Given, Progress};
-use crate::room::is_passing;
+use crate::room::{Room, is_passing};
 use crate::rooms::Rooms;
 use crate::turn::{Port, Turn};
 use std::cell::Cell;
@@ -18,15 +18,13 @@ const TICK: u64 = 250;
 pub struct Wire<'w, M: time::Clock + Print> {
     stream: &'w TcpStream,
     machine: &'w M,
-    rooms: &'w Rooms<'w>,
+    rooms: &'w Rooms<Room<'w>>,
     limits: &'w Limits,
     log: &'w Log<'w, M>,
     progress: Cell<Progress>,
     /// Whether another connection waits, and when that was looked at.
     is_awaited: Cell<bool>,
     looked: Cell<Duration>,
-    /// Whether it took longer than it may.
-    is_late: Cell<bool>,
 }
 
 impl<M: time::Clock + Print> Drop for Wire<'_, M> {
@@ -40,7 +38,6 @@ impl<M: time::Clock + Print> Drop for Wire<'_, M> {
             progress: _,
             is_awaited: _,
             looked: _,
-            is_late: _,
         } = self;
     }
 }
@@ -50,7 +47,7 @@ impl<'w, M: time::Clock + Print> Wire<'w, M> {
     /// waited for.
     pub fn new(
         machine: &'w M,
-        rooms: &'w Rooms<'w>,
+        rooms: &'w Rooms<Room<'w>>,
         limits: &'w Limits,
         log: &'w Log<'w, M>,
         turn: &'w Turn,
@@ -68,7 +65,6 @@ impl<'w, M: time::Clock + Print> Wire<'w, M> {
             progress: Cell::new(Progress::begun(now, turn.port == Port::Office)),
             is_awaited: Cell::new(false),
             looked: Cell::new(Duration::ZERO),
-            is_late: Cell::new(false),
         })
     }
 
@@ -81,7 +77,7 @@ impl<'w, M: time::Clock + Print> Wire<'w, M> {
 
     /// Whether the connection took longer than it may.
     pub fn is_late(&self) -> bool {
-        self.is_late.get()
+        self.progress.get().is_late()
     }
 
     /// The clock's time, if the connection may go on then.
@@ -91,13 +87,10 @@ impl<'w, M: time::Clock + Print> Wire<'w, M> {
             self.looked.set(now);
             self.is_awaited.set(self.rooms.is_awaited(now));
         }
-        if self.is_late.get()
-            || self
-                .progress
-                .get()
-                .is_late(self.limits, self.is_awaited.get(), now)
-        {
-            self.is_late.set(true);
+        let mut progress = self.progress.get();
+        progress.look(self.limits, self.is_awaited.get(), now);
+        self.progress.set(progress);
+        if progress.is_late() {
             return Err(io::Error::from(ErrorKind::TimedOut));
         }
         Ok(now)

@@ -12,7 +12,7 @@ use Rattle.sqltables.specs.inner.Content.{lines_to}
 use Rattle.sqltables.specs.Line.{lines}
 use Rattle.states.specs.declared.fault.BookFault.{BookFault}
 use Rattle.states.specs.declared.readiness.Ready.TheVariants.{Used}
-use Rattle.states.specs.States.{Closes, Has, Keeps, LeavesSame, Reads, Remains, Starts, StateOf, holding}
+use Rattle.states.specs.States.{Closes, Has, Keeps, Reads, Remains, Starts, StateOf, Stays, holding}
 use Rattle.takeover.specs.declared.migrating.MigrateFault.{MigrateFault}
 use Rattle.takeover.specs.declared.migrating.MigrateFault.TheVariants.{Policy, Schema, Memory, Store}
 use Rattle.sqlbook.specs.Meaning.{are_right, stored_of}
@@ -36,10 +36,8 @@ put_lines days from = lines_to (put_all lines.key (ended days from.lines))
 -- in the open transaction a registry was taken over
 pub record IsTakenOver (p : PolicyRules) (from read : OldState) (to written : StateOf Content) : Type 0 where
   pub asked : IsAsked from read
-  pub clean : written.is_clean ≡ true → to.is_clean ≡ true
-  pub before : written.is_clean ≡ true → written.before ≡ to.before
+  pub stays : Stays to written
   pub opened : written.is_open ≡ true
-  pub leaves : LeavesSame to written
   pub fits : read.is_clean ≡ true → written.is_clean ≡ true
       → suits p (stored_of from.content) ≡ true
   pub stored : read.is_clean ≡ true → written.is_clean ≡ true
@@ -52,9 +50,7 @@ pub record IsTakenOver (p : PolicyRules) (from read : OldState) (to written : St
 -- in the open transaction it was seen that the policy doesn't suit
 pub record IsRefused (p : PolicyRules) (from read : OldState) (to written : StateOf Content) : Type 0 where
   pub asked : IsAsked from read
-  pub clean : written.is_clean ≡ true → to.is_clean ≡ true
-  pub before : written.is_clean ≡ true → written.before ≡ to.before
-  pub leaves : LeavesSame to written
+  pub stays : Stays to written
   pub differs : read.is_clean ≡ true → written.is_clean ≡ true
       → suits p (stored_of from.content) ≡ false
 

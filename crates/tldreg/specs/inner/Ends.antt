@@ -1,5 +1,5 @@
 -- How the program ends, by what its calls answered.
-use Rattle.std.specs.Prelude.{◌≡◌, ℕ, true, List, Option, Result, Ok, Err, OnOk, OnErr, IfOk, IfErr, ⊤, string_bytes}
+use Rattle.std.specs.Prelude.{◌≡◌, ℕ, Bool, true, not, nat_eq, bit_and, List, Option, Result, Ok, Err, OnOk, OnErr, IfOk, IfErr, ⊤, string_bytes}
 use Rattle.std.specs.Io.KnownBytes.{Appends}
 use Rattle.books.specs.Book.{BookState}
 use Rattle.operator.specs.declared.token.TokenFault.{TokenFault}
@@ -87,3 +87,7 @@ abbrev pub token_end : TokenFault → End
 token_end faults.Short = ends.Token unfit.Short
 token_end faults.Byte = ends.Token unfit.Form
 token_end faults.Memory = ends.Exit exits.Memory
+
+-- a file's mode (stat(2)) gives some right to its group or to others: its last six bits
+abbrev pub is_open : ℕ → Bool
+is_open mode = not (nat_eq (bit_and mode 63) 0)

@@ -11,10 +11,12 @@ reads-preserved g c =
     let before = c.reads.invariant in
     elim c.match-read.branch [
       | in-Ok w ↦ record {
+        room = search rules;
         within = search rules;
         taken = rw w.count-is (reads_on _ _ _ _ _ _ _ _ before.within w.in-Ok.ensures.bound.0 before.taken w.in-Ok.ensures.bytes.0);
       }
       | in-Err w ↦ record {
+        room = search rules;
         within = search rules;
         taken = rw w.count-is (subst (Consumes _ _) (sym (take-put_mid_below _ _ _ _ _ (le_refl _) before.within)) (Consumes-kept _ _ _ _ before.taken w.in-Err.ensures.bytes));
       }

@@ -9,4 +9,4 @@ pub returns-in-Some-clause-does : goal.returns-in-Some-clause-does
 returns-in-Some-clause-does g c =
     let sent = subst (λ (body : List ℕ). IsSent (response outcomes.Done kinds.Csv body) (g.W.Write.contents c.args.writer.now) (g.W.Write.contents c.send.new.writer) c.send.result)
     c.as_bytes.ensures.value c.send.ensures in
-    (c.moment-moment.result, c.moment-moment.ensures, c.statement_at.ensures.passes, inl (string_bytes c.in-Some.text, c.in-Some.ensures.told, sent))
+    (c.moment-moment.result, c.moment-moment.ensures, c.statement_at.ensures.passes, inl (string_bytes c.in-Some.text, c.in-Some.ensures.text, sent))
