@@ -34,11 +34,11 @@ abbrev pub sponsor_of_host : ZoneRules → Registry → List ℕ → Host → Op
 sponsor_of_host zone s name h = host_sponsor zone (host_known s false name) h
 
 -- a host, as its info shows it to everyone
-abbrev pub host_face_told : PolicyRules → Registry → Bool → List ℕ → Host → HostFace
-host_face_told p s linked name h = (host_info p (host_known s linked name) h).face
+abbrev pub host_face_shown : PolicyRules → Registry → Bool → List ℕ → Host → HostFace
+host_face_shown p s linked name h = (host_info p (host_known s linked name) h).face
 
 abbrev pub host_face : PolicyRules → Registry → List ℕ → Host → HostFace
-host_face p s name h = host_face_told p s (is_linked_host s name) name h
+host_face p s name h = host_face_shown p s (is_linked_host s name) name h
 
 -- ---- the face under a name
 

@@ -93,7 +93,7 @@ fn face_of_host<R: Records>(
     linked: bool,
     policy: &Policy,
 ) -> Result<HostFace, BookFault>
-    ensures { Finds result (spec.host_face_told policy.now (R.kept records.old).content.registry
+    ensures { Finds result (spec.host_face_shown policy.now (R.kept records.old).content.registry
         linked name.now host.now) (R.kept records.old) (R.kept records.new) }
 {
     let sponsor = match sponsor_of_host(records, name, host, policy.zone())? {

@@ -45,8 +45,8 @@ LeavesWhatItWould =
     → now p (effect p r c s) ≡ now p (effect p r c (now p s))
 
 -- what an info of an object concerns decides what is under its name
-abbrev pub StandsAsNow : Type 0
-StandsAsNow =
+abbrev pub IsThereAsNow : Type 0
+IsThereAsNow =
     (p : PolicyRules) (kind : ObjectKind) (name : List ℕ) (s : Registry)
     → IsSettledIn p (concerned None (named_of kind name) s) s
     → object_at (now p s) kind name ≡ object_at s kind name

@@ -16,7 +16,7 @@ pub fn commands_are_answered_as_now()
 
 /// The same of the operator's orders, by what an info of their object concerns.
 pub fn orders_are_carried_out_as_now()
-    ensures left { spec.StandsAsNow }
+    ensures left { spec.IsThereAsNow }
     ensures ordered { spec.IsOrderedAsNow }
     ensures deposits { spec.DepositsAnywhere }
 {}

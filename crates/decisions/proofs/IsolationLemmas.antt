@@ -32,8 +32,8 @@ effect-is-now p sound r c moment s formed = settled-is-now p (effect p r c (laps
 
 pub isolated : (p : PolicyRules) → IsSound p → (r : ℕ) (c : Command) (moment : ℕ) → moment ≤ last_clock → (before after : Registry) (reply : Reply)
     → reply ≡ answer p r c (lapsed p moment before) → now p after ≡ now p (effect p r c (lapsed p moment before)) → IsIsolated p r c moment before after reply
-isolated p sound r c moment early before after reply told left = record {
-  same_reply = λ other alike. told ∙ sym (same_answer p r c _ _ alike);
+isolated p sound r c moment early before after reply post left = record {
+  same_reply = λ other alike. post ∙ sym (same_answer p r c _ _ alike);
   same_view = λ meets other also alike. ap (view p r) (left ∙ effect-is-now p sound r c moment before meets)
       ∙ sym (same_effect p sound r c (lapsed p moment other) (lapsed p moment before) also meets alike)
       ∙ sym (ap (view p r) (effect-is-now p sound r c moment other also));

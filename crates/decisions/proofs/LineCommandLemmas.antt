@@ -17,7 +17,7 @@ use Rattle.objects.specs.declared.roid.ObjectKind.TheVariants as kinds
 use Rattle.protocol.specs.declared.command.Request.TheVariants as requests
 use Rattle.decisions.proofs.CreationLemmas.{has-given, kept-counted, ungiven}
 use Rattle.decisions.proofs.LineKeepingLemmas.{AllFitLines, IsAsBefore, IsChargeIn, IsCharged, as-before, begun-by, lines-changed_all, lines-counted, lines-stay, on-as-before, on-same, rises}
-use Rattle.decisions.proofs.LineTransferLemmas.{asked-kept, lines-ended, lines-handed-over, told}
+use Rattle.decisions.proofs.LineTransferLemmas.{asked-kept, lines-ended, lines-handed-over, post}
 
 -- ---- a charge for a domain that is the registrar's own
 
@@ -177,12 +177,12 @@ module _ (p : PolicyRules) (r : ℕ) (cl_trid : Option (List ℕ)) (s : Registry
     contact_approved = λ q n c at y last. inl (tt, (tt, tt));
     contact_rejected = λ q n c at y last. inl (tt, (tt, tt));
     contact_cancelled = λ q n c at y last. inl (tt, (tt, tt));
-    domain_asked = λ q n d at askable paid. inr (told p d.sponsor _ _ (asked-kept p sound r s early objects has-counted q (known p r cl_trid s q) n d at askable));
+    domain_asked = λ q n d at askable paid. inr (post p d.sponsor _ _ (asked-kept p sound r s early objects has-counted q (known p r cl_trid s q) n d at askable));
     domain_approved = λ q n d at y last pending own.
-        inr (told p y.requester _ _ (lines-handed-over p counted objects has-counted n d at (ended ClientApproved s.clock y) y last pending refl refl refl (d.years + gained d s.clock) (gained d s.clock)));
-    domain_rejected = λ q n d at y last pending. inr (told p y.requester _ _ (lines-ended p counted objects has-counted n d at (ended ClientRejected s.clock y) y last pending refl refl s.clock (omega arith)));
+        inr (post p y.requester _ _ (lines-handed-over p counted objects has-counted n d at (ended ClientApproved s.clock y) y last pending refl refl refl (d.years + gained d s.clock) (gained d s.clock)));
+    domain_rejected = λ q n d at y last pending. inr (post p y.requester _ _ (lines-ended p counted objects has-counted n d at (ended ClientRejected s.clock y) y last pending refl refl s.clock (omega arith)));
     domain_cancelled = λ q n d at y last pending.
-        inr (told p y.losing_registrar _ _ (lines-ended p counted objects has-counted n d at (ended ClientCancelled s.clock y) y last pending refl refl s.clock (omega arith)));
+        inr (post p y.losing_registrar _ _ (lines-ended p counted objects has-counted n d at (ended ClientCancelled s.clock y) y last pending refl refl s.clock (omega arith)));
   }
 
   -- together with the count of the command

@@ -239,8 +239,8 @@ module _ (p : PolicyRules) (s : Registry) (objects : HasObjects p s) (has : HasL
           (λ l. refund-line (waits d.roid l) p (left ended refl x.requester refunded) moment come l) ls all) ended-on
 
 -- a message changes no line
-pub told : (p : PolicyRules) (q : ℕ) (n : Notification) (s : Registry) → HasLines p s → HasLines p (with_account q (notified n) s)
-told p q n s has = lines-counted p s q (notified n) (λ a. refl) (λ a. omega arith) has
+pub post : (p : PolicyRules) (q : ℕ) (n : Notification) (s : Registry) → HasLines p s → HasLines p (with_account q (notified n) s)
+post p q n s has = lines-counted p s q (notified n) (λ a. refl) (λ a. omega arith) has
 
 -- ---- a domain that can be asked for
 

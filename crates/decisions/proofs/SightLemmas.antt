@@ -78,8 +78,8 @@ shown-deleted d = has_status-filter (shows d) statuses.PendingDelete
 pub superordinate-seen : (r : ℕ) (presented : Option (List ℕ)) (standing : Standing) (d : Domain) → superordinate_seen (domain_as r presented standing d) ≡ superordinate_of_domain d
 unfolding superordinate_seen
 superordinate-seen r presented standing d =
-    let told : (b : Bool) → b ≡ is_some d.deletion → ◌≡◌ {A = Superordinate} (record { sponsor = d.sponsor; is_deleted = b }) (superordinate_of_domain d) = λ b e. ap (λ (b : Bool). record (superordinate_of_domain d) { is_deleted = b }) e in
-    same_shown superordinate_seen (superordinate_of_domain d) r (full_as standing d) (face_of standing d) refl (λ t. told _ (shown-deleted d)) (told _ (shown-deleted d))
+    let post : (b : Bool) → b ≡ is_some d.deletion → ◌≡◌ {A = Superordinate} (record { sponsor = d.sponsor; is_deleted = b }) (superordinate_of_domain d) = λ b e. ap (λ (b : Bool). record (superordinate_of_domain d) { is_deleted = b }) e in
+    same_shown superordinate_seen (superordinate_of_domain d) r (full_as standing d) (face_of standing d) refl (λ t. post _ (shown-deleted d)) (post _ (shown-deleted d))
     (is_party r d.sponsor d.transfer || authorizes presented d.secret) d.transfer
 
 -- the registrar holds what it sees, or gets it

@@ -103,8 +103,8 @@ fn contact_transferred(
     };
     let name = contact.name.clone()?;
     let contact = contact_after(op, after, contact)?;
-    let told = tell(registrar, moment, notice, name, Subject::Contact);
-    two(alloc, Change::PutContact(contact), told)
+    let post = tell(registrar, moment, notice, name, Subject::Contact);
+    two(alloc, Change::PutContact(contact), post)
 }
 
 fn contact_after(op: TransferOp, after: Transfer, contact: &Contact) -> Result<Contact, AllocError>
@@ -217,14 +217,14 @@ fn domain_requested(
     let name = domain.name.clone()?;
     let put = with_transfer(after, domain.clone()?);
     let charge = Change::Post(caller, AccountChange::Charge(line));
-    let told = tell(
+    let post = tell(
         sponsor,
         moment,
         CommandNotice::TransferRequested,
         name,
         Subject::Domain,
     );
-    three(alloc, put, charge, told)
+    three(alloc, put, charge, post)
 }
 
 /// The sponsor lets the domain go. Its subordinate hosts have its sponsor.
@@ -251,14 +251,14 @@ fn domain_approved(
     let domain = domain.clone()?;
     let begun = Change::Post(requester, AccountChange::Lapse(LapseEntry::Start(start)));
     let put = Change::PutDomain(hand_over(domain, after));
-    let told = tell(
+    let post = tell(
         requester,
         moment,
         CommandNotice::TransferApproved,
         name,
         Subject::Domain,
     );
-    three(alloc, begun, put, told)
+    three(alloc, begun, put, post)
 }
 
 /// The domain stays, its requester gets its charge back, and a registrar gets a message.
@@ -280,8 +280,8 @@ fn domain_kept(
     let name = domain.name.clone()?;
     let put = with_transfer(after, domain.clone()?);
     let back = give_back(requester, roid, moment);
-    let told = tell(registrar, moment, notice, name, Subject::Domain);
-    three(alloc, put, back, told)
+    let post = tell(registrar, moment, notice, name, Subject::Domain);
+    three(alloc, put, back, post)
 }
 
 /// A registrar gets the charge of a transfer back.

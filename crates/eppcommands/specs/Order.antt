@@ -25,21 +25,21 @@ use Rattle.eppforms.specs.Table.{object_named}
 use Rattle.eppcommands.specs.Reading.{required, items_in, text_at}
 
 -- the status that a text names
-abbrev pub status_told : Data → Option the_status.Status
-status_told d = option_and_then status_named (as_str d)
+abbrev pub status_given : Data → Option the_status.Status
+status_given d = option_and_then status_named (as_str d)
 
 abbrev with_status : Option the_status.Status → List the_status.Status → List the_status.Status
 with_status None statuses = statuses
 with_status (Some status) statuses = status ∷ statuses
 
 -- the statuses that texts name, in the order of the texts
-abbrev pub statuses_told : List Data → List the_status.Status
-statuses_told [] = []
-statuses_told (d ∷ ds) = with_status (status_told d) (statuses_told ds)
+abbrev pub statuses_given : List Data → List the_status.Status
+statuses_given [] = []
+statuses_given (d ∷ ds) = with_status (status_given d) (statuses_given ds)
 
 -- a text names no status
 abbrev pub any_unknown_status : List Data → Bool
-any_unknown_status ds = list_any (λ d. is_none (status_told d)) ds
+any_unknown_status ds = list_any (λ d. is_none (status_given d)) ds
 
 abbrev pub list_at : Member → Data → Result (List Data) FormFault
 list_at m d = required items_in (member_at m d)
@@ -66,7 +66,7 @@ status_order d = do
   name ← text_at Top members.Name d
   add ← list_at members.Add d
   rem ← list_at members.Rem d
-  Ok (Status (record { kind = kind; name = name; add = statuses_told add; rem = statuses_told rem; has_unknown_status = any_unknown_status add || any_unknown_status rem }))
+  Ok (Status (record { kind = kind; name = name; add = statuses_given add; rem = statuses_given rem; has_unknown_status = any_unknown_status add || any_unknown_status rem }))
 
 -- what a registrar paid
 unfoldable pub deposit_order : Data → Result the_order.Order FormFault
@@ -90,8 +90,8 @@ settle_order d = do
 
 -- an order to be carried out by the rules
 abbrev pub as_order : Result the_order.Order FormFault → Result OperatorRequest FormFault
-as_order told = do
-  order ← told
+as_order given = do
+  order ← given
   Ok (requests.Order order)
 
 -- what `order` says
@@ -102,8 +102,8 @@ order_said order d =
     else (if bytes_eq order (codes "settle") then settle_order d
     else Err UnknownCommand))
 
-unfoldable pub order_told : Data → Result OperatorRequest FormFault
-order_told d = do
+unfoldable pub order_given : Data → Result OperatorRequest FormFault
+order_given d = do
   order ← ok_or (word_at members.Order d) SyntaxError
   order_said order d
 
@@ -113,7 +113,7 @@ if_ok (Ok x) = Some x
 if_ok (Err code) = None
 
 abbrev pub order_of_data : Data → Option OperatorRequest
-order_of_data d = if_ok (order_told d)
+order_of_data d = if_ok (order_given d)
 
 abbrev pub order_in : List ℕ → Option OperatorRequest
 order_in payload = option_and_then order_of_data (if is_utf8 payload then read payload else None)

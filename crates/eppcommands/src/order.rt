@@ -32,7 +32,7 @@ pub fn order_of(alloc: Global, payload: &[u8]) -> Result<Option<OperatorRequest>
 fn order_of_value(alloc: Global, value: &Value) -> Result<Option<OperatorRequest>, AllocError>
     ensures { IfOk result (λ order. order ≡ spec.order_of_data (view value.now)) }
 {
-    match order_told(alloc, value) {
+    match order_given(alloc, value) {
         Ok(order) => Ok(Some(order)),
         Err(CommandFault::Refused(_)) => Ok(None),
         Err(CommandFault::Memory) => Err(AllocError),
@@ -40,9 +40,9 @@ fn order_of_value(alloc: Global, value: &Value) -> Result<Option<OperatorRequest
 }
 
 /// The order that `order` says.
-#[tactic(auto, unfolding(crate::specs::Order::order_told))]
-fn order_told(alloc: Global, value: &Value) -> Result<OperatorRequest, CommandFault>
-    ensures { Gives result (spec.order_told (view value.now)) }
+#[tactic(auto, unfolding(crate::specs::Order::order_given))]
+fn order_given(alloc: Global, value: &Value) -> Result<OperatorRequest, CommandFault>
+    ensures { Gives result (spec.order_given (view value.now)) }
 {
     let order = word(value, Member::Order).ok_or(FormFault::SyntaxError)?;
     order_said(alloc, order, value)
@@ -74,8 +74,8 @@ fn status_order(alloc: Global, value: &Value) -> Result<Order, CommandFault>
     Ok(Order::Status(StatusOrder {
         kind,
         name,
-        add: statuses_told(alloc, add)?,
-        rem: statuses_told(alloc, rem)?,
+        add: statuses_given(alloc, add)?,
+        rem: statuses_given(alloc, rem)?,
         has_unknown_status: any_unknown_status(add) || any_unknown_status(rem),
     }))
 }
@@ -149,8 +149,8 @@ fn list_at(at: Member, value: &Value) -> Result<&Vec<Value>, FormFault>
 }
 
 /// The status that a text names.
-fn status_told(value: &Value) -> Option<Status>
-    ensures { result ≡ spec.status_told (view value.now) }
+fn status_given(value: &Value) -> Option<Status>
+    ensures { result ≡ spec.status_given (view value.now) }
 {
     value.as_str().and_then(Status::named)
 }
@@ -164,18 +164,18 @@ fn any_unknown_status(items: &[Value]) -> bool
 }
 
 fn is_any_unknown_status(items: &[Value]) -> bool
-    ensures { result ≡ list_any (λ v. is_none (spec.status_told (view v))) items.now }
+    ensures { result ≡ list_any (λ v. is_none (spec.status_given (view v))) items.now }
 {
-    items.iter().any(|item| status_told(item).is_none())
+    items.iter().any(|item| status_given(item).is_none())
 }
 
 /// The statuses that texts name, in the order of the texts.
-fn statuses_told(alloc: Global, items: &[Value]) -> Result<Seq<Status>, AllocError>
-    ensures { IfOk result (λ statuses. statuses ≡ spec.statuses_told (map view items.now)) }
+fn statuses_given(alloc: Global, items: &[Value]) -> Result<Seq<Status>, AllocError>
+    ensures { IfOk result (λ statuses. statuses ≡ spec.statuses_given (map view items.now)) }
 {
     let mut statuses = Seq::new(alloc);
     for item in items {
-        if let Some(status) = status_told(item) {
+        if let Some(status) = status_given(item) {
             statuses.push(status)?;
         }
     }

@@ -374,17 +374,17 @@ fn transfer_value(alloc: Global, info: &TransferInfo) -> Result<Value, AllocErro
     object(alloc, members)
 }
 
-fn transferred_value(alloc: Global, told: &Transferred) -> Result<Value, AllocError>
-    ensures { IfOk result (λ v. view v ≡ spec.transferred_value told.now) }
+fn transferred_value(alloc: Global, transferred: &Transferred) -> Result<Value, AllocError>
+    ensures { IfOk result (λ v. view v ≡ spec.transferred_value transferred.now) }
 {
-    let info = &told.transfer;
+    let info = &transferred.transfer;
     let transfer = &info.transfer;
-    let charge = charge_item(alloc, told.charge)?;
+    let charge = charge_item(alloc, transferred.charge)?;
     let members = vec![in alloc;
         ("acDate", Item::Time(transfer.ac_date)),
         ("acID", Item::Text(&info.losing_registrar)),
         ("charge", charge),
-        ("name", Item::Text(&told.name)),
+        ("name", Item::Text(&transferred.name)),
         ("reDate", Item::Time(transfer.requested)),
         ("reID", Item::Text(&info.requester)),
         ("status", Item::Word(state_text(transfer.state))),

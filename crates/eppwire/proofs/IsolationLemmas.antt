@@ -14,7 +14,7 @@ use Rattle.decisions.specs.Steps.{answer}
 use Rattle.frames.specs.Outcomes.{Outcome, replied, ended, framed, has_frame, sent}
 use Rattle.books.specs.Book.{BookState}
 use Rattle.eppwire.specs.Answers.{AnswersSaid, Tells, greeting_outcome, is_last, reply_outcome}
-use Rattle.eppwire.specs.Isolation.{FramesAreIsolated, IsFixed, text_told, view_saying}
+use Rattle.eppwire.specs.Isolation.{FramesAreIsolated, IsFixed, text_sent, view_saying}
 
 framed_is : (text : List ℕ) (fits : Bool) → IsFixed (cond fits text closing_text) ⊎ (cond fits text closing_text ≡ text)
 framed_is text true = inr refl
@@ -35,7 +35,7 @@ same_text a b x e (inr is) = inr (is ∙ e)
 
 said_isolated : (p : PolicyRules) (r : ℕ) (said : InSession) (moment : ℕ) (old new : BookState) (outcome : Outcome) → AnswersSaid p r said moment old outcome new → new.is_clean ≡ true
     → (other : Registry) → view_saying p r said (lapsed p moment other) ≡ view_saying p r said (lapsed p moment old.content.registry)
-    → IsFixed (sent outcome) ⊎ (sent outcome ≡ text_told p r said (lapsed p moment other))
+    → IsFixed (sent outcome) ⊎ (sent outcome ≡ text_sent p r said (lapsed p moment other))
 said_isolated p r Hello moment old new outcome (inl gives) clean other same = inl (inl (ap sent gives.0))
 said_isolated p r Hello moment old new outcome (inr greeted) clean other same =
     let date : greeted.date ≡ (lapsed p moment other).clock = (greeted.step clean).dated ∙ sym (ap (λ (v : View). v.clock) same) in

@@ -24,9 +24,9 @@ abbrev pub IsFixed : List ℕ → Type 0
 IsFixed text = (text ≡ failed_text) ⊎ (text ≡ closing_text)
 
 -- what the rules answer in a registry to what a registrar says
-abbrev pub text_told : PolicyRules → ℕ → InSession → Registry → List ℕ
-text_told p r Hello s = greeting_text s.clock
-text_told p r (Ordinary c) s = reply_text (answer p r c s)
+abbrev pub text_sent : PolicyRules → ℕ → InSession → Registry → List ℕ
+text_sent p r Hello s = greeting_text s.clock
+text_sent p r (Ordinary c) s = reply_text (answer p r c s)
 
 -- what the registrar sees there with it
 abbrev pub view_saying : PolicyRules → ℕ → InSession → Registry → View
@@ -41,7 +41,7 @@ FramesAreIsolated =
     → AnswersRegistrar p r payload moment old outcome new → new.is_clean ≡ true → (other : Registry)
     → view_saying p r (in_session payload) (lapsed p moment other) ≡ view_saying p r (in_session payload) (lapsed p moment old.content.registry)
     → IsFixed (sent outcome)
-    ⊎ (sent outcome ≡ text_told p r (in_session payload) (lapsed p moment other))
+    ⊎ (sent outcome ≡ text_sent p r (in_session payload) (lapsed p moment other))
 
 -- ---- passwords
 

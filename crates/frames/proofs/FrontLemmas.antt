@@ -5,7 +5,7 @@ use Rattle.std.specs.Int.{w32, from_be_bytes}
 use Rattle.std.specs.Io.KnownBytes.{Consumes, IsAtEnd}
 use Rattle.std.proofs.lemmas.List.{take_at, drop_at, append-nil}
 use Rattle.std.proofs.lemmas.Bool.Decides.{nat_tests}
-use Rattle.frames.specs.Frames.{Ending, closed, cut, bad_length, Front, whole, over, total_of, front, Takes}
+use Rattle.frames.specs.Frames.{Ending, closed, cut, bad_length, Front, complete, over, total_of, front, Takes}
 
 abbrev chain : ℕ → ℕ → Front → Front
 chain len total it =
@@ -24,7 +24,7 @@ chain_cut : (len total : ℕ) (it : Front) → 4 ≤ len → 6 ≤ total → tot
 chain_cut len total it four lo hi short = grind (arith, nat_tests)
 
 pub front_whole : (header body rest : List ℕ) (total : ℕ) → length header ≡ 4 → total ≡ from_be_bytes w32 header → 6 ≤ total → total ≤ 65540 → length body + 4 ≡ total
-    → front (header ++ (body ++ rest)) ≡ whole body rest
+    → front (header ++ (body ++ rest)) ≡ complete body rest
 unfolding front
 front_whole header body rest total four is lo hi len =
     let input = header ++ (body ++ rest) in

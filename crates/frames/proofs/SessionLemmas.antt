@@ -78,8 +78,8 @@ takes_one : {S : Type 0} (turn : Turn) (turns : List Turn) (after : SessionState
     → (next : Option (List ℕ)) → Takes turn.payload (Some input) next
     → ((rest : List ℕ) (others : List (List ℕ)) → next ≡ Some rest → Splits rest others ending → Taken turns after others ending) → Taken (turn ∷ turns) after payloads ending
 takes_one turn turns after input payloads ending s None none more = absurd none
-takes_one turn turns after input payloads ending s (Some rest) whole more =
-    let b = begins input turn.payload rest payloads ending whole s in
+takes_one turn turns after input payloads ending s (Some rest) complete more =
+    let b = begins input turn.payload rest payloads ending complete s in
     let m = more rest b.more refl b.splits in
     (m.0, m.1, m.2, m.3, b.are ∙ ap (λ (x : List (List ℕ)). turn.payload ∷ x) m.4)
 

@@ -6,15 +6,15 @@ use Rattle.std.specs.Int.{w32, to_be_bytes}
 use Rattle.std.proofs.lemmas.Bool.{ltb-false}
 use Rattle.std.proofs.lemmas.List.{get_or-drop, get_or-take, get_or_past}
 use Rattle.std.proofs.lemmas.Nat.{be_bytes_4, from_be_bytes-to_be_bytes_4}
-use Rattle.frames.specs.Frames.{frame, IsPayload, Ending, closed, cut, bad_length, Front, whole, over, total_of, front, Splits, AreBytes, AreFrames, AreFramesInOneWay}
+use Rattle.frames.specs.Frames.{frame, IsPayload, Ending, closed, cut, bad_length, Front, complete, over, total_of, front, Splits, AreBytes, AreFrames, AreFramesInOneWay}
 use Rattle.frames.proofs.FrontLemmas.{front_whole}
 
-pub front_of_frame : (p rest : List ℕ) → IsPayload p → front (frame p ++ rest) ≡ whole p rest
+pub front_of_frame : (p rest : List ℕ) → IsPayload p → front (frame p ++ rest) ≡ complete p rest
 front_of_frame p rest fits =
     rw append_assoc (front_whole (to_be_bytes w32 (length p + 4)) p rest (length p + 4) refl (sym (from_be_bytes-to_be_bytes_4 (length p + 4) (omega arith))) (omega arith) (omega arith) refl)
 
 abbrev tail_of : Front → List ℕ
-tail_of (whole p rest) = rest
+tail_of (complete p rest) = rest
 tail_of (over e) = []
 
 -- ---- an input that begins with a whole frame
@@ -24,15 +24,15 @@ pub record StartsWith (p rest : List ℕ) (payloads : List (List ℕ)) (ending :
   pub are : payloads ≡ p ∷ more
   pub splits : Splits rest more ending
 
-pub begins : (input p rest : List ℕ) (payloads : List (List ℕ)) (ending : Ending) → front input ≡ whole p rest → Splits input payloads ending → StartsWith p rest payloads ending
+pub begins : (input p rest : List ℕ) (payloads : List (List ℕ)) (ending : Ending) → front input ≡ complete p rest → Splits input payloads ending → StartsWith p rest payloads ending
 begins input p rest [] ending e s =
     let none : front input ≡ over ending = ap front s.parts ∙ s.ends in
     absurd (cc)
 begins input p rest (q ∷ qs) ending e s =
     let t : List ℕ = flat_map frame qs ++ s.rest in
     let split : input ≡ frame q ++ t = s.parts ∙ append_assoc (frame q) (flat_map frame qs) s.rest in
-    let found : front input ≡ whole q t = ap front split ∙ front_of_frame q t s.each.0 in
-    let same : whole q t ≡ whole p rest = sym found ∙ e in
+    let found : front input ≡ complete q t = ap front split ∙ front_of_frame q t s.each.0 in
+    let same : complete q t ≡ complete p rest = sym found ∙ e in
     let head : q ≡ p = cc in
     let tail : t ≡ rest = ap tail_of same in
     record { more = qs; are = ap (λ (x : List ℕ). x ∷ qs) head; splits = record { rest = s.rest; parts = sym tail; each = s.each.1; ends = s.ends } }
@@ -47,14 +47,14 @@ none_left input d [] ending e s =
 none_left input d (q ∷ qs) ending e s =
     let t : List ℕ = flat_map frame qs ++ s.rest in
     let split : input ≡ frame q ++ t = s.parts ∙ append_assoc (frame q) (flat_map frame qs) s.rest in
-    let found : front input ≡ whole q t = ap front split ∙ front_of_frame q t s.each.0 in
+    let found : front input ≡ complete q t = ap front split ∙ front_of_frame q t s.each.0 in
     absurd (cc)
 
-abbrev IsWhole : ℕ → ℕ → Front → List ℕ → List ℕ → Type 0
-IsWhole len total it p rest = (6 ≤ total) × (total ≤ 65540) × (total ≤ len) × (it ≡ whole p rest)
+abbrev IsComplete : ℕ → ℕ → Front → List ℕ → List ℕ → Type 0
+IsComplete len total it p rest = (6 ≤ total) × (total ≤ 65540) × (total ≤ len) × (it ≡ complete p rest)
 
 chain_is : (len total : ℕ) (it : Front) (p rest : List ℕ) (a b c d f : Bool) → ltb total 6 ≡ c → ltb 65540 total ≡ d → ltb len total ≡ f
-    → cond a (over closed) (cond b (over cut) (cond (c || d) (over bad_length) (cond f (over cut) it))) ≡ whole p rest → IsWhole len total it p rest
+    → cond a (over closed) (cond b (over cut) (cond (c || d) (over bad_length) (cond f (over cut) it))) ≡ complete p rest → IsComplete len total it p rest
 chain_is len total it p rest true b c d f lo hi fits e = absurd cc
 chain_is len total it p rest false true c d f lo hi fits e = absurd cc
 chain_is len total it p rest false false true d f lo hi fits e = absurd cc
@@ -69,19 +69,19 @@ bytes_dropped : (n : ℕ) (input : List ℕ) → AreBytes input → AreBytes (dr
 bytes_dropped n input h i = rw get_or-drop (h (n + i))
 
 payload_of : Front → List ℕ
-payload_of (whole p rest) = p
+payload_of (complete p rest) = p
 payload_of (over e) = []
 
 rest_of : Front → List ℕ
-rest_of (whole p rest) = rest
+rest_of (complete p rest) = rest
 rest_of (over e) = []
 
-whole_is : (input p rest : List ℕ) → AreBytes input → front input ≡ whole p rest → (input ≡ frame p ++ rest) × IsPayload p × AreBytes rest
+whole_is : (input p rest : List ℕ) → AreBytes input → front input ≡ complete p rest → (input ≡ frame p ++ rest) × IsPayload p × AreBytes rest
 unfolding front payload_of rest_of
 whole_is input p rest bytes e =
     let total = total_of input in
     let body = drop 4 input in
-    let f = chain_is (length input) total (whole (take (total - 4) body) (drop (total - 4) body)) p rest _ _ _ _ _ refl refl refl e in
+    let f = chain_is (length input) total (complete (take (total - 4) body) (drop (total - 4) body)) p rest _ _ _ _ _ refl refl refl e in
     let p-is : take (total - 4) body ≡ p = ap payload_of f.3 in
     let rest-is : drop (total - 4) body ≡ rest = ap rest_of f.3 in
     let len : length p + 4 ≡ total = omega (arith, ap length p-is, length-take (total - 4) body, length-drop 4 input) in
@@ -102,7 +102,7 @@ add_frame input p rest e fits (ps, d, s) =
 module _ (input : List ℕ) (bytes : AreBytes input) (rest_splits : (rest : List ℕ) → length rest < length input → AreBytes rest → HasSplit rest) where
   split_by : (f : Front) → front input ≡ f → HasSplit input
   split_by (over d) e = ([], d, record { rest = input; parts = refl; each = tt; ends = e })
-  split_by (whole p rest) e =
+  split_by (complete p rest) e =
       let w = whole_is input p rest bytes e in
       let shorter : length rest < length input = omega (arith, ap length w.0, length-append (frame p) rest, length-append (to_be_bytes w32 (length p + 4)) p) in
       add_frame input p rest w.0 w.1 (rest_splits rest shorter w.2)
@@ -120,7 +120,7 @@ splits_once [] qs input d e s t =
     (sym n.0, sym n.1)
 splits_once (p ∷ ps) qs input d e s t =
     let tail : List ℕ = flat_map frame ps ++ s.rest in
-    let found : front input ≡ whole p tail = ap front (s.parts ∙ append_assoc (frame p) (flat_map frame ps) s.rest) ∙ front_of_frame p tail s.each.0 in
+    let found : front input ≡ complete p tail = ap front (s.parts ∙ append_assoc (frame p) (flat_map frame ps) s.rest) ∙ front_of_frame p tail s.each.0 in
     let b = begins input p tail qs e found t in
     let here : Splits tail ps d = record { rest = s.rest; parts = refl; each = s.each.1; ends = s.ends } in
     let more = splits_once ps b.more tail d e here b.splits in

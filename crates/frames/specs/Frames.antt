@@ -21,7 +21,7 @@ pub data Ending : Type 0 where
 
 -- what an input begins with: a frame's payload and the rest after it, or no whole frame
 pub data Front : Type 0 where
-  whole : List ℕ → List ℕ → Front
+  complete : List ℕ → List ℕ → Front
   over : Ending → Front
 
 -- the total length that the first four bytes tell
@@ -34,7 +34,7 @@ front input =
     (if nat_lt (length input) 4 then over cut else
     (if nat_lt (total_of input) 6 || nat_lt 65540 (total_of input) then over bad_length else
     (if nat_lt (length input) (total_of input) then over cut else
-    whole (take (total_of input - 4) (drop 4 input)) (drop (total_of input - 4) (drop 4 input)))))
+    complete (take (total_of input - 4) (drop 4 input)) (drop (total_of input - 4) (drop 4 input)))))
 
 -- the input is the frames of these payloads, and then nothing, a cut frame, or a bad length and any rest
 pub record Splits (input : List ℕ) (payloads : List (List ℕ)) (ending : Ending) : Type 0 where
@@ -47,7 +47,7 @@ pub record Splits (input : List ℕ) (payloads : List (List ℕ)) (ending : Endi
 abbrev pub Takes : List ℕ → Option (List ℕ) → Option (List ℕ) → Type 0
 Takes payload None new = ⊤
 Takes payload (Some input) None = ⊥
-Takes payload (Some input) (Some rest) = front input ≡ whole payload rest
+Takes payload (Some input) (Some rest) = front input ≡ complete payload rest
 
 -- what a reader with these bytes left gives, where the buffer then begins with `bytes`
 abbrev pub Receives : Received → List ℕ → Option (List ℕ) → Option (List ℕ) → Type 0

@@ -39,7 +39,7 @@ use Rattle.decisions.proofs.AcceptedLemmas.{carried-out}
 use Rattle.rules.proofs.RowLemmas.{refusing}
 use Rattle.rules.specs.Rules.{refusal_of}
 use Rattle.rules.specs.Verdicts.{granted, judged, unless_refused}
-use Rattle.isolation.specs.Alike.{Hidden, IsAlike, Pair, PresentsNone, code_told, deposits, first, hidden, puts, same, second, touched_by, with_hidden}
+use Rattle.isolation.specs.Alike.{Hidden, IsAlike, Pair, PresentsNone, code_given, deposits, first, hidden, puts, same, second, touched_by, with_hidden}
 use Rattle.isolation.specs.Redaction.{Objects, AreOne, is_redacted, redacted, redacted_contact, redacted_domain}
 use Rattle.isolation.specs.Runs.{answer_to, command, date, dated, effect_of, inspection, is_asked_by, look_up, order, reply, shown}
 use Rattle.isolation.proofs.ChangeLemmas.{AreAlikeChanges, IsAlikeChange, changed-alike, deposited-alike, give-alike, put-contact-alike, put-domain-alike, same-change, same-changes}
@@ -224,7 +224,7 @@ module _ (p : PolicyRules) (r : ℕ) (touched : Objects) (s t : Registry) (one :
   same-reply : (q : ℕ) (c : Command) → q ≡ r → answer p r c s ≡ answer p r c t → answer p q c s ≡ answer p q c t
   same-reply q c e answer_is = subst (λ (n : ℕ). answer p n c s ≡ answer p n c t) (sym e) answer_is
 
-  codes-of : (q : ℕ) (c d : Command) → code_told (answer_to p (command q c) s) ≡ code_told (answer_to p (command q d) t) → (answer p q c s).code ≡ (answer p q d t).code
+  codes-of : (q : ℕ) (c d : Command) → code_given (answer_to p (command q c) s) ≡ code_given (answer_to p (command q d) t) → (answer p q c s).code ≡ (answer p q d t).code
   codes-of q c d e = same_Some _ _ e
 
   by-caller : (q : ℕ) (c : Command) (b : Bool) → (q == r) ≡ b → IsAlike p r touched (same (command q c)) s t

@@ -120,12 +120,12 @@ touched_by p (deposits registrar cents other) s touched = touched
 
 -- ---- what is asked of the questions of a pair
 
-abbrev pub code_told : Answer → Option Code
-code_told (reply a) = Some a.code
-code_told (code a) = Some a
-code_told (dated t) = None
-code_told (shown part) = None
-code_told (inspected s) = None
+abbrev pub code_given : Answer → Option Code
+code_given (reply a) = Some a.code
+code_given (code a) = Some a
+code_given (dated t) = None
+code_given (shown part) = None
+code_given (inspected s) = None
 
 -- it presents no right secret of an object that is touched
 pub record PresentsNone (touched : Objects) (c : Command) (s : Registry) : Type 0 where
@@ -146,7 +146,7 @@ PresentsNoneFor r touched inspection s = Unit {0}
 pub record IsAlike (p : PolicyRules) (r : ℕ) (touched : Objects) (pair : Pair) (s t : Registry) : Type 0 where
   pub elsewhere : DiffersElsewhere p r pair
   pub codes : is_asked_by r (first pair) ≡ false
-      → code_told (answer_to p (first pair) s) ≡ code_told (answer_to p (second pair) t)
+      → code_given (answer_to p (first pair) s) ≡ code_given (answer_to p (second pair) t)
   pub presents : PresentsNoneFor r touched (first pair) s
   pub presents_too : PresentsNoneFor r touched (second pair) t
 

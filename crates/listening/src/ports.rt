@@ -119,7 +119,7 @@ fn serve_office<M: time::Clock + Print + Files, B: Book + Drop>(
     };
     let (mut reader, mut writer) = (WireReader(&wire), WireWriter(&wire));
     let mut clock = MachineClock::new(machine);
-    let told = Told {
+    let figures = LiveFigures {
         machine,
         log,
         rooms,
@@ -129,7 +129,7 @@ fn serve_office<M: time::Clock + Print + Files, B: Book + Drop>(
     let end = serve_request(
         alloc,
         office.credentials,
-        &told,
+        &figures,
         &mut reader,
         &mut writer,
         &mut clock,
@@ -142,14 +142,14 @@ fn serve_office<M: time::Clock + Print + Files, B: Book + Drop>(
 
 /// The figures of the program.
 #[derive(Drop)]
-struct Told<'t, M: time::Clock + Print + Files> {
+struct LiveFigures<'t, M: time::Clock + Print + Files> {
     machine: &'t M,
     log: &'t Log<'t, M>,
     rooms: &'t Rooms<Room<'t>>,
     log_file: Option<&'t str>,
 }
 
-impl<M: time::Clock + Print + Files> Figures for Told<'_, M> {
+impl<M: time::Clock + Print + Files> Figures for LiveFigures<'_, M> {
     fn write(&self, alloc: Global, text: &mut String) -> Result<(), AllocError> {
         let log_bytes = length_of(self.machine, self.log_file);
         write_figures(alloc, self.log, self.rooms, log_bytes, text)

@@ -114,9 +114,9 @@ shown s found is_there is not trees same = record {
 }
 
 -- what always holds of the rows
-pub whole_of : (s : State) (is_there : Bool) → Fits is_there s → (s.is_clean && s.is_open) ≡ true → IsOldContent (rows_in is_there s.now.trees)
-whole_of s true fits e =
+pub consistent_of : (s : State) (is_there : Bool) → Fits is_there s → (s.is_clean && s.is_open) ≡ true → IsOldContent (rows_in is_there s.now.trees)
+consistent_of s true fits e =
     let p = and_parts s.is_clean s.is_open e in
     let it = fits (honest s p.0) p.1 refl in
     record { keyed = record { metas = it.holds.metas.keyed; accounts = it.holds.accounts.keyed; contacts = it.holds.contacts.keyed; domains = it.holds.domains.keyed; hosts = it.holds.hosts.keyed; addresses = it.holds.addresses.keyed; links = it.holds.links.keyed; lines = it.holds.lines.keyed; messages = it.holds.messages.keyed; transfers = it.holds.transfers.keyed; days = tt }; days = refl }
-whole_of s false fits e = record { keyed = record { metas = tt; accounts = tt; contacts = tt; domains = tt; hosts = tt; addresses = tt; links = tt; lines = tt; messages = tt; transfers = tt; days = tt }; days = refl }
+consistent_of s false fits e = record { keyed = record { metas = tt; accounts = tt; contacts = tt; domains = tt; hosts = tt; addresses = tt; links = tt; lines = tt; messages = tt; transfers = tt; days = tt }; days = refl }

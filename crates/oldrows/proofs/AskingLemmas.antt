@@ -12,7 +12,7 @@ use Rattle.sqlite.specs.Given.{IsPlain}
 use Rattle.sqlite.specs.Listing.{understood}
 use Rattle.sqlite.specs.State.{CommitsShowing, State, FailsToQuery, HasCleanDisk, IsUnchanged, Shown, Survives}
 use Rattle.sqlite.proofs.Callers.{reads_as}
-use Rattle.sqlrows.specs.inner.Calls.{Stands}
+use Rattle.sqlrows.specs.inner.Calls.{StaysOrUndoes}
 use Rattle.sqlrows.proofs.SelectLemmas.{same_command}
 use Rattle.sqlrows.proofs.SoundLemmas.{not_queried_open, queried_open, was_open}
 use Rattle.sqlrows.proofs.StandLemmas.{commits_nothing, same_if_shown, stands_if_not_shown}
@@ -31,7 +31,7 @@ record IsSame (old new : State) : Type 0 where
   pub mode : new.in_transaction ≡ false
   pub settled : new.now ≡ new.committed
 
-same-after : (old new : State) → Agrees old → IsTrue new.is_open → Stands old new → IsSame old new
+same-after : (old new : State) → Agrees old → IsTrue new.is_open → StaysOrUndoes old new → IsSame old new
 same-after old new it opened (inl same) = record {
   db = same.0.now_is;
   mode = same.0.mode ∙ it.mode;
@@ -57,7 +57,7 @@ same-rows false old new same = refl
 
 -- ---- a text is made ready
 
-module _ (is_there : Bool) (old new : State) (survives : Survives old new (λ _. ⊥)) (fits : Fits is_there old) (stood : HasCleanDisk new → Stands old new) where
+module _ (is_there : Bool) (old new : State) (survives : Survives old new (λ _. ⊥)) (fits : Fits is_there old) (stood : HasCleanDisk new → StaysOrUndoes old new) where
   looked : HasCleanDisk new → IsTrue new.is_open → is_there ≡ true → Agrees old × IsSame old new
   looked clean opened there =
       let it = fits (was-honest old new (λ _. ⊥) survives clean) (was_open old new (stood clean) opened) there in

@@ -131,7 +131,7 @@ impl<S: Alter> OldRows<S> {
     }
 
     /// Does nothing. It tells a proof what always holds of the rows.
-    pub fn show_whole(&self)
+    pub fn show_consistent(&self)
         ensures { self.now.is_clean ≡ true → IsOldContent self.now.content }
     {
         let _alloc = self.alloc;

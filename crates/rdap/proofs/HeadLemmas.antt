@@ -30,11 +30,11 @@ never_cut bytes front same long none more h (rest, reads, few) =
 -- what is cut within the limit of bytes
 pub is_cut : (bytes front : List ℕ) → front ≡ take most_bytes bytes → length bytes < most_bytes → HasNoRequest front → MayBecomeRequest front → IsCut bytes
 is_cut bytes front same short none more =
-    let whole : front ≡ bytes = same ∙ take_all most_bytes bytes (omega (arith, short)) in
+    let fixed_route : front ≡ bytes = same ∙ take_all most_bytes bytes (omega (arith, short)) in
     record {
       short = short;
-      no_head = subst (λ (b : List ℕ). HasNoRequest b) whole none;
-      unfinished = subst (λ (b : List ℕ). MayBecomeRequest b) whole more;
+      no_head = subst (λ (b : List ℕ). HasNoRequest b) fixed_route none;
+      unfinished = subst (λ (b : List ℕ). MayBecomeRequest b) fixed_route more;
     }
 
 -- what is cut has no head

@@ -17,7 +17,7 @@ use Rattle.matchit.specs.Seek as seeks
 use Rattle.matchit.specs.Seek.{first, or_else, own, param_step, seek, step}
 use Rattle.rdap.proofs.RequestLemmas.{plain_is_text}
 use Rattle.rdap.specs.Requests.{has_slash, is_segment, name_in, request_at, segment}
-use Rattle.rdap.specs.Routes.{below, name_of, request_for, routes, whole}
+use Rattle.rdap.specs.Routes.{below, name_of, request_for, routes, fixed_route}
 use Rattle.rdap.specs.declared.request.Request.TheVariants.{Refused}
 use Rattle.rdap.specs.declared.wire.Outcome.TheVariants.{NotFound}
 use Rattle.rdap.specs.declared.routes.Kind.{Kind}
@@ -178,9 +178,9 @@ rest_part : (folder name : List ℕ) → part_of (folder ++ name) (length folder
 rest_part folder name =
     let len : length (folder ++ name) ≡ length folder + length name = length-append folder name in
     let within : leb (length folder) (length (folder ++ name)) ≡ true = grind (arith, nat_tests) in
-    let whole : leb (length (folder ++ name)) (length (folder ++ name)) ≡ true = grind (arith, nat_tests) in
+    let fixed_route : leb (length (folder ++ name)) (length (folder ++ name)) ≡ true = grind (arith, nat_tests) in
     let more : length (folder ++ name) - length folder ≡ length name = omega (arith, len) in
-    rw (within, whole, more, drop-append_seam folder name) (take_all (length name) name (le_refl (length name)))
+    rw (within, fixed_route, more, drop-append_seam folder name) (take_all (length name) name (le_refl (length name)))
 
 is_text : (w : List ℕ) → list_all (λ b. ltb b 256) w ≡ true → IsText w
 is_text [] e = tt
@@ -214,10 +214,10 @@ walked : (folder name : List ℕ) → IsText folder → part_of (folder ++ codes
 walked folder name bytes called =
     let pattern : List ℕ = folder ++ param_token ∷ [] in
     let path : List ℕ = folder ++ name in
-    let whole : length path ≡ length folder + length name = length-append folder name in
+    let fixed_route : length path ≡ length folder + length name = length-append folder name in
     let tokens : length pattern ≡ length folder + 1 = length-append folder (param_token ∷ []) in
     let place : wild_from pattern (length path) 0 0 ≡ (length folder, length folder) =
-    to_param folder (length path) 0 0 bytes (omega (arith, whole)) ∙ pair_of (0 + length folder) (length folder) (0 + length folder) (length folder) (omega arith) (omega arith) in
+    to_param folder (length path) 0 0 bytes (omega (arith, fixed_route)) ∙ pair_of (0 + length folder) (length folder) (0 + length folder) (length folder) (omega arith) (omega arith) in
     let last : ltb (length folder + 1) (length pattern) ≡ false = grind (arith, nat_tests, tokens) in
     let stop : wild_stop pattern (length folder) path (length folder) ≡ length path =
     ap (λ (v : Bool). cond v ((length folder + length (seeks.segment (drop (length folder) path))) - length (seeks.segment (drop (length folder + 1) pattern))) (length path))
@@ -284,9 +284,9 @@ nameserver_routed path text =
     (47 ∷ 110 ∷ path) text (λ e. rw e refl) (λ name e. rw e refl))
 
 help_routed : (path : List ℕ) → Routed (47 ∷ 104 ∷ path) (seek 0 (step 104 (step 47 routes)) path)
-help_routed path = subst (Routed (47 ∷ 104 ∷ path)) (sym (whole_row (codes "elp") (whole (codes "/help") Help).1 path (is_text (codes "elp") refl))) (by (bytes_eq path (codes "elp")) refl)
+help_routed path = subst (Routed (47 ∷ 104 ∷ path)) (sym (whole_row (codes "elp") (fixed_route (codes "/help") Help).1 path (is_text (codes "elp") refl))) (by (bytes_eq path (codes "elp")) refl)
   where
-    by : (v : Bool) → bytes_eq path (codes "elp") ≡ v → Routed (47 ∷ 104 ∷ path) (cond v (Some (whole (codes "/help") Help).1) None)
+    by : (v : Bool) → bytes_eq path (codes "elp") ≡ v → Routed (47 ∷ 104 ∷ path) (cond v (Some (fixed_route (codes "/help") Help).1) None)
     by true e = (tt, rw e refl)
     by false e = rw e refl
 

@@ -10,8 +10,8 @@ use Rattle.rdap.specs.declared.routes.Kind.{Kind}
 use Rattle.rdap.specs.declared.routes.Kind.TheVariants.{Domain, Nameserver, Entity, Help}
 
 -- the row of a path that is asked for as it is
-abbrev pub whole : List ℕ → Kind → List ℕ × RouteOf Kind
-whole path kind = (path, record { pattern = path; text = path; names = []; value = kind })
+abbrev pub fixed_route : List ℕ → Kind → List ℕ × RouteOf Kind
+fixed_route path kind = (path, record { pattern = path; text = path; names = []; value = kind })
 
 -- the row of all segments below a folder: the segment is called `name`
 abbrev pub below : List ℕ → Kind → List ℕ × RouteOf Kind
@@ -29,7 +29,7 @@ abbrev pub routes : RowsOf (RouteOf Kind)
 routes =
     below (codes "/domain/") Domain
     ∷ below (codes "/entity/") Entity
-    ∷ whole (codes "/help") Help
+    ∷ fixed_route (codes "/help") Help
     ∷ below (codes "/nameserver/") Nameserver
     ∷ []
 

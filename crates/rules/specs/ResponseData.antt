@@ -44,7 +44,7 @@ use Rattle.facts.specs.Facts.{contact_at, contact_seen, domain_at, domain_seen, 
 use Rattle.rules.specs.Charges.{charge_of, years_charged}
 use Rattle.rules.specs.Conditions.{domain_in_full, domain_is_refused, host_is_refused, renewed_expiry}
 use Rattle.rules.specs.Deletion.{deleted}
-use Rattle.rules.specs.Transfers.{charge_told, contact_after, domain_after}
+use Rattle.rules.specs.Transfers.{charge_shown, contact_after, domain_after}
 use Rattle.rules.specs.Poll.{left, polled}
 
 -- the id of the registrar at a place
@@ -214,7 +214,7 @@ response_data p r t (requests.TransferContact name op secret) f =
     transferred_data p name None (option_and_then (contact_after p r t op) (contact_seen f name))
 response_data p r t (requests.TransferDomain name op secret) f =
     let asked : Request = requests.TransferDomain name op secret in
-    transferred_data p (name_of name) (charge_told op (charge_of p t asked f)) (option_and_then (domain_after p r t op) (domain_seen f (name_of name)))
+    transferred_data p (name_of name) (charge_shown op (charge_of p t asked f)) (option_and_then (domain_after p r t op) (domain_seen f (name_of name)))
 response_data p r t requests.PollRequest f =
     option_map res_data.Polled (option_map (polled f.queue.waiting) f.queue.oldest)
 response_data p r t (requests.PollAck id) f = Some (res_data.Acked (left f.queue))

@@ -61,5 +61,5 @@ abbrev pub code_of_transfer : TransferOp → Code
 code_of_transfer op = if is_request op then CompletedActionPending else Completed
 
 -- the charge is in the reply where it is made
-abbrev pub charge_told : TransferOp → ℕ → Option ℕ
-charge_told op charge = if is_request op then Some charge else None
+abbrev pub charge_shown : TransferOp → ℕ → Option ℕ
+charge_shown op charge = if is_request op then Some charge else None

@@ -16,7 +16,7 @@ use crate::charge::{charge_of, years_charged};
 use crate::deletion::deleted_data;
 use crate::poll::{left, polled_data};
 use crate::renewal::renewed_expiry;
-use crate::transfer::{charge_told, seen_after, transferred_data};
+use crate::transfer::{charge_shown, seen_after, transferred_data};
 use basis::list::Seq;
 use basis::registrar::RegistrarNo;
 use basis::text::{Text, copied};
@@ -96,7 +96,7 @@ pub(crate) fn response_data(
             transferred_data(alloc, policy, name, None, after)
         }
         Request::TransferDomain { name, op, .. } => {
-            let charge = charge_told(*op, charge_of(policy, request, facts, moment));
+            let charge = charge_shown(*op, charge_of(policy, request, facts, moment));
             let after = seen_after(*op, caller, facts.domain_seen(name.text()), moment, policy);
             transferred_data(alloc, policy, name.text(), charge, after)
         }

@@ -106,8 +106,8 @@ pub(crate) fn code_of_transfer(op: TransferOp) -> Code
 }
 
 /// The charge, in whole cents, where it is made.
-pub(crate) fn charge_told(op: TransferOp, charge: u64) -> Option<u64>
-    ensures { result ≡ spec.charge_told op charge }
+pub(crate) fn charge_shown(op: TransferOp, charge: u64) -> Option<u64>
+    ensures { result ≡ spec.charge_shown op charge }
 {
     if op.is_request() { Some(charge) } else { None }
 }

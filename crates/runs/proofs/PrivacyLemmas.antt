@@ -7,17 +7,17 @@ use Rattle.isolation.specs.Alike.{firsts, seconds}
 use Rattle.isolation.specs.Public.{public_part}
 use Rattle.isolation.specs.Runs.{Answer, Question, answer_to, effect_of, is_asked_by, left_after, left_by, answers_to}
 use Rattle.isolation.proofs.RunLemmas.{alike-lists-show-the-same, alike-lists-tell-the-same}
-use Rattle.runs.specs.Runs.{IsRun, told_of}
+use Rattle.runs.specs.Runs.{IsRun, answers_for}
 use Rattle.runs.specs.RunLaws.{AlikeRunsShowTheSame, AlikeRunsTellTheSame}
 use Rattle.runs.proofs.SettlementLemmas.{found-alike}
 
 -- what a run answers is what its list tells, from whatever is the same now
-tells-as-listed : (p : PolicyRules) (r : ℕ) (questions : List (ℕ × Question)) (answers : List Answer) (s t x : Registry) → now p s ≡ now p t → IsRun p questions answers s x → told_of r questions answers ≡ answers_to p r questions t
+tells-as-listed : (p : PolicyRules) (r : ℕ) (questions : List (ℕ × Question)) (answers : List Answer) (s t x : Registry) → now p s ≡ now p t → IsRun p questions answers s x → answers_for r questions answers ≡ answers_to p r questions t
 tells-as-listed p r [] answers s t x same run = refl
 tells-as-listed p r (asked ∷ others) answers s t x same (first, rest, between, is, called, more) =
     let found : lapsed p asked.0 s ≡ lapsed p asked.0 t = found-alike p asked.0 s t same in
     let left : now p between ≡ now p (left_by p asked t) = called.left ∙ ap (λ (l : Registry). now p (effect_of p asked.1 l)) found in
-    ap (told_of r (asked ∷ others)) is
+    ap (answers_for r (asked ∷ others)) is
     ∙ (λ i. cond (is_asked_by r asked.1) ((called.answered ∙ ap (answer_to p asked.1) found) i ∷ tells-as-listed p r others rest between (left_by p asked t) x left more i) (tells-as-listed p r others rest between (left_by p asked t) x left more i))
 
 pub alike-runs-tell-the-same : AlikeRunsTellTheSame

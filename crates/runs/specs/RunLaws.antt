@@ -15,7 +15,7 @@ use Rattle.isolation.specs.Alike.{Pair, AreAlike, firsts, seconds}
 use Rattle.isolation.specs.Laws.{none}
 use Rattle.isolation.specs.Public.{IsPublic, PublicPart, public_part}
 use Rattle.isolation.specs.Runs.{Answer, IsCall, Question, code, command, date, dated, inspected, inspection, look_up, order, reply, shown}
-use Rattle.runs.specs.Runs.{Taken, Turn, AreTurns, IsLater, IsRun, IsSettledRun, answers_of, calls_of, questions_of, settles_last, told_of}
+use Rattle.runs.specs.Runs.{Taken, Turn, AreTurns, IsLater, IsRun, IsSettledRun, answers_of, calls_of, questions_of, settles_last, answers_for}
 
 -- ---- the steps of the registry's calls are calls of a run
 
@@ -110,7 +110,7 @@ abbrev pub AlikeRunsTellTheSame : Type 0
 AlikeRunsTellTheSame =
     (p : PolicyRules) (r : ℕ) (pairs : List (ℕ × Pair)) (xs ys : List Answer) (s x y : Registry) → AreAlike p r none pairs s s
     → IsRun p (firsts pairs) xs s x → IsRun p (seconds pairs) ys s y
-    → told_of r (firsts pairs) xs ≡ told_of r (seconds pairs) ys
+    → answers_for r (firsts pairs) xs ≡ answers_for r (seconds pairs) ys
 
 -- And they leave, at any moment, what everybody may look up the same.
 abbrev pub AlikeRunsShowTheSame : Type 0

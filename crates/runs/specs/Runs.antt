@@ -19,10 +19,10 @@ IsRun p (asked ∷ others) answers before after =
     × IsRun p others rest between after
 
 -- of the answers, those to what a registrar may have asked
-abbrev pub told_of : ℕ → List (ℕ × Question) → List Answer → List Answer
-told_of r [] answers = []
-told_of r (asked ∷ others) [] = []
-told_of r (asked ∷ others) (a ∷ answers) = if is_asked_by r asked.1 then a ∷ told_of r others answers else told_of r others answers
+abbrev pub answers_for : ℕ → List (ℕ × Question) → List Answer → List Answer
+answers_for r [] answers = []
+answers_for r (asked ∷ others) [] = []
+answers_for r (asked ∷ others) (a ∷ answers) = if is_asked_by r asked.1 then a ∷ answers_for r others answers else answers_for r others answers
 
 -- ---- with settlements between them
 

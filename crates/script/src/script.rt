@@ -180,7 +180,7 @@ fn make_room<W: Write>(pending: &mut Vec<u8>, writer: &mut W) -> io::Result<()>
 
 /// Adds a text and a line feed to what is pending.
 fn add(pending: &mut Vec<u8>, text: &[u8]) -> Result<(), AllocError>
-    ensures whole { OnOk result (pending.new.items ≡ pending.old.items
+    ensures all { OnOk result (pending.new.items ≡ pending.old.items
         ++ (text.now ++ codes "\n")) }
     ensures begun { OnErr result (AppendsFront (Some pending.old.items) (Some pending.new.items)
         (text.now ++ codes "\n")) }

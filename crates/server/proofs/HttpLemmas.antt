@@ -151,9 +151,9 @@ module _ (p : PolicyRules) (clock : Option (List ℕ)) (old : BookState) (later 
 pub answered : {V E : Type 0} (items : V → List ℕ) (p : PolicyRules) (head : List ℕ) (clock : Option (List ℕ)) (old : BookState) (before after next : Option (List ℕ)) (new : BookState) (moment : ℕ) (answer : Result V E) (end : HttpEnd)
     → Tells clock next moment → Passes p moment old new → IfOk answer (λ bytes. new.is_clean ≡ true → (faces : Faces) → MayShow p moment old faces → IsAnswer p faces head (items bytes))
     → IsWritten items answer before after end → AnswersHttp p (Some head) clock old before after next new end
-answered items p head clock old before after next new moment (Ok bytes) end clock_tells passes is (inl whole) =
+answered items p head clock old before after next new moment (Ok bytes) end clock_tells passes is (inl complete) =
     let answer : IsAnswered p (Some head) clock old (items bytes) next new = record { moment = moment; clock_tells = clock_tells; passes = passes; head = head; agrees = refl; answer = is } in
-    rw whole.0 (items bytes, whole.1, answer)
+    rw complete.0 (items bytes, complete.1, answer)
 answered items p head clock old before after next new moment (Ok bytes) end clock_tells passes is (inr begun) =
     let answer : IsAnswered p (Some head) clock old (items bytes) next new = record { moment = moment; clock_tells = clock_tells; passes = passes; head = head; agrees = refl; answer = is } in
     rw begun.0 (take begun.1 (items bytes), begun.2, (items bytes, answer, begun.1, refl))

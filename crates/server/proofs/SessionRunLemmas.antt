@@ -5,7 +5,7 @@ use Rattle.std.proofs.lemmas.Bool.{and_parts}
 use Rattle.std.proofs.lemmas.Grind.{flat_map-append}
 use Rattle.eppcommands.specs.Session.{before_login, in_session}
 use Rattle.frames.specs.Clocks as clocks
-use Rattle.frames.specs.Frames.{Ending, Takes, bad_length, closed, cut, frame, front, over, whole}
+use Rattle.frames.specs.Frames.{Ending, Takes, bad_length, closed, cut, frame, front, over, complete}
 use Rattle.frames.specs.Texts.{closing_text}
 use Rattle.eppreplies.specs.Reply.{reply_text}
 use Rattle.eppwire.specs.Answers.{AnswersHello, AnswersSaidBeforeLogin, AnswersRegistrar, AnswersSaid, AnswersBeforeLogin, GivesUp, Tells, is_last}
@@ -25,7 +25,7 @@ use Rattle.frames.specs.Sessions.{Ends, IsAt, IsTurn, Rests, Run, SessionState, 
 use Rattle.frames.specs.declared.session.SessionEnd.{SessionEnd}
 use Rattle.frames.specs.declared.session.SessionEnd.TheVariants.{Logout, End, Cut, Length, ReadFault, WriteFault, Lost}
 use Rattle.server.specs.Connections.{AnswersAt, Desk}
-use Rattle.server.specs.SessionRuns.{AreAnswered, AreHeard, IsAnsweredAll, IsLeftAt, IsWritten, PasswordsAreForLogins, SessionsAreAlike, SessionsAreAnswered, SessionsAreRuns, SessionsAreSentTheSame, are_sent, is_calm, asked_by, asked_over, caller_after, caller_with, has_failed, has_text, outcome_before, outcome_by, outcome_told, question_within, questions_before, questions_said}
+use Rattle.server.specs.SessionRuns.{AreAnswered, AreHeard, IsAnsweredAll, IsLeftAt, IsWritten, PasswordsAreForLogins, SessionsAreAlike, SessionsAreAnswered, SessionsAreRuns, SessionsAreSentTheSame, are_sent, is_calm, asked_by, asked_over, caller_after, caller_with, has_failed, has_text, outcome_before, outcome_by, outcome_sent, question_within, questions_before, questions_said}
 use Rattle.books.specs.Book.{BookState, Follows, Stored}
 
 -- ---- one frame
@@ -91,7 +91,7 @@ module _ (p : PolicyRules) (g : List (List ℕ)) (moment : ℕ) (old : BookState
     pub answer : Answer
     pub call : IsCall p moment q old.content.registry new.content.registry answer
     pub carried_out : has_failed outcome ≡ false
-    pub answer_is : Tells (outcome_told answer) outcome
+    pub answer_is : Tells (outcome_sent answer) outcome
 
   hello-asked : AnswersHello p moment old outcome new → HasGivenUp ⊎ IsAsked date
   hello-asked (inl gives) = inl (gave-up gives)
@@ -338,7 +338,7 @@ takes-once : (input xs ys : List ℕ) (c d : Option (List ℕ)) → Takes xs (So
 takes-once input xs ys None d one two = absurd one
 takes-once input xs ys (Some r) None one two = absurd two
 takes-once input xs ys (Some r) (Some s) one two =
-    let same : whole xs r ≡ whole ys s = sym one ∙ two in
+    let same : complete xs r ≡ complete ys s = sym one ∙ two in
     let payloads : xs ≡ ys = cc in
     let rests : s ≡ r = cc in
     (payloads, r, refl, ap Some rests)
@@ -437,7 +437,7 @@ never-both o some none = let never : Some Logout ≡ None = sym some ∙ none in
 -- an input that is over has no frame
 over-takes : (input : List ℕ) (ending : Ending) (payload : List ℕ) (c : Option (List ℕ)) → front input ≡ over ending → Takes payload (Some input) c → ⊥
 over-takes input ending payload None at takes = takes
-over-takes input ending payload (Some rest) at takes = let never : over ending ≡ whole payload rest = sym at ∙ takes in absurd cc
+over-takes input ending payload (Some rest) at takes = let never : over ending ≡ complete payload rest = sym at ∙ takes in absurd cc
 
 module _ (p : PolicyRules) (g : List (List ℕ)) (new new2 : SessionState Desk) (last last2 : List ℕ) (end end2 : SessionEnd) (clean : new.peer.book.is_clean ≡ true) (clean2 : new2.peer.book.is_clean ≡ true) where
   record EndAlike (written sent : List ℕ) : Type 0 where

@@ -10,7 +10,7 @@ use Rattle.server.specs.ZoneExport.{zone_at}
 use Rattle.server.specs.Http.{faces_at}
 
 -- two registries of which everyone may know the same at a moment
-pub record LooksSame (p : PolicyRules) (moment : ℕ) (one other : Registry) : Type 0 where
+pub record IsSameToEveryone (p : PolicyRules) (moment : ℕ) (one other : Registry) : Type 0 where
   pub faces : faces_at p moment one ≡ faces_at p moment other
   pub zone : zone_data p.zone (lapsed p moment one) ≡ zone_data p.zone (lapsed p moment other)
 
@@ -19,11 +19,11 @@ abbrev pub PublicPartsLookSame : Type 0
 PublicPartsLookSame =
     (p : PolicyRules) (moment : ℕ) (one other : Registry)
     → public_part p (lapsed p moment one) ≡ public_part p (lapsed p moment other)
-    → LooksSame p moment one other
+    → IsSameToEveryone p moment one other
 
 -- They give equal answers to one head, and one zone.
 abbrev pub PublicTextsAgree : Type 0
 PublicTextsAgree =
-    (p : PolicyRules) (moment : ℕ) (one other : Registry) → LooksSame p moment one other
+    (p : PolicyRules) (moment : ℕ) (one other : Registry) → IsSameToEveryone p moment one other
     → ((head answer second : List ℕ) → IsAnswer p (faces_at p moment one) head answer → IsAnswer p (faces_at p moment other) head second → answer ≡ second)
     × (zone_at p moment one ≡ zone_at p moment other)

@@ -62,19 +62,19 @@ caller_after p passwords (Some r) turn = Some r
 
 -- ---- what is sent for the answers
 
-abbrev pub outcome_told : Answer → Outcome
-outcome_told (reply it) = reply_outcome it
-outcome_told (dated moment) = greeting_outcome moment
-outcome_told (code it) = failed
-outcome_told (shown part) = failed
-outcome_told (inspected s) = failed
+abbrev pub outcome_sent : Answer → Outcome
+outcome_sent (reply it) = reply_outcome it
+outcome_sent (dated moment) = greeting_outcome moment
+outcome_sent (code it) = failed
+outcome_sent (shown part) = failed
+outcome_sent (inspected s) = failed
 
-abbrev pub first_told : List Answer → Outcome
-first_told [] = failed
-first_told (a ∷ answers) = outcome_told a
+abbrev pub first_outcome : List Answer → Outcome
+first_outcome [] = failed
+first_outcome (a ∷ answers) = outcome_sent a
 
 abbrev pub outcome_before : PolicyRules → List (List ℕ) → BeforeLogin → List Answer → Outcome
-outcome_before p passwords before.Hello answers = first_told answers
+outcome_before p passwords before.Hello answers = first_outcome answers
 outcome_before p passwords (before.Login cl_trid c) answers = anonymous_outcome cl_trid (login_code p passwords c)
 outcome_before p passwords (before.Refused cl_trid fault) answers =
     anonymous_outcome cl_trid (code_of_form fault)
@@ -82,7 +82,7 @@ outcome_before p passwords (before.Refused cl_trid fault) answers =
 -- of a frame, by the answers to what it asks
 abbrev pub outcome_by : PolicyRules → List (List ℕ) → Option ℕ → List ℕ → List Answer → Outcome
 outcome_by p passwords None payload answers = outcome_before p passwords (before_login payload) answers
-outcome_by p passwords (Some r) payload answers = first_told answers
+outcome_by p passwords (Some r) payload answers = first_outcome answers
 
 -- ---- frames one after another
 

@@ -157,7 +157,7 @@ own-row r (Some roid) row e = same_int _ _ (and_parts _ _ e).0
 pub record Parts {X : Type 0} (key : X → ℤ) (xs : List X) (x : X) : Type 0 where
   pub front : List X
   pub rest : List X
-  pub whole : xs ≡ front ++ x ∷ rest
+  pub consistent : xs ≡ front ++ x ∷ rest
   pub without : delete_where (λ y. int_eq (key y) (key x)) xs ≡ front ++ rest
 
 module _ {X : Type 0} (key : X → ℤ) where
@@ -175,12 +175,12 @@ module _ {X : Type 0} (key : X → ℤ) where
   -- a row by its number
   pub parts : (xs : List X) (x : X) → IsKeyedBy key xs → Has xs x → Parts key xs x
   parts [] x up has = absurd has
-  parts (y ∷ xs) x up (inl e) = record { front = []; rest = xs; whole = ap (λ z. z ∷ xs) (sym e); without = at-head x y xs e up.0 }
+  parts (y ∷ xs) x up (inl e) = record { front = []; rest = xs; consistent = ap (λ z. z ∷ xs) (sym e); without = at-head x y xs e up.0 }
   parts (y ∷ xs) x up (inr has) =
       let it = parts xs x up.1 has in
       record {
         front = y ∷ it.front;
         rest = it.rest;
-        whole = ap (λ zs. y ∷ zs) it.whole;
+        consistent = ap (λ zs. y ∷ zs) it.consistent;
         without = past-head x y xs (all_at (λ z. key y <ℤ key z) xs x up.0 has) ∙ ap (λ zs. y ∷ zs) it.without;
       }

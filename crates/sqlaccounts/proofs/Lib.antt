@@ -7,7 +7,7 @@ pub mod LinesOnLemmas
 pub mod OpeningLemmas
 pub mod SwapLemmas
 pub mod TakingLemmas
-pub mod WholeLemmas
+pub mod ConsistencyLemmas
 pub mod QueueCallLemmas
 pub mod ColumnLemmas
 pub mod MessageLemmas

@@ -18,13 +18,13 @@ use Rattle.sqltables.specs.Account as account_table
 use Rattle.sqltables.specs.Content.{Content}
 use Rattle.sqltables.specs.Line as table
 use Rattle.sqltables.specs.Line.{line_with_account}
-use Rattle.sqltables.specs.inner.Whole.{IsWhole}
+use Rattle.sqltables.specs.inner.Consistent.{IsConsistent}
 use Rattle.sqlaccounts.specs.Accounts.{account_in, account_of, lines_of, row_of}
 use Rattle.sqlaccounts.specs.inner.Finding.{IsDomainRoid, is_row_on}
 use Rattle.sqlaccounts.proofs.AccountLemmas.{get-accounts_of, get-found}
 use Rattle.sqlaccounts.proofs.BagLemmas.{bag-again, bag-nil}
 use Rattle.sqlaccounts.proofs.FindingLemmas.{on-row}
-use Rattle.sqlaccounts.proofs.WholeLemmas.{lines-of-none}
+use Rattle.sqlaccounts.proofs.ConsistencyLemmas.{lines-of-none}
 
 -- one row more
 pub read-more : (rows : List table.Line) (row : table.Line) (line : Line) → line_in row ≡ Some line
@@ -63,23 +63,23 @@ module _ (p : Line → Bool) (a b : table.Line → Bool) (agree : (x : table.Lin
 
 -- ---- of an account, also where there is none
 
-lines-at : (xs : Content) (r : ℕ) (o : Option account_table.Account) → IsWhole xs → is_place r ≡ true → row_of xs (pos r) ≡ o → (account_of r xs).lines ≡ lines_of xs (pos r)
-lines-at xs r (Some row) whole place at =
+lines-at : (xs : Content) (r : ℕ) (o : Option account_table.Account) → IsConsistent xs → is_place r ≡ true → row_of xs (pos r) ≡ o → (account_of r xs).lines ≡ lines_of xs (pos r)
+lines-at xs r (Some row) consistent place at =
     ap (λ a. (unwrap_or a empty_account).lines) (get-found xs r row place at) ∙ ap (lines_of xs) (key-get_by account_table.accounts.key xs.accounts (pos r) row at)
-lines-at xs r None whole place at =
+lines-at xs r None consistent place at =
     ap (λ a. (unwrap_or a empty_account).lines) (get-accounts_of xs r ∙ (λ i. cond (place i) (option_map (account_in xs) (at i)) None))
-    ∙ sym (lines-of-none xs (pos r) whole at)
+    ∙ sym (lines-of-none xs (pos r) consistent at)
 
-pub lines-there : (xs : Content) (r : ℕ) → IsWhole xs → is_place r ≡ true → (account_of r xs).lines ≡ lines_of xs (pos r)
-lines-there xs r whole place = lines-at xs r (row_of xs (pos r)) whole place refl
+pub lines-there : (xs : Content) (r : ℕ) → IsConsistent xs → is_place r ≡ true → (account_of r xs).lines ≡ lines_of xs (pos r)
+lines-there xs r consistent place = lines-at xs r (row_of xs (pos r)) consistent place refl
 
-pub lines-read : (xs : Content) (r : ℕ) (roid : Roid) → IsWhole xs → is_place r ≡ true → IsDomainRoid roid
+pub lines-read : (xs : Content) (r : ℕ) (roid : Roid) → IsConsistent xs → is_place r ≡ true → IsDomainRoid roid
     → bag_of in_order (filter_map line_in (filter (is_row_on r roid) xs.lines)) ≡ filter (is_on roid) (account_of r xs).lines
-lines-read xs r roid whole place is =
+lines-read xs r roid consistent place is =
     ap (bag_of in_order) (sym (part (is_on roid) (line_with_account (registrar_column r)) (is_row_on r roid)
     (λ x l e. ap (λ c. line_with_account (registrar_column r) x && c) (sym (on-row roid is x l e))) xs.lines))
     ∙ sym (filter-bag_of in_order lines_in_order (is_on roid) (filter_map line_in (filter (line_with_account (registrar_column r)) xs.lines)))
-    ∙ ap (filter (is_on roid)) (sym (lines-there xs r whole place))
+    ∙ ap (filter (is_on roid)) (sym (lines-there xs r consistent place))
 
 -- an account's lines are a bag
 bag-at : (xs : Content) (b : Bool) (o : Option account_table.Account)

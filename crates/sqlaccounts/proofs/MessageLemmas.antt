@@ -33,7 +33,7 @@ use Rattle.sqltables.specs.Content.{Content}
 use Rattle.sqltables.specs.inner.Content.{accounts_to, messages_to}
 use Rattle.sqltables.specs.Message as table
 use Rattle.sqltables.specs.inner.Message as inner_table
-use Rattle.sqltables.specs.inner.Whole.{IsWhole}
+use Rattle.sqltables.specs.inner.Consistent.{IsConsistent}
 use Rattle.sqlaccounts.specs.Accounts.{account_in, accounts_of, balance_in, ident_and_held, lines_of, put_all, queue_of, row_of}
 use Rattle.sqlaccounts.specs.inner.Changes.{IsChange}
 use Rattle.sqlaccounts.proofs.AccountLemmas.{changed, get-accounts_of, get-found}
@@ -112,25 +112,25 @@ has_no_row (x ∷ xs) a id has at none = go (int_eq x.id id) refl has none (λ h
     go false e (inr has) none rest = rest has none
 
 -- where there is no account there is no message for it
-no_messages : (xs : Content) (id : ℤ) → IsWhole xs → row_of xs id ≡ None → slice_get (queue_of xs id) 0 ≡ None
-no_messages xs id whole none = ap (λ rows. slice_get (put_all (messages_in rows)) 0) (go (of_account id xs.messages) (λ x has. has_filtered (table.message_with_account id) xs.messages x has))
+no_messages : (xs : Content) (id : ℤ) → IsConsistent xs → row_of xs id ≡ None → slice_get (queue_of xs id) 0 ≡ None
+no_messages xs id consistent none = ap (λ rows. slice_get (put_all (messages_in rows)) 0) (go (of_account id xs.messages) (λ x has. has_filtered (table.message_with_account id) xs.messages x has))
   where
     go : (rows : List table.Message) → ((x : table.Message) → Has rows x → Has xs.messages x × (int_eq x.account id ≡ true)) → rows ≡ []
     go [] each = refl
     go (x ∷ rest) each =
         let it = each x (inl refl) in
-        let parent = whole.linked.message_account x it.0 x.account refl in
+        let parent = consistent.linked.message_account x it.0 x.account refl in
         absurd (has_no_row xs.accounts parent.0 id parent.1 (parent.2 ∙ (Decides-int_eq x.account id).0 it.1) none)
 
-pub oldest-found : (xs : Content) (q : ℕ) (it : Option Message) → is_place q ≡ true → IsWhole xs → slice_get (queue_of xs (pos q)) 0 ≡ it
+pub oldest-found : (xs : Content) (q : ℕ) (it : Option Message) → is_place q ≡ true → IsConsistent xs → slice_get (queue_of xs (pos q)) 0 ≡ it
     → it ≡ slice_get (unwrap_or (get (accounts_of xs) q) empty_account).queue 0
-oldest-found xs q it place whole is =
+oldest-found xs q it place consistent is =
     go (row_of xs (pos q)) refl
     ∙ ap (λ b. slice_get (unwrap_or (cond b (option_map (account_in xs) (row_of xs (pos q))) None) empty_account).queue 0) (sym place)
     ∙ ap (λ a. slice_get (unwrap_or a empty_account).queue 0) (sym (get-accounts_of xs q))
   where
     go : (o : Option account_table.Account) → row_of xs (pos q) ≡ o → it ≡ slice_get (unwrap_or (option_map (account_in xs) (row_of xs (pos q))) empty_account).queue 0
-    go None e = sym is ∙ no_messages xs (pos q) whole e ∙ sym (ap (λ o. slice_get (unwrap_or (option_map (account_in xs) o) empty_account).queue 0) e)
+    go None e = sym is ∙ no_messages xs (pos q) consistent e ∙ sym (ap (λ o. slice_get (unwrap_or (option_map (account_in xs) o) empty_account).queue 0) e)
     go (Some row) e =
         sym is ∙ ap (λ id. slice_get (queue_of xs id) 0) (sym (key-get_by account_table.accounts.key xs.accounts (pos q) row e))
         ∙ sym (ap (λ o. slice_get (unwrap_or (option_map (account_in xs) o) empty_account).queue 0) e)
@@ -303,7 +303,7 @@ one_test false false f g = refl
 one_test true false f g = sym (f refl)
 one_test false true f g = g refl
 
-module _ (xs : Content) (r : ℕ) (m : Message) (it : Found) (found : IsFound xs r m it) (whole : IsWhole xs) (f : table.Message) (only_one : it.same ≡ f ∷ []) where
+module _ (xs : Content) (r : ℕ) (m : Message) (it : Found) (found : IsFound xs r m it) (consistent : IsConsistent xs) (f : table.Message) (only_one : it.same ≡ f ∷ []) where
   abbrev is_it : table.Message → Bool
   is_it y = inner_table.is_same_message it.row y
 
@@ -320,7 +320,7 @@ module _ (xs : Content) (r : ℕ) (m : Message) (it : Found) (found : IsFound xs
   -- the row with its number is the one with its columns
   same_removed : delete_where (inner_table.message_with_id f.id) xs.messages ≡ delete_where is_it xs.messages
   same_removed = filter_alike (λ y. not (inner_table.message_with_id f.id y)) (λ y. not (is_it y)) xs.messages (λ y has. ap not (one_test (inner_table.message_with_id f.id y) (is_it y)
-      (λ e. ap is_it (one_key xs.messages y f whole.keyed.messages has f_there.0 ((Decides-int_eq y.id f.id).0 e)) ∙ f_there.1)
+      (λ e. ap is_it (one_key xs.messages y f consistent.keyed.messages has f_there.0 ((Decides-int_eq y.id f.id).0 e)) ∙ f_there.1)
       (λ e. (Decides-int_eq y.id f.id).1 (ap (λ (z : table.Message). z.id) (only_f y (subst (λ rows. Has rows y) all_of_it (has_kept is_it xs.messages y has e)))))))
 
   apart : (id : ℤ) (y : table.Message) → int_eq (pos r) id ≡ false → table.message_with_account id y ≡ true → not (is_it y) ≡ true

@@ -9,18 +9,18 @@ use Rattle.sqlcolumns.specs.Numbers.{is_place}
 use Rattle.sqltables.specs.Account as account_table
 use Rattle.sqltables.specs.Content.{Content}
 use Rattle.sqltables.specs.inner.Content.{accounts_to}
-use Rattle.sqltables.specs.inner.Whole.{IsWhole}
+use Rattle.sqltables.specs.inner.Consistent.{IsConsistent}
 use Rattle.sqlaccounts.specs.Accounts.{account_in, accounts_of, balance_in, has_right_sums, is_right, row_of}
 use Rattle.sqlaccounts.specs.inner.Changes.{IsOpened, opened_row}
 use Rattle.sqlaccounts.proofs.AccountLemmas.{accounts-put, get-accounts_of, kept_accounts, row_here, row_there, sums-put}
 use Rattle.sqlaccounts.proofs.FindingLemmas.{equal}
-use Rattle.sqlaccounts.proofs.WholeLemmas.{lines-of-none, queue-of-none}
+use Rattle.sqlaccounts.proofs.ConsistencyLemmas.{lines-of-none, queue-of-none}
 
 no_cents : int_eq (balance_in (opened_row 0).balance) (balance []) ≡ true
 unfolding balance
 no_cents = refl
 
-module _ (xs : Content) (r : ℕ) (whole : IsWhole xs) (place : is_place r ≡ true) (none : row_of xs (pos r) ≡ None) where
+module _ (xs : Content) (r : ℕ) (consistent : IsConsistent xs) (place : is_place r ≡ true) (none : row_of xs (pos r) ≡ None) where
   abbrev new : account_table.Account
   new = opened_row r
 
@@ -28,7 +28,7 @@ module _ (xs : Content) (r : ℕ) (whole : IsWhole xs) (place : is_place r ≡ t
   ys = accounts_to (λ rows. insert_by account_table.accounts.key rows new) xs
 
   empty : account_in ys new ≡ empty_account
-  empty = λ i. record { lines = lines-of-none xs (pos r) whole none i; queue = queue-of-none xs (pos r) whole none i; commands = 0; messages = 0; serial = 0 }
+  empty = λ i. record { lines = lines-of-none xs (pos r) consistent none i; queue = queue-of-none xs (pos r) consistent none i; commands = 0; messages = 0; serial = 0 }
 
   nothing : get (accounts_of xs) r ≡ None
   nothing = get-accounts_of xs r ∙ (λ i. cond (place i) (option_map (account_in xs) (none i)) None)
@@ -38,7 +38,7 @@ module _ (xs : Content) (r : ℕ) (whole : IsWhole xs) (place : is_place r ≡ t
 
   right : is_right ys new ≡ has_right_sums xs (pos r)
   right =
-      (λ i. int_eq (balance_in new.balance) (balance (lines-of-none xs (pos r) whole none i)) && int_eq (pos 0) (pos (length (queue-of-none xs (pos r) whole none i))))
+      (λ i. int_eq (balance_in new.balance) (balance (lines-of-none xs (pos r) consistent none i)) && int_eq (pos 0) (pos (length (queue-of-none xs (pos r) consistent none i))))
       ∙ ap (λ b. b && true) no_cents ∙ sym (ap (λ o. option_map_or (is_right xs) o true) none)
 
   -- where it wasn't there
@@ -70,7 +70,7 @@ pub still-open : (xs : Content) (r : ℕ) (o : Option account_table.Account) →
 still-open xs r None place found e = cc
 still-open xs r (Some row) place found e = still xs r row place (sym found)
 
-pub opened-now : (xs : Content) (r : ℕ) (o : Option account_table.Account) → IsWhole xs → is_place r ≡ true → o ≡ row_of xs (pos r) → is_some o ≡ false
+pub opened-now : (xs : Content) (r : ℕ) (o : Option account_table.Account) → IsConsistent xs → is_place r ≡ true → o ≡ row_of xs (pos r) → is_some o ≡ false
     → IsOpened r xs (accounts_to (λ rows. insert_by account_table.accounts.key rows (opened_row r)) xs)
-opened-now xs r None whole place found e = opened xs r whole place (sym found)
-opened-now xs r (Some row) whole place found e = cc
+opened-now xs r None consistent place found e = opened xs r consistent place (sym found)
+opened-now xs r (Some row) consistent place found e = cc

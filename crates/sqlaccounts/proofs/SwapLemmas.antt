@@ -44,8 +44,8 @@ module _ (roid : Roid) where
       → swapped_all swaps ls ≡ remade in_order f ls
   swaps-on f out swaps ls bag are made =
       let on : List Line = filter (is_on roid) ls in
-      let whole : ls ≡ bag_of in_order (on ++ others ls) = sym bag ∙ bag-parts in_order lines_in_order (is_on roid) ls in
-      ap (swapped_all swaps) whole ∙ all-on swaps on ls are
+      let consistent : ls ≡ bag_of in_order (on ++ others ls) = sym bag ∙ bag-parts in_order lines_in_order (is_on roid) ls in
+      ap (swapped_all swaps) consistent ∙ all-on swaps on ls are
       ∙ ap (λ ms. bag_of in_order (ms ++ others ls)) made ∙ bag-bag in_order lines_in_order (map f on) (others ls)
       ∙ ap (λ ms. bag_of in_order (map f on ++ ms)) (sym (map-others (is_on roid) f out ls)) ∙ ap (bag_of in_order) (sym (map-append f on (others ls)))
-      ∙ sym (remade-bag_of in_order lines_in_order f (on ++ others ls)) ∙ ap (remade in_order f) (sym whole)
+      ∙ sym (remade-bag_of in_order lines_in_order f (on ++ others ls)) ∙ ap (remade in_order f) (sym consistent)

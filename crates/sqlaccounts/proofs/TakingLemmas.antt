@@ -16,7 +16,7 @@ use Rattle.sqltables.specs.Account as account_table
 use Rattle.sqltables.specs.Content.{Content}
 use Rattle.sqltables.specs.Line as table
 use Rattle.sqltables.specs.Line.{line_with_account}
-use Rattle.sqltables.specs.inner.Whole.{IsWhole}
+use Rattle.sqltables.specs.inner.Consistent.{IsConsistent}
 use Rattle.sqlcolumns.proofs.ReadLemmas.{same_some}
 use Rattle.sqlaccounts.specs.Accounts.{account_in, balance_in, lines_of, row_of}
 use Rattle.sqlaccounts.specs.inner.Changes.{IsChange, IsPaid, without_line}
@@ -45,27 +45,27 @@ removed xs r line row new it up place there paid finds =
     let owner : it.account ≡ pos r = own-row r line.roid it seen.2 in
     let ps = parts (λ (x : table.Line). x.id) xs.lines it up seen.0 in
     let before : lines_of xs (pos r) ≡ add in_order line (lines_of ys (pos r)) =
-    ap (λ rows. bag_of in_order (filter_map line_in (filter (line_with_account (pos r)) rows))) ps.whole
+    ap (λ rows. bag_of in_order (filter_map line_in (filter (line_with_account (pos r)) rows))) ps.consistent
     ∙ lines-with (line_with_account (pos r)) ps.front ps.rest it line (equal _ _ owner) (reads line it (line_in it) refl seen.1)
     ∙ ap (λ rows. add in_order line (bag_of in_order (filter_map line_in (filter (line_with_account (pos r)) rows)))) (sym ps.without) in
     repaid xs ys r (taken in_order line) (pos 0 -ℤ amount line) row new place there paid refl refl
     (λ k e. ap (λ rows. bag_of in_order (filter_map line_in rows))
-    (ap (filter (line_with_account k)) ps.without ∙ sym (filter-without (line_with_account k) ps.front ps.rest it (ap (λ a. int_eq a k) owner ∙ e)) ∙ ap (filter (line_with_account k)) (sym ps.whole)))
+    (ap (filter (line_with_account k)) ps.without ∙ sym (filter-without (line_with_account k) ps.front ps.rest it (ap (λ a. int_eq a k) owner ∙ e)) ∙ ap (filter (line_with_account k)) (sym ps.consistent)))
     (sym (ap (taken in_order line) before ∙ taken-add in_order lines_in_order line (lines_of ys (pos r))))
     (both-less (balance_in row.balance) (balance (lines_of ys (pos r))) (amount line) ∙ ap (int_eq (balance_in row.balance)) (sym (ap balance before ∙ balance-add line (lines_of ys (pos r)))))
     (record { metas = refl; days = refl; contacts = refl; domains = refl; hosts = refl; addresses = refl; links = refl; transfers = refl })
 
 -- by its number
-pub taken-out : (xs : Content) (r : ℕ) (line : Line) (row new : account_table.Account) (rows : List table.Line) (id : ℤ) → IsWhole xs → is_place r ≡ true → Some row ≡ row_of xs (pos r)
+pub taken-out : (xs : Content) (r : ℕ) (line : Line) (row new : account_table.Account) (rows : List table.Line) (id : ℤ) → IsConsistent xs → is_place r ≡ true → Some row ≡ row_of xs (pos r)
     → IsPaid (pos 0 -ℤ amount line) row new → rows ≡ filter (is_row_about r line.roid) xs.lines → Some id ≡ option_map (λ (x : table.Line). x.id) (find (reads_as line) rows)
     → IsChange r (with_lines (taken in_order line)) xs (without_line id new xs)
-taken-out xs r line row new rows id whole place there paid are finds =
+taken-out xs r line row new rows id consistent place there paid are finds =
     go (find (reads_as line) (filter (is_row_about r line.roid) xs.lines)) refl (finds ∙ ap (λ rs. option_map (λ (x : table.Line). x.id) (find (reads_as line) rs)) are)
   where
     go : (o : Option table.Line) → find (reads_as line) (filter (is_row_about r line.roid) xs.lines) ≡ o → Some id ≡ option_map (λ (x : table.Line). x.id) o
         → IsChange r (with_lines (taken in_order line)) xs (without_line id new xs)
     go None at e = cc
-    go (Some it) at e = subst (λ k. IsChange r (with_lines (taken in_order line)) xs (without_line k new xs)) (same_some it.id id (sym e)) (removed xs r line row new it whole.keyed.lines place there paid at)
+    go (Some it) at e = subst (λ k. IsChange r (with_lines (taken in_order line)) xs (without_line k new xs)) (same_some it.id id (sym e)) (removed xs r line row new it consistent.keyed.lines place there paid at)
 
 -- and not found
 pub left-there : (xs : Content) (r : ℕ) (line : Line) (row : account_table.Account) (rows : List table.Line) → is_place r ≡ true → Some row ≡ row_of xs (pos r) → IfSome line.roid IsDomainRoid

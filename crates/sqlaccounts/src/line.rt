@@ -85,7 +85,7 @@ pub fn take_line<S: Alter>(
         return Ok(());
     };
     let row = paid_back(row, &line)?;
-    store.show_whole();
+    store.show_consistent();
     remove(store, number, &row)?;
     Ok(())
 }

@@ -24,7 +24,7 @@ pub fn open_account<S: Alter>(
     if row.is_some() {
         return Ok(());
     }
-    store.show_whole();
+    store.show_consistent();
     let row = opened_row(alloc, registrar)?;
     store.put_account(&row)?;
     Ok(())

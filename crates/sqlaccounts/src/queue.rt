@@ -41,7 +41,7 @@ pub fn oldest<S: Alter>(
 {
     let id = number_of(registrar)?;
     let row = first_row(store, id)?;
-    store.show_whole();
+    store.show_consistent();
     let Some(row) = row else {
         return Ok(None);
     };
@@ -139,7 +139,7 @@ pub fn take_message<S: Alter>(
     let Found { account, row, same } = look(store, alloc, registrar, &message)?;
     drop(message);
     drop(row);
-    store.show_whole();
+    store.show_consistent();
     let Some(row) = only(same)? else {
         drop(account);
         return Ok(());

@@ -33,7 +33,7 @@ pub fn lines_on<S: Alter>(
         store.new }
 {
     let rows = rows_on(store, registrar, roid)?;
-    store.show_whole();
+    store.show_consistent();
     let lines = read(alloc, rows.as_slice())?;
     Ok(lines)
 }
@@ -47,7 +47,7 @@ pub fn lines<S: Alter>(
     ensures { Finds result (account_of registrar store.old.content).lines store.old store.new }
 {
     let rows = rows_of(store, registrar)?;
-    store.show_whole();
+    store.show_consistent();
     let lines = read(alloc, rows.as_slice())?;
     Ok(lines)
 }

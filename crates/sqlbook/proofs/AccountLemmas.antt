@@ -13,7 +13,7 @@ use Rattle.sqltables.specs.Account as table
 use Rattle.sqltables.specs.Content.{Content}
 use Rattle.sqltables.specs.Readiness.{may_be_numbered}
 use Rattle.sqltables.specs.Meta.{Meta}
-use Rattle.sqltables.specs.inner.Whole.{IsWhole}
+use Rattle.sqltables.specs.inner.Consistent.{IsConsistent}
 use Rattle.sqltables.proofs.RowLemmas.{all_at}
 use Rattle.sqlaccounts.specs.Accounts.{ident_and_held, row_of}
 use Rattle.sqlaccounts.specs.inner.Changes.{IsChange}
@@ -99,7 +99,7 @@ same-ids (a ∷ xs) (b ∷ bs) ua ub same ids =
 
 -- ---- an account is changed
 
-module _ (r : ℕ) (f : Account → Account) (old new : Content) (whole : IsWhole old) (after : IsWhole new) (it : IsChange r f old new) where
+module _ (r : ℕ) (f : Account → Account) (old new : Content) (consistent : IsConsistent old) (after : IsConsistent new) (it : IsChange r f old new) where
   terms-kept : terms_of new ≡ terms_of old
   terms-kept =
       (λ i. terms_of (record new { metas = it.others.metas i; days = it.others.days i }))
@@ -112,7 +112,7 @@ module _ (r : ℕ) (f : Account → Account) (old new : Content) (whole : IsWhol
       named-so (Some a) (Some b) e = ap (λ (s : List ℕ × ℤ). Some s.0) (same_some (ident_and_held a) (ident_and_held b) e)
 
       ids : ids_in new.accounts ≡ ids_in old.accounts
-      ids = same-ids new.accounts old.accounts after.keyed.accounts whole.keyed.accounts (λ id. named-so (row_of new id) (row_of old id) (it.idents_and_held id)) []
+      ids = same-ids new.accounts old.accounts after.keyed.accounts consistent.keyed.accounts (λ id. named-so (row_of new id) (row_of old id) (it.idents_and_held id)) []
 
       go : (m : Option Meta) → terms_in m old.days new.accounts ≡ terms_in m old.days old.accounts
       go None = refl

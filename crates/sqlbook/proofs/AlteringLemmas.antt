@@ -8,7 +8,7 @@ use Rattle.books.specs.Book.{Stored}
 use Rattle.books.specs.Ledgers.{changed_if_there, put}
 use Rattle.books.specs.Tables.{with_accounts}
 use Rattle.sqltables.specs.Content.{Content}
-use Rattle.sqltables.specs.inner.Whole.{IsWhole}
+use Rattle.sqltables.specs.inner.Consistent.{IsConsistent}
 use Rattle.states.specs.declared.fault.BookFault.{BookFault}
 use Rattle.states.specs.States.{StateOf}
 use Rattle.sqlrows.specs.Meanings.{Changes}
@@ -33,10 +33,10 @@ alters (Ok done) way held old new made is = record {
 alters (Err fault) way held old new stays is = stays
 
 -- an account that is there is changed
-pub changed-there : (r : ℕ) (f : Account → Account) (old new : Content) → IsWhole old → IsWhole new → IsChange r f old new
+pub changed-there : (r : ℕ) (f : Account → Account) (old new : Content) → IsConsistent old → IsConsistent new → IsChange r f old new
     → (stored_of new ≡ with_accounts (changed_if_there f (accounts_of old) r) (stored_of old)) × (are_right new ≡ are_right old)
-changed-there r f old new whole after it = (
-  account-changed r f old new whole after it ∙ ap (λ o. with_accounts (insert (accounts_of old) r (f (unwrap_or o empty_account))) (stored_of old)) it.there.1
+changed-there r f old new consistent after it = (
+  account-changed r f old new consistent after it ∙ ap (λ o. with_accounts (insert (accounts_of old) r (f (unwrap_or o empty_account))) (stored_of old)) it.there.1
       ∙ sym (ap (λ o. with_accounts (put (accounts_of old) r (option_map f o)) (stored_of old)) it.there.1),
-  right-kept r f old new whole after it,
+  right-kept r f old new consistent after it,
 )

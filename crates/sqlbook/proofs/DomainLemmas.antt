@@ -16,7 +16,7 @@ use Rattle.sqltables.specs.Account as account_table
 use Rattle.sqltables.specs.Content.{Content}
 use Rattle.sqltables.specs.Domain as table
 use Rattle.sqltables.specs.Meta.{Meta}
-use Rattle.sqltables.specs.inner.Whole.{IsWhole}
+use Rattle.sqltables.specs.inner.Consistent.{IsConsistent}
 use Rattle.sqlaccounts.specs.Accounts.{accounts_of, row_of, sums_are_right}
 use Rattle.sqldomains.specs.inner.Changes.{IsDomainPut}
 use Rattle.sqldomains.specs.Domains.{domain_of, domains_of}
@@ -36,7 +36,7 @@ use Rattle.sqlbook.proofs.ObjectLemmas.{same-put}
 -- ---- a domain put
 
 -- What was there under the name had a right column, if it was there, and so has what is there now.
-module _ (name : List ℕ) (before after : Option Domain) (due : Option ℕ) (old mid new : Content) (whole : IsWhole old) (counted : IsRecounted before after old mid) (there : get (domains_of old) name ≡ before)
+module _ (name : List ℕ) (before after : Option Domain) (due : Option ℕ) (old mid new : Content) (consistent : IsConsistent old) (counted : IsRecounted before after old mid) (there : get (domains_of old) name ≡ before)
     (it : IsDomainPut name after due mid new)
     (was : (days : Schedule) → days_of old ≡ Some days → (row : table.Domain) → Has old.domains row → row.name ≡ name → is_due_right days old row ≡ true)
     (is : (days : Schedule) → days_of old ≡ Some days → (row : table.Domain) → Has new.domains row → row.name ≡ name → is_due_right days new row ≡ true) where
@@ -85,7 +85,7 @@ module _ (name : List ℕ) (before after : Option Domain) (due : Option ℕ) (ol
   alike-ident (Some a) (Some b) e = ap (λ (r : account_table.Account). Some r.ident) e
 
   ids-mid : ids_in mid.accounts ≡ ids_in old.accounts
-  ids-mid = same-ids mid.accounts old.accounts it.whole.0.keyed.accounts whole.keyed.accounts (λ id. alike-ident (row_of old id) (row_of mid id) (counted.rows id)) []
+  ids-mid = same-ids mid.accounts old.accounts it.consistent.0.keyed.accounts consistent.keyed.accounts (λ id. alike-ident (row_of old id) (row_of mid id) (counted.rows id)) []
 
   terms-mid : terms_of new ≡ terms_of old
   terms-mid =

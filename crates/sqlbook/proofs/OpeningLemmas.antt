@@ -9,7 +9,7 @@ use Rattle.sqltables.specs.Account as table
 use Rattle.sqltables.specs.Content.{Content}
 use Rattle.sqltables.specs.Readiness.{may_be_numbered}
 use Rattle.sqltables.specs.Meta.{Meta}
-use Rattle.sqltables.specs.inner.Whole.{IsWhole}
+use Rattle.sqltables.specs.inner.Consistent.{IsConsistent}
 use Rattle.sqlaccounts.specs.Accounts.{row_of}
 use Rattle.sqlaccounts.specs.inner.Changes.{IsOpened, opened_row}
 use Rattle.sqldomains.specs.Domains.{domains_of}
@@ -78,7 +78,7 @@ get-filter (row ∷ rows) id up = go (is_named row) (int_eq row.id id) refl refl
         more ∙ ap if_named (ap (get_by key rows) (sym (same_int row.id id f)) ∙ not-there row.id rows up.0) ∙ sym (ap (λ t. cond t (Some row) None) e)
     go false false e f more = more
 
-module _ (r : ℕ) (old new : Content) (whole : IsWhole old) (after : IsWhole new) (it : IsOpened r old new) where
+module _ (r : ℕ) (old new : Content) (consistent : IsConsistent old) (after : IsConsistent new) (it : IsOpened r old new) where
   own-named : (o : Option table.Account) → ident_in (if_named (Some (unwrap_or o (opened_row r)))) ≡ ident_in (if_named o)
   own-named None = refl
   own-named (Some row) = refl
@@ -92,8 +92,8 @@ module _ (r : ℕ) (old new : Content) (whole : IsWhole old) (after : IsWhole ne
   ids-opened : ids_in new.accounts ≡ ids_in old.accounts
   ids-opened =
       sym (ids-named new.accounts [])
-      ∙ same-ids (named_alone new.accounts) (named_alone old.accounts) (keyed-filter new.accounts after.keyed.accounts) (keyed-filter old.accounts whole.keyed.accounts)
-      (λ id. ap ident_in (get-filter new.accounts id after.keyed.accounts) ∙ named-at id (int_eq (pos r) id) refl ∙ sym (ap ident_in (get-filter old.accounts id whole.keyed.accounts))) []
+      ∙ same-ids (named_alone new.accounts) (named_alone old.accounts) (keyed-filter new.accounts after.keyed.accounts) (keyed-filter old.accounts consistent.keyed.accounts)
+      (λ id. ap ident_in (get-filter new.accounts id after.keyed.accounts) ∙ named-at id (int_eq (pos r) id) refl ∙ sym (ap ident_in (get-filter old.accounts id consistent.keyed.accounts))) []
       ∙ ids-named old.accounts []
 
   terms-opened : terms_of new ≡ terms_of old
@@ -107,7 +107,7 @@ module _ (r : ℕ) (old new : Content) (whole : IsWhole old) (after : IsWhole ne
   dues-opened = λ i. dues_are_right (record new { metas = it.others.metas i; days = it.others.days i; contacts = it.others.contacts i; domains = it.others.domains i; hosts = it.others.hosts i; links = it.others.links i; transfers = it.others.transfers i })
 
   pub opening-right : are_right new ≡ are_right old
-  opening-right = λ i. may_be_numbered (it.others.metas i) && (it.sums i && (opening-kept old new r whole it i && (dues-opened i && sponsors-kept old new it.others.hosts it.others.domains i)))
+  opening-right = λ i. may_be_numbered (it.others.metas i) && (it.sums i && (opening-kept old new r consistent it i && (dues-opened i && sponsors-kept old new it.others.hosts it.others.domains i)))
 
   pub opening-changed : stored_of new ≡ account_opened r (stored_of old)
   opening-changed = λ i. record {

@@ -48,14 +48,14 @@ found-again : (new : StateOf Content) (refused : ℕ) (left : Remains Content) �
     → rows.IsFoundAgain left.readiness left.content new.readiness new.content → IsFoundAgain left.readiness (stored_of left.content) (book_state (as_book stored_of are_right new) refused)
 found-again new refused left right clean home found = go left.readiness found
   where
-    whole : new.content ≡ left.content → (new.is_clean && are_right new.before) ≡ true
-    whole same = ap (λ b. b && are_right new.before) clean ∙ ap are_right (home ∙ same) ∙ right
+    consistent : new.content ≡ left.content → (new.is_clean && are_right new.before) ≡ true
+    consistent same = ap (λ b. b && are_right new.before) clean ∙ ap are_right (home ∙ same) ∙ right
 
     go : (r : Ready) → rows.IsFoundAgain r left.content new.readiness new.content → IsFoundAgain r (stored_of left.content) (book_state (as_book stored_of are_right new) refused)
-    go Empty it = record { ready = it.0; content = ap stored_of it.1; clean = whole it.1 }
+    go Empty it = record { ready = it.0; content = ap stored_of it.1; clean = consistent it.1 }
     go Used it = λ terms some.
         let same = it (numbered-if left.content terms left.content.metas refl (and_parts (may_be_numbered left.content.metas) _ right).0 some) in
-        record { ready = same.0; content = ap stored_of same.1; clean = whole same.1 }
+        record { ready = same.0; content = ap stored_of same.1; clean = consistent same.1 }
     go Other it = tt
 
 -- From one run to the next: what a crash might have left of a book is found, where the database that is

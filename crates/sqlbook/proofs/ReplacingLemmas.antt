@@ -19,7 +19,7 @@ use Rattle.sqltables.specs.Readiness.{may_be_numbered}
 use Rattle.sqltables.specs.Domain as table
 use Rattle.sqltables.specs.inner.Domain as inner_table
 use Rattle.sqltables.specs.Host as host_table
-use Rattle.sqltables.specs.inner.Whole.{IsWhole}
+use Rattle.sqltables.specs.inner.Consistent.{IsConsistent}
 use Rattle.sqlrows.specs.Read.{first_read, or_else}
 use Rattle.sqldomains.specs.Domains.{domain_of, domains_of}
 use Rattle.sqldomains.specs.inner.Changes.{IsDomainPut, sponsor_in}
@@ -48,9 +48,9 @@ days-are (Some d) days these is e = sym (same_some d days e) ∙ is
 
 -- ---- what the row of a name reads as
 
-reading-is : (xs : Content) (row : table.Domain) → IsWhole xs → Has xs.domains row → domain_of xs row ≡ get (domains_of xs) row.name
-reading-is xs row whole there =
-    let alone = only_named inner_table.domains.key (λ (r : table.Domain). r.name) xs.domains row whole.keyed.domains whole.named.domains there in
+reading-is : (xs : Content) (row : table.Domain) → IsConsistent xs → Has xs.domains row → domain_of xs row ≡ get (domains_of xs) row.name
+reading-is xs row consistent there =
+    let alone = only_named inner_table.domains.key (λ (r : table.Domain). r.name) xs.domains row consistent.keyed.domains consistent.named.domains there in
     sym (alone-read (domain_of xs row)) ∙ sym (ap (first_read (domain_of xs)) alone) ∙ domain-named xs row.name
   where
     alone-read : (o : Option Domain) → or_else o None ≡ o
@@ -92,7 +92,7 @@ module _ (name : List ℕ) (days : Schedule) (after : Option Domain) (due : ℕ)
   was these e row here named = ap (λ ds. is_due_right ds moved row) (days-are (days_of moved) these days there.checked.days_are e) ∙ there.checked.due row here named
 
   reads-after : (row : table.Domain) → Has new.domains row → row.name ≡ name → domain_of new row ≡ after
-  reads-after row here named = reading-is new row put-it.whole.1 here ∙ ap (get (domains_of new)) named ∙ ap (λ m. get m name) put-it.domains ∙ get-put (domains_of there.exchanged.mid) name after
+  reads-after row here named = reading-is new row put-it.consistent.1 here ∙ ap (get (domains_of new)) named ∙ ap (λ m. get m name) put-it.domains ∙ get-put (domains_of there.exchanged.mid) name after
 
   early-enough : (row : table.Domain) → Has new.domains row → row.name ≡ name → (o : Option Domain) → after ≡ o → option_map_or (λ d. int_le row.due (pos (due_at (rules_with days) d))) o true ≡ true
   early-enough row here named None e = refl
@@ -137,7 +137,7 @@ module _ (name : List ℕ) (days : Schedule) (after : Option Domain) (due : ℕ)
   }
 
   others-right : (sums_are_right new && (helds_are_right new && dues_are_right new)) ≡ (sums_are_right old && (helds_are_right old && dues_are_right old))
-  others-right = domain-right name there.before after (due_with after due) moved there.exchanged.mid new there.whole there.exchanged.counted there.checked.domain_is put-it was is ∙ sums-moved
+  others-right = domain-right name there.before after (due_with after due) moved there.exchanged.mid new there.consistent there.exchanged.counted there.checked.domain_is put-it was is ∙ sums-moved
 
   sponsors-right : sponsors_are_right new ≡ sponsors_are_right old
   sponsors-right = domain-sponsors name after (due_with after due) old moved there.exchanged.mid new it.followed there.exchanged.counted.rest put-it
@@ -157,7 +157,7 @@ module _ (name : List ℕ) (days : Schedule) (after : Option Domain) (due : ℕ)
       split xs = three (sums_are_right xs) (helds_are_right xs) (dues_are_right xs) (sponsors_are_right xs)
 
   pub replaced : stored_of new ≡ domain_put name after (stored_of old)
-  replaced = domain-changed name there.before after (due_with after due) moved there.exchanged.mid new there.whole there.exchanged.counted there.checked.domain_is put-it was is ∙ ap (domain_put name after) stored-moved
+  replaced = domain-changed name there.before after (due_with after due) moved there.exchanged.mid new there.consistent there.exchanged.counted there.checked.domain_is put-it was is ∙ ap (domain_put name after) stored-moved
 
   pub replaced-days : days_of new ≡ days_of old
   replaced-days = λ i. days_of (record new {

@@ -26,9 +26,9 @@ pub fn open_account<S: Alter>(
     ensures { MakesAs result stored_of are_right (tables.account_opened registrar
         (stored_of store.old.content)) store.old store.new }
 {
-    store.show_whole();
+    store.show_consistent();
     sqlaccounts::open_account(store, alloc, registrar)?;
-    store.show_whole();
+    store.show_consistent();
     Ok(())
 }
 
@@ -42,9 +42,9 @@ pub fn set_counters<S: Alter>(
     ensures { MakesAs result stored_of are_right (tables.counters_set registrar counters
         (stored_of store.old.content)) store.old store.new }
 {
-    store.show_whole();
+    store.show_consistent();
     sqlaccounts::set_counters(store, registrar, counters)?;
-    store.show_whole();
+    store.show_consistent();
     Ok(())
 }
 
@@ -63,11 +63,11 @@ pub fn add_line<S: Alter>(
         (graces.maybe_grace_end (days_of store.old.content) line)) store.old.content.lines
         store.new.content.lines) }
 {
-    store.show_whole();
+    store.show_consistent();
     let days = sqlterms::days(store, alloc)?;
     let ends = maybe_grace_end(&line, &days);
     sqlaccounts::add_line(store, registrar, line, ends)?;
-    store.show_whole();
+    store.show_consistent();
     Ok(())
 }
 
@@ -81,9 +81,9 @@ pub fn take_line<S: Alter>(
     ensures { MakesAs result stored_of are_right (tables.line_taken registrar line
         (stored_of store.old.content)) store.old store.new }
 {
-    store.show_whole();
+    store.show_consistent();
     sqlaccounts::take_line(store, registrar, line)?;
-    store.show_whole();
+    store.show_consistent();
     Ok(())
 }
 
@@ -98,9 +98,9 @@ pub fn put_message<S: Alter>(
     ensures { MakesAs result stored_of are_right (tables.message_put registrar message
         (stored_of store.old.content)) store.old store.new }
 {
-    store.show_whole();
+    store.show_consistent();
     sqlaccounts::put_message(store, alloc, registrar, message)?;
-    store.show_whole();
+    store.show_consistent();
     Ok(())
 }
 
@@ -115,8 +115,8 @@ pub fn take_message<S: Alter>(
     ensures { MakesAs result stored_of are_right (tables.message_taken registrar message
         (stored_of store.old.content)) store.old store.new }
 {
-    store.show_whole();
+    store.show_consistent();
     sqlaccounts::take_message(store, alloc, registrar, message)?;
-    store.show_whole();
+    store.show_consistent();
     Ok(())
 }

@@ -104,7 +104,7 @@ fn exchange_there<S: Alter>(
     ensures { Changes result (IsExchangedThere name.now policy.now.days after.now due) store.old
         store.new }
 {
-    store.show_whole();
+    store.show_consistent();
     let before = found(store, alloc, name, policy)?;
     let exchanged = exchange(store, alloc, name, &before, after, due);
     drop(before);

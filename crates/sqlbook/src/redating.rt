@@ -118,7 +118,7 @@ fn exchange_there<S: Alter>(
     requires { store.old.is_open ≡ true }
     ensures { Changes result (IsExchangedThere name.now days.now after.now due) store.old store.new }
 {
-    store.show_whole();
+    store.show_consistent();
     let before = found(store, alloc, name, days)?;
     let exchanged = exchange(store, alloc, name, &before, after, due);
     drop(before);

@@ -66,14 +66,14 @@ module _ {K X : Type 0} (p : X → Bool) where
     pub count-insert : (m : FinMap R X) (k : K) (x : X) → count p (values (insert m k x)) + counts_where p (get m k) ≡ count p (values m) + counts_one (p x)
     count-insert m k x = sums _ _ _ _ _ (apart m k) (added m k x)
       where
-        sums : (whole new rest old more : ℕ) → whole + 0 ≡ rest + old → new + 0 ≡ rest + more → new + old ≡ whole + more
-        sums whole new rest old more e f = omega arith
+        sums : (consistent new rest old more : ℕ) → consistent + 0 ≡ rest + old → new + 0 ≡ rest + more → new + old ≡ consistent + more
+        sums consistent new rest old more e f = omega arith
 
     pub count-remove : (m : FinMap R X) (k : K) → count p (values (remove m k)) + counts_where p (get m k) ≡ count p (values m)
     count-remove m k = sums _ _ _ (apart m k)
       where
-        sums : (whole rest old : ℕ) → whole + 0 ≡ rest + old → rest + old ≡ whole
-        sums whole rest old e = omega arith
+        sums : (consistent rest old : ℕ) → consistent + 0 ≡ rest + old → rest + old ≡ consistent
+        sums consistent rest old e = omega arith
 
 -- of what stands under names
 module _ {X : Type 0} (p : X → Bool) where

@@ -32,7 +32,7 @@ use Rattle.sqltables.specs.Domain as domain_table
 use Rattle.sqltables.specs.inner.Domain as inner_domain_table
 use Rattle.sqltables.specs.inner.Due.{is_due_by}
 use Rattle.sqltables.specs.Transfer.{transfer_with_contact}
-use Rattle.sqltables.specs.inner.Whole.{IsWhole}
+use Rattle.sqltables.specs.inner.Consistent.{IsConsistent}
 use Rattle.sqlrows.specs.Read.{first_read, or_else}
 use Rattle.sqlobjects.specs.Objects.{contact_of, contacts_of, last_transfer}
 use Rattle.sqlobjects.proofs.NameLemmas.{contact-named}
@@ -113,9 +113,9 @@ contact-row xs row c e =
       due = ap (λ (x : Contact). maybe_due_column x.transfer) (sym due.1) ∙ same_is_equal (maybe_due_column transfer.given) row.due due.0;
     }
 
-pub contact-stands : (xs : Content) (row : contact_table.Contact) (c : Contact) → IsWhole xs → Has xs.contacts row → contact_of xs row ≡ Some c → get (contacts_of xs) row.name ≡ Some c
-contact-stands xs row c whole there reads =
-    sym (contact-named xs row.name) ∙ ap (first_read (contact_of xs)) (only_named contact_table.contacts.key (λ (r : contact_table.Contact). r.name) xs.contacts row whole.keyed.contacts whole.named.contacts there) ∙ ap (λ o. or_else o None) reads
+pub contact-stands : (xs : Content) (row : contact_table.Contact) (c : Contact) → IsConsistent xs → Has xs.contacts row → contact_of xs row ≡ Some c → get (contacts_of xs) row.name ≡ Some c
+contact-stands xs row c consistent there reads =
+    sym (contact-named xs row.name) ∙ ap (first_read (contact_of xs)) (only_named contact_table.contacts.key (λ (r : contact_table.Contact). r.name) xs.contacts row consistent.keyed.contacts consistent.named.contacts there) ∙ ap (λ o. or_else o None) reads
 
 pub contact-under : (xs : Content) (n : List ℕ) (c : Contact) → get (contacts_of xs) n ≡ Some c → (row : contact_table.Contact) × Has xs.contacts row × (contact_of xs row ≡ Some c) × (row.name ≡ n)
 contact-under xs n c e =
@@ -150,11 +150,11 @@ contact-asked xs t row c d there reads due =
     sorted-has (by_then_key contact_table.contacts contact_table.by_due) (filter (contact_table.contact_within_due (pos t)) xs.contacts) row
     (filter-has (contact_table.contact_within_due (pos t)) xs.contacts row there (contact-within xs t row c d reads due))
 
-pub contacts-found : (xs : Content) (t : ℕ) (found : List Due) → IsWhole xs → spec.with_rows (spec.contact_in t xs) [] (spec.contacts_until t xs) ≡ Some found → found ≡ found_due (contact_due t) [] (entries (contacts_of xs))
-contacts-found xs t found whole e =
+pub contacts-found : (xs : Content) (t : ℕ) (found : List Due) → IsConsistent xs → spec.with_rows (spec.contact_in t xs) [] (spec.contacts_until t xs) ≡ Some found → found ≡ found_due (contact_due t) [] (entries (contacts_of xs))
+contacts-found xs t found consistent e =
     found-of_rows (λ (r : contact_table.Contact). r.name) (λ (c : Contact). c.name) (contact_of xs) (contact_due t) xs.contacts (spec.contacts_until t xs) (contacts_of xs)
     (λ row c reads. (contact-row xs row c reads).name)
-    (λ row c there reads. contact-stands xs row c whole there reads)
+    (λ row c there reads. contact-stands xs row c consistent there reads)
     (contact-under xs)
     (λ row there. (has-filter (contact_table.contact_within_due (pos t)) xs.contacts row (has-sorted (by_then_key contact_table.contacts contact_table.by_due) (filter (contact_table.contact_within_due (pos t)) xs.contacts) row there)).0)
     (contact-asked xs t)
@@ -183,7 +183,7 @@ all-has test (y ∷ ys) x all there = go (test y) (list_all test ys) refl refl a
 no-later : (a b c : ℤ) → int_le a b ≡ true → int_le b c ≡ true → int_le a c ≡ true
 no-later a b c e f = grind (arith, e, f)
 
-module _ (xs : Content) (p : PolicyRules) (t : ℕ) (whole : IsWhole xs) (days : days_of xs ≡ Some p.days) (right : dues_are_right xs ≡ true) where
+module _ (xs : Content) (p : PolicyRules) (t : ℕ) (consistent : IsConsistent xs) (days : days_of xs ≡ Some p.days) (right : dues_are_right xs ≡ true) where
   row-right : (row : domain_table.Domain) → Has xs.domains row → is_due_right p.days xs row ≡ true
   row-right row there = all-has (is_due_right p.days xs) xs.domains row (sym (ap (λ o. option_map_or (λ ds. list_all (is_due_right ds xs) xs.domains) o true) days) ∙ right) there
 
@@ -203,7 +203,7 @@ module _ (xs : Content) (p : PolicyRules) (t : ℕ) (whole : IsWhole xs) (days :
   domains-found found all rise e =
       found-of_rows (λ (r : domain_table.Domain). r.name) (λ (d : Domain). d.name) (domain_of xs) (domain_due p t) xs.domains (spec.domains_until t xs) (domains_of xs)
       (name-read xs)
-      (λ row d there reads. stands-there xs row d whole there reads)
+      (λ row d there reads. stands-there xs row d consistent there reads)
       (row-under xs)
       (λ row there. (has-filter (inner_domain_table.domain_within_due (pos t)) xs.domains row (has-sorted (by_then_key inner_domain_table.domains inner_domain_table.by_due) (filter (inner_domain_table.domain_within_due (pos t)) xs.domains) row there)).0)
       domain-asked
@@ -212,6 +212,6 @@ module _ (xs : Content) (p : PolicyRules) (t : ℕ) (whole : IsWhole xs) (days :
   pub all-found : (contacts all : List Due) → spec.with_rows (spec.contact_in t xs) [] (spec.contacts_until t xs) ≡ Some contacts
       → spec.with_rows (spec.domain_in p t xs) contacts (spec.domains_until t xs) ≡ Some all → all ≡ found_due (domain_due p t) (found_due (contact_due t) [] (entries (contacts_of xs))) (entries (domains_of xs))
   all-found contacts all first second =
-      let are = contacts-found xs t contacts whole first in
+      let are = contacts-found xs t contacts consistent first in
       domains-found contacts all (subst InOrder (sym are) (found-rises (contact_due t) [] (entries (contacts_of xs)) tt)) second
       ∙ ap (λ found. found_due (domain_due p t) found (entries (domains_of xs))) are

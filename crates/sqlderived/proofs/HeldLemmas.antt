@@ -10,7 +10,7 @@ use Rattle.sqlderived.specs.Held.{has_right_held, held_of, helds_are_right, is_h
 use Rattle.sqlderived.proofs.NobodyLemmas.{holds-none}
 use Rattle.sqltables.specs.Account as table
 use Rattle.sqltables.specs.Content.{Content}
-use Rattle.sqltables.specs.inner.Whole.{IsWhole}
+use Rattle.sqltables.specs.inner.Consistent.{IsConsistent}
 
 abbrev key : table.Account → ℤ
 key = table.accounts.key
@@ -32,8 +32,8 @@ exact-is n m true e = sym (ap (λ o. unwrap_or o n) e)
 exact-is n m false e = cc
 
 -- what the row says, if there is one
-pub count-found : (xs : Content) (r : ℕ) (row : Option table.Account) (n : ℕ) → IsWhole xs → is_place r ≡ true → row ≡ row_of xs (pos r) → helds_are_right xs ≡ true
+pub count-found : (xs : Content) (r : ℕ) (row : Option table.Account) (n : ℕ) → IsConsistent xs → is_place r ≡ true → row ≡ row_of xs (pos r) → helds_are_right xs ≡ true
     → exact_in (option_map_or (λ (a : table.Account). a.held) row (pos 0)) ≡ Some n → n ≡ held_of xs r
-count-found xs r None n whole place found right e = exact-is n 0 (is_exact 0) e ∙ sym (holds-none xs r whole (sym found))
-count-found xs r (Some row) n whole place found right e =
+count-found xs r None n consistent place found right e = exact-is n 0 (is_exact 0) e ∙ sym (holds-none xs r consistent (sym found))
+count-found xs r (Some row) n consistent place found right e =
     exact-is n (held_of xs r) (is_exact (held_of xs r)) (sym (ap exact_in (held-found xs r row place found right)) ∙ e)

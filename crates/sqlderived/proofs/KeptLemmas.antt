@@ -23,7 +23,7 @@ use Rattle.sqlderived.proofs.CountLemmas.{count, count-put}
 use Rattle.sqltables.specs.Account as table
 use Rattle.sqlderived.proofs.NobodyLemmas.{holds-none}
 use Rattle.sqltables.specs.Content.{Content, no_content}
-use Rattle.sqltables.specs.inner.Whole.{IsWhole}
+use Rattle.sqltables.specs.inner.Consistent.{IsConsistent}
 
 abbrev key : table.Account → ℤ
 key = table.accounts.key
@@ -157,12 +157,12 @@ change-kept r f old new it = columns-kept old new (domains-kept old new it.other
     held-of (Some a) (Some b) e = ap (λ (s : List ℕ × ℤ). Some s.1) (same_some (ident_and_held b) (ident_and_held a) e)
 
 -- an account is opened
-module _ (old new : Content) (r : ℕ) (whole : IsWhole old) (it : IsOpened r old new) where
+module _ (old new : Content) (r : ℕ) (consistent : IsConsistent old) (it : IsOpened r old new) where
   opened-held : held_of new r ≡ held_of old r
   opened-held = same-held old new (domains-kept old new it.others) r
 
   own-right : (p : Bool) → row_of old (pos r) ≡ None → option_map_or (λ q. int_eq (pos 0) (pos (held_of new q))) (cond p (Some r) None) true ≡ true
-  own-right true none = equal (pos 0) (pos (held_of new r)) (ap pos (sym (opened-held ∙ holds-none old r whole none)))
+  own-right true none = equal (pos 0) (pos (held_of new r)) (ap pos (sym (opened-held ∙ holds-none old r consistent none)))
   own-right false none = refl
 
   opened-own : (o : Option table.Account) → row_of old (pos r) ≡ o → has_right_held new (pos r) ≡ option_map_or (is_held_right old) o true

@@ -48,7 +48,7 @@ use Rattle.sqltables.specs.inner.Due.{falls_due, is_due_by}
 use Rattle.sqltables.specs.Host as host_table
 use Rattle.sqltables.specs.Link as link_table
 use Rattle.sqltables.specs.Transfer as transfer_table
-use Rattle.sqltables.specs.inner.Whole.{IsWhole}
+use Rattle.sqltables.specs.inner.Consistent.{IsConsistent}
 use Rattle.sqltables.proofs.RowLemmas.{bytes_same}
 use Rattle.sqlobjects.specs.Objects.{contact_of, contacts_of, last_transfer}
 use Rattle.sqlobjects.proofs.PutLemmas.{filter-has, has-filter}
@@ -292,11 +292,11 @@ module _ (xs : Content) (t : ℕ) (g : Names) (row : contact_table.Contact) (c :
       (contact-at-stake q c.transfer refl)
       (or_cases (c.sponsor == q) (is_at_stake q c.transfer) e)
 
-  pub contact-near : (r : Option ℕ) → IsWhole xs → (concerned_in r g xs).contacts row.name ≡ true → Has (contacts_near r g t xs) row
-  contact-near r whole e =
+  pub contact-near : (r : Option ℕ) → IsConsistent xs → (concerned_in r g xs).contacts row.name ≡ true → Has (contacts_near r g t xs) row
+  contact-near r consistent e =
       ⊎_elim
       (λ named. contact-by-name r (meant-has contact_name (contacts_of xs) (contact-name-is xs) g.contacts row.name named))
-      (λ about. contact-about r (sym (ap (holds_of (λ (x : Contact). is_about r x.sponsor x.transfer)) (contact-stands xs row c whole there reads)) ∙ about))
+      (λ about. contact-about r (sym (ap (holds_of (λ (x : Contact). is_about r x.sponsor x.transfer)) (contact-stands xs row c consistent there reads)) ∙ about))
       (or_cases (has_name (meant contact_name (contacts_of xs) g.contacts) row.name) (holds_of (λ (x : Contact). is_about r x.sponsor x.transfer) (get (contacts_of xs) row.name)) e)
 
 -- ---- a domain that is concerned
@@ -424,11 +424,11 @@ module _ (xs : Content) (t : ℕ) (g : Names) (row : domain_table.Domain) (d : D
       let y = list_any (λ host. names_host host d.links) g.hosts in
       ⊎_elim (domain-about r) (λ rest. ⊎_elim (domain-by-roid r) (λ more. ⊎_elim (domain-by-contact r) (domain-by-host r) (or_cases x y more)) (or_cases b (x || y) rest)) (or_cases a (b || (x || y)) e)
 
-  pub domain-near : (r : Option ℕ) → IsWhole xs → (concerned_in r g xs).domains row.name ≡ true → Has (domains_near r g t xs) row
-  domain-near r whole e =
+  pub domain-near : (r : Option ℕ) → IsConsistent xs → (concerned_in r g xs).domains row.name ≡ true → Has (domains_near r g t xs) row
+  domain-near r consistent e =
       ⊎_elim
       (λ named. domain-by-name r (meant-has domain_name (domains_of xs) (domain-name-is xs) g.domains row.name named))
-      (λ concerned. domain-concerned r (sym (ap (holds_of (concerns_domain r g (read_at domain_roid (domains_of xs) g.domains))) (stands-there xs row d whole there reads)) ∙ concerned))
+      (λ concerned. domain-concerned r (sym (ap (holds_of (concerns_domain r g (read_at domain_roid (domains_of xs) g.domains))) (stands-there xs row d consistent there reads)) ∙ concerned))
       (or_cases (has_name (meant domain_name (domains_of xs) g.domains) row.name) (holds_of (concerns_domain r g (read_at domain_roid (domains_of xs) g.domains)) (get (domains_of xs) row.name)) e)
 
 -- ---- all of them
@@ -441,7 +441,7 @@ picked-domain : (xs : Content) (r : Option ℕ) (g : Names) (n : List ℕ) (o : 
 picked-domain xs r g n None d e picked = cc
 picked-domain xs r g n (Some m) d e picked = ap (is_picked (concerned_in r g xs)) (same_some _ d e) ∙ picked
 
-module _ (xs : Content) (p : PolicyRules) (t : ℕ) (r : Option ℕ) (g : Names) (whole : IsWhole xs) (days : days_of xs ≡ Some p.days) (right : dues_are_right xs ≡ true) where
+module _ (xs : Content) (p : PolicyRules) (t : ℕ) (r : Option ℕ) (g : Names) (consistent : IsConsistent xs) (days : days_of xs ≡ Some p.days) (right : dues_are_right xs ≡ true) where
   abbrev pick : Due → Bool
   pick = is_picked (concerned_in r g xs)
 
@@ -456,7 +456,7 @@ module _ (xs : Content) (p : PolicyRules) (t : ℕ) (r : Option ℕ) (g : Names)
     contacts-forth d has =
         objects-found (λ (x : contact_table.Contact). x.name) (λ (c : Contact). c.name) (contact_of xs) (contact_due t) xs.contacts (contacts_asked r g t xs) (contacts_of xs)
         (λ row c reads. (contact-row xs row c reads).name)
-        (λ row c there reads. contact-stands xs row c whole there reads)
+        (λ row c there reads. contact-stands xs row c consistent there reads)
         (λ row has. contact-there xs r g t row (in-filter (contact_table.contact_within_due (pos t)) (contacts_near r g t xs) row has))
         [] [] (λ other none. none) d (subst (λ l. Has l d) contacts-are has)
 
@@ -467,7 +467,7 @@ module _ (xs : Content) (p : PolicyRules) (t : ℕ) (r : Option ℕ) (g : Names)
         (contact-under xs)
         (λ row c due there reads is chosen.
         let within = contact-within xs t row c due reads is in
-        filter-has (contact_table.contact_within_due (pos t)) (contacts_near r g t xs) row (contact-near xs t g row c there reads within r whole (picked-contact xs r g row.name _ due is chosen)) within)
+        filter-has (contact_table.contact_within_due (pos t)) (contacts_near r g t xs) row (contact-near xs t g row c there reads within r consistent (picked-contact xs r g row.name _ due is chosen)) within)
         [] [] (λ other chosen none. none) d picked has)
 
     pub near-found : (all : List Due) → spec.with_rows (spec.domain_in p t xs) contacts (domains_asked r g t xs) ≡ Some all
@@ -480,7 +480,7 @@ module _ (xs : Content) (p : PolicyRules) (t : ℕ) (r : Option ℕ) (g : Names)
         (λ d picked has.
         objects-found (λ (x : domain_table.Domain). x.name) (λ (c : Domain). c.name) (domain_of xs) (domain_due p t) xs.domains (domains_asked r g t xs) (domains_of xs)
         (name-read xs)
-        (λ row c there reads. stands-there xs row c whole there reads)
+        (λ row c there reads. stands-there xs row c consistent there reads)
         (λ row has. domain-there xs r g t row (in-filter (inner_domain_table.domain_within_due (pos t)) (domains_near r g t xs) row has))
         contacts all_contacts contacts-forth d (subst (λ l. Has l d) are has))
         (λ d picked has.
@@ -488,8 +488,8 @@ module _ (xs : Content) (p : PolicyRules) (t : ℕ) (r : Option ℕ) (g : Names)
         (name-read xs)
         (row-under xs)
         (λ row c due there reads is chosen.
-        let within = domain-within xs p t whole days right row c due there reads is in
-        filter-has (inner_domain_table.domain_within_due (pos t)) (domains_near r g t xs) row (domain-near xs t g row c there reads within r whole (picked-domain xs r g row.name _ due is chosen)) within)
+        let within = domain-within xs p t consistent days right row c due there reads is in
+        filter-has (inner_domain_table.domain_within_due (pos t)) (domains_near r g t xs) row (domain-near xs t g row c there reads within r consistent (picked-domain xs r g row.name _ due is chosen)) within)
         contacts all_contacts contacts-back d picked has))
 
 -- ---- nothing
@@ -499,11 +499,11 @@ any-of [] e = refl
 any-of (row ∷ rows) e = cc
 
 -- where nothing is due by the columns of rows, nothing is
-pub nothing-due : (xs : Content) (p : PolicyRules) (t : ℕ) → IsWhole xs → days_of xs ≡ Some p.days → dues_are_right xs ≡ true → is_behind t xs ≡ false
+pub nothing-due : (xs : Content) (p : PolicyRules) (t : ℕ) → IsConsistent xs → days_of xs ≡ Some p.days → dues_are_right xs ≡ true → is_behind t xs ≡ false
     → [] ≡ found_due (domain_due p t) (found_due (contact_due t) [] (entries (contacts_of xs))) (entries (domains_of xs))
-nothing-due xs p t whole days right still =
+nothing-due xs p t consistent days right still =
     let both = or_parts (is_any (take 1 (spec.contacts_until t xs))) (is_any (take 1 (spec.domains_until t xs))) still in
-    all-found xs p t whole days right [] []
+    all-found xs p t consistent days right [] []
     (ap (spec.with_rows (spec.contact_in t xs) []) (any-of (spec.contacts_until t xs) both.0))
     (ap (spec.with_rows (spec.domain_in p t xs) []) (any-of (spec.domains_until t xs) both.1))
 
@@ -548,7 +548,7 @@ near-told s a b c d e p r g m pending first second cfound crows contacts dfound 
     )
 
 module _ (s a b : StateOf Content) (p : PolicyRules) (r : Option ℕ) (g : Names) (m : ℕ) (behind : Bool)
-    (days : Reads s a × (a.is_clean ≡ true → days_of s.content ≡ Some p.days)) (whole : a.is_clean ≡ true → IsWhole a.content) (asked : Reads a b × (b.is_clean ≡ true → behind ≡ is_behind m a.content)) where
+    (days : Reads s a × (a.is_clean ≡ true → days_of s.content ≡ Some p.days)) (consistent : a.is_clean ≡ true → IsConsistent a.content) (asked : Reads a b × (b.is_clean ≡ true → behind ≡ is_behind m a.content)) where
   abbrev chosen : Due → Bool
   chosen = is_picked (concerned_in r g s.content)
 
@@ -558,7 +558,7 @@ module _ (s a b : StateOf Content) (p : PolicyRules) (r : Option ℕ) (g : Names
     λ clean right.
         let at_a = asked.0.clean clean in
         let same = days.0.content at_a in
-        ap (filter chosen) (none ∙ nothing-due s.content p m (subst IsWhole same (whole at_a)) (days.1 at_a) right (sym (ap (is_behind m) same) ∙ sym (asked.1 clean) ∙ still)),
+        ap (filter chosen) (none ∙ nothing-due s.content p m (subst IsConsistent same (consistent at_a)) (days.1 at_a) right (sym (ap (is_behind m) same) ∙ sym (asked.1 clean) ∙ still)),
   )
 
   pub near-picked : (c : StateOf Content) (found : Result (List Due) BookFault) → FindsSome found (IsFoundNear p r g m b.content) b c → FindsSome found (λ due. dues_are_right s.content ≡ true → HasAllNear p r g m s.content due) s c
@@ -570,5 +570,5 @@ module _ (s a b : StateOf Content) (p : PolicyRules) (r : Option ℕ) (g : Names
             let at_b = met.0.clean clean in
             let at_a = asked.0.clean at_b in
             let it : IsFoundNear p r g m s.content due = subst (λ xs. IsFoundNear p r g m xs due) (sb.content at_b) (met.1 clean) in
-            near-found s.content p m r g (subst IsWhole (days.0.content at_a) (whole at_a)) (days.1 at_a) right it.contacts it.first due it.second,
+            near-found s.content p m r g (subst IsConsistent (days.0.content at_a) (consistent at_a)) (days.1 at_a) right it.contacts it.first due it.second,
       )

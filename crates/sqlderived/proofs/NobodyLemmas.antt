@@ -25,7 +25,7 @@ use Rattle.sqltables.specs.Content.{Content}
 use Rattle.sqltables.specs.Domain as table
 use Rattle.sqltables.specs.Transfer as transfer_table
 use Rattle.sqltables.specs.Transfer.{transfer_with_domain}
-use Rattle.sqltables.specs.inner.Whole.{IsWhole}
+use Rattle.sqltables.specs.inner.Consistent.{IsConsistent}
 
 -- ---- what a domain's rows refer to
 
@@ -68,7 +68,7 @@ there (z ∷ ys) y id h e none = go (int_eq z.id id) refl h none (λ k. there ys
     go false at (inl k) n later = let here : true ≡ false = sym (equal z.id id (ap (λ (a : account_table.Account). a.id) (sym k) ∙ e)) ∙ at in cc
     go false at (inr k) n later = later k n
 
-module _ (xs : Content) (r : ℕ) (whole : IsWhole xs) (none : row_of xs (pos r) ≡ None) where
+module _ (xs : Content) (r : ℕ) (consistent : IsConsistent xs) (none : row_of xs (pos r) ≡ None) where
   -- whom a column refers to is another
   another : (column : ℤ) (q : ℕ) → registrar_in column ≡ Some q → (y : account_table.Account) × Has xs.accounts y × (y.id ≡ column) → (q == r) ≡ false
   another column q reads leads = go (q == r) refl
@@ -85,7 +85,7 @@ module _ (xs : Content) (r : ℕ) (whole : IsWhole xs) (none : row_of xs (pos r)
       go None is e = cc
       go (Some t) is e =
           ap (is_incoming r) (sym (same_some (Some t) o e))
-          ∙ ap (λ b. is_pending_state t.state && b) (another row.requester t.requester (requested row t is) (whole.linked.transfer_requester row (among row (inl refl)) row.requester refl))
+          ∙ ap (λ b. is_pending_state t.state && b) (another row.requester t.requester (requested row t is) (consistent.linked.transfer_requester row (among row (inl refl)) row.requester refl))
           ∙ and-false (is_pending_state t.state)
   no-incoming (row ∷ next ∷ rows) o e among = cc
 
@@ -93,7 +93,7 @@ module _ (xs : Content) (r : ℕ) (whole : IsWhole xs) (none : row_of xs (pos r)
   unheld row d here reads =
       let it = parts xs row d reads in
       let rows = filter (transfer_with_domain row.id) xs.transfers in
-      ap (λ b. b || is_incoming r d.transfer) (another row.sponsor d.sponsor it.sponsor (whole.linked.domain_sponsor row here row.sponsor refl))
+      ap (λ b. b || is_incoming r d.transfer) (another row.sponsor d.sponsor it.sponsor (consistent.linked.domain_sponsor row here row.sponsor refl))
       ∙ no-incoming rows d.transfer it.transfer (λ x h. (has-filter (transfer_with_domain row.id) xs.transfers x h).0)
 
   pub holds-none : held_of xs r ≡ 0

@@ -41,7 +41,7 @@ pub fn due<S: Alter>(
         (entries (domains_of store.old.content))) store.old store.new }
 {
     have_days(store, alloc, policy)?;
-    store.show_whole();
+    store.show_consistent();
     let contacts = contacts_due(store, alloc, moment)?;
     let found = with_domains_due(store, alloc, moment, policy, contacts)?;
     Ok(listed(alloc, found)?)

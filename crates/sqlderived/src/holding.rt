@@ -23,7 +23,7 @@ pub fn is_at_holding_limit<S: Alter>(
         (nat_le most (held_of store.old.content registrar)) store.old store.new }
 {
     let row = maybe_row(store, registrar)?;
-    store.show_whole();
+    store.show_consistent();
     match exact_of_column(held_in(row)) {
         Some(count) => Ok(most as u64 <= count),
         None => Err(BookFault::Store),

@@ -43,7 +43,7 @@ pub fn due_near<S: Alter>(
         store.new }
 {
     have_days(store, alloc, policy)?;
-    store.show_whole();
+    store.show_consistent();
     let behind = is_behind(store, moment)?;
     if !behind {
         return Ok(Seq::new(alloc));

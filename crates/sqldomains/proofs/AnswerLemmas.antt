@@ -12,7 +12,7 @@ use Rattle.sqltables.specs.Domain as table
 use Rattle.sqltables.specs.inner.Domain as inner_table
 use Rattle.sqltables.specs.Host as host_table
 use Rattle.sqltables.specs.Link.{link_with_contact, link_with_host}
-use Rattle.sqltables.specs.inner.Whole.{IsWhole}
+use Rattle.sqltables.specs.inner.Consistent.{IsConsistent}
 use Rattle.sqltables.proofs.RowLemmas.{bytes_same}
 use Rattle.sqlrows.specs.Read.{rows_of}
 use Rattle.sqlobjects.specs.Changes.{contact_name, host_name}
@@ -59,7 +59,7 @@ row-of-contact xs name id e = go (get_by contact_table.contacts.key xs.contacts 
     go None is f = cc
     go (Some row) is f = (row, has-get_by contact_table.contacts.key xs.contacts id row is, cc, key-get_by contact_table.contacts.key xs.contacts id row is)
 
-module _ (xs : Content) (name : List ℕ) (whole : IsWhole xs) where
+module _ (xs : Content) (name : List ℕ) (consistent : IsConsistent xs) where
   nowhere-contact : IsNumberOfContact xs name None → (id : ℤ) → contact_name xs id ≡ Some name → ⊥
   nowhere-contact none id e =
       let it = row-of-contact xs name id e in
@@ -68,7 +68,7 @@ module _ (xs : Content) (name : List ℕ) (whole : IsWhole xs) where
   only-contact : (id : ℤ) → IsNumberOfContact xs name (Some id) → (other : ℤ) → contact_name xs other ≡ Some name → other ≡ id
   only-contact id it other e =
       let that = row-of-contact xs name other e in
-      sym that.3 ∙ ap (λ (r : contact_table.Contact). r.id) (whole.named.contacts that.0 it.0 that.1 it.1 (that.2 ∙ sym it.2)) ∙ it.3
+      sym that.3 ∙ ap (λ (r : contact_table.Contact). r.id) (consistent.named.contacts that.0 it.0 that.1 it.1 (that.2 ∙ sym it.2)) ∙ it.3
 
   pub contact-nowhere : IsNumberOfContact xs name None → is_linked_contact xs name ≡ false
   contact-nowhere none = contact-unnamed xs name (λ row there at. nowhere-contact none row.registrant at) (λ row there leads. nowhere-contact none leads.0 leads.2)
@@ -80,7 +80,7 @@ module _ (xs : Content) (name : List ℕ) (whole : IsWhole xs) where
       (λ row there leads. subst (λ l. Has l row) none.links (filter-has (link_with_contact id) xs.links row there (subst (λ c. link_with_contact id (record row { contact = c }) ≡ true) (sym leads.1) (equal leads.0 id (only-contact id it leads.0 leads.2)))))
 
   pub contact-used : (row : table.Domain) → Has xs.domains row → Passes xs (λ d. names_contact name d.links) row → is_linked_contact xs name ≡ true
-  contact-used row there passes = one-passes xs (λ d. names_contact name d.links) whole row passes.0 there passes.1 passes.2
+  contact-used row there passes = one-passes xs (λ d. names_contact name d.links) consistent row passes.0 there passes.1 passes.2
 
 -- ---- hosts
 
@@ -101,7 +101,7 @@ row-of-host xs name id e = go (get_by host_table.hosts.key xs.hosts id) refl e
     go None is f = cc
     go (Some row) is f = (row, has-get_by host_table.hosts.key xs.hosts id row is, cc, key-get_by host_table.hosts.key xs.hosts id row is)
 
-module _ (xs : Content) (name : List ℕ) (whole : IsWhole xs) where
+module _ (xs : Content) (name : List ℕ) (consistent : IsConsistent xs) where
   pub nowhere-host : IsNumberOfHost xs name None → (id : ℤ) → host_name xs id ≡ Some name → ⊥
   nowhere-host none id e =
       let it = row-of-host xs name id e in
@@ -110,7 +110,7 @@ module _ (xs : Content) (name : List ℕ) (whole : IsWhole xs) where
   pub only-host : (id : ℤ) → IsNumberOfHost xs name (Some id) → (other : ℤ) → host_name xs other ≡ Some name → other ≡ id
   only-host id it other e =
       let that = row-of-host xs name other e in
-      sym that.3 ∙ ap (λ (r : host_table.Host). r.id) (whole.named.hosts that.0 it.0 that.1 it.1 (that.2 ∙ sym it.2)) ∙ it.3
+      sym that.3 ∙ ap (λ (r : host_table.Host). r.id) (consistent.named.hosts that.0 it.0 that.1 it.1 (that.2 ∙ sym it.2)) ∙ it.3
 
   pub host-nowhere : IsNumberOfHost xs name None → is_linked_host xs name ≡ false
   host-nowhere none = host-unnamed xs name (λ row there leads. nowhere-host none leads.0 leads.2)
@@ -121,7 +121,7 @@ module _ (xs : Content) (name : List ℕ) (whole : IsWhole xs) where
       (λ row there leads. subst (λ l. Has l row) none (filter-has (link_with_host id) xs.links row there (subst (λ h. link_with_host id (record row { host = h }) ≡ true) (sym leads.1) (equal leads.0 id (only-host id it leads.0 leads.2)))))
 
   pub host-used : (row : table.Domain) → Has xs.domains row → Passes xs (λ d. names_host name d.links) row → is_linked_host xs name ≡ true
-  host-used row there passes = one-passes xs (λ d. names_host name d.links) whole row passes.0 there passes.1 passes.2
+  host-used row there passes = one-passes xs (λ d. names_host name d.links) consistent row passes.0 there passes.1 passes.2
 
 -- ---- the same of states that are alike
 

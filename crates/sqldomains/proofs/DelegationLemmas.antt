@@ -13,7 +13,7 @@ use Rattle.objects.specs.Delegations.{delegation_of}
 use Rattle.sqlcolumns.proofs.ReadLemmas.{same_some, step}
 use Rattle.sqltables.specs.Content.{Content}
 use Rattle.sqltables.specs.Domain as table
-use Rattle.sqltables.specs.inner.Whole.{IsWhole}
+use Rattle.sqltables.specs.inner.Consistent.{IsConsistent}
 use Rattle.sqlobjects.proofs.PutLemmas.{bytes_is}
 use Rattle.sqldomains.specs.Domains.{domain_of, domains_of}
 use Rattle.sqldomains.specs.inner.Delegations.{Delegations, delegations, with_domain, with_row, with_rows}
@@ -88,13 +88,13 @@ module _ (xs : Content) where
           each other (inl same) = (d, ap (domain_of xs) same ∙ reads, more.kept d.name (delegation_of d, put-here a d))
           each other (inr later) = more.complete other later
 
-  module _ (whole : IsWhole xs) (all : Delegations) (e : with_rows xs empty xs.domains ≡ Some all) where
+  module _ (consistent : IsConsistent xs) (all : Delegations) (e : with_rows xs empty xs.domains ≡ Some all) where
     found : Gathered empty all xs.domains
     found = gathered xs.domains empty all e
 
     -- a row's domain is under its name
     there : (row : table.Domain) (d : Domain) → Has xs.domains row → domain_of xs row ≡ Some d → get (domains_of xs) d.name ≡ Some d
-    there row d has reads = ap (get (domains_of xs)) (name-read xs row d reads) ∙ stands-there xs row d whole has reads
+    there row d has reads = ap (get (domains_of xs)) (name-read xs row d reads) ∙ stands-there xs row d consistent has reads
 
     given : (n : List ℕ) (y : Delegation) → (get (empty {X = Delegation} {R = slice_cmp nat_cmp}) n ≡ Some y) ⊎ IsGiven xs.domains n y → option_map delegation_of (get (domains_of xs) n) ≡ Some y
     given n y (inl none) = absurd-none (sym (get-empty (slice_cmp nat_cmp) n) ∙ none)

@@ -23,7 +23,7 @@ use Rattle.sqltables.specs.Domain as table
 use Rattle.sqltables.specs.inner.Domain as inner_table
 use Rattle.sqltables.specs.Link.{link_with_domain}
 use Rattle.sqltables.specs.Transfer.{transfer_with_contact, transfer_with_domain}
-use Rattle.sqltables.specs.inner.Whole.{IsWhole}
+use Rattle.sqltables.specs.inner.Consistent.{IsConsistent}
 use Rattle.sqltables.proofs.RowLemmas.{bytes_same}
 use Rattle.sqlrows.specs.Read.{named, rows_of}
 use Rattle.sqlobjects.specs.Changes.{contact_name, host_name}
@@ -69,8 +69,8 @@ module _ (xs ys : Content) (id : ℤ) (kept : AreOtherPartsKept id xs ys) where
       → ((r : table.Domain) → Has xs.domains r → Has ys.domains r → bytes_eq r.name name ≡ false → int_eq id r.id ≡ false)
       → ((r : table.Domain) → Has ys.domains r → r.name ≡ name → Some r.due ≡ option_map moment_column due)
       → ((r : table.Domain) → Has ys.domains r → r.name ≡ name → Some r.sponsor ≡ maybe_registrar_column (sponsor_in value))
-      → IsWhole xs → IsWhole ys → IsDomainPut name value due xs ys
-  assembled name value due stands others other_number due_then sponsor_then whole after = record {
+      → IsConsistent xs → IsConsistent ys → IsDomainPut name value due xs ys
+  assembled name value due stands others other_number due_then sponsor_then consistent after = record {
     domains = stands;
     contacts = contacts-same;
     hosts = ap hosts_of kept.rest;
@@ -86,7 +86,7 @@ module _ (xs ys : Content) (id : ℤ) (kept : AreOtherPartsKept id xs ys) where
     readings = λ r was now e. reads-alike r (other_number r was now e);
     due_is = due_then;
     sponsor_is = sponsor_then;
-    whole = (whole, after);
+    consistent = (consistent, after);
   }
 
 -- no row has the name
@@ -113,12 +113,12 @@ removed-so id number xs b m same links =
       transfers = transfer.none;
     })
 
-module _ (xs ys : Content) (name : List ℕ) (whole : IsWhole xs) (after : IsWhole ys) where
+module _ (xs ys : Content) (name : List ℕ) (consistent : IsConsistent xs) (after : IsConsistent ys) where
   none_there : filter (table.domain_with_name name) xs.domains ≡ [] → ys ≡ xs → IsDomainPut name None None xs ys
   none_there none same =
       let as_it_is : AreOtherPartsKept (pos 0) xs xs = record { links = λ other e. refl; transfers = λ other e. refl; contacts = λ contact. refl; rest = refl } in
-      subst (λ z. IsWhole z → IsDomainPut name None None xs z) (sym same)
-      (λ still. record (unchanged as_it_is) { whole = (whole, still) }) after
+      subst (λ z. IsConsistent z → IsDomainPut name None None xs z) (sym same)
+      (λ still. record (unchanged as_it_is) { consistent = (consistent, still) }) after
     where
       unchanged : AreOtherPartsKept (pos 0) xs xs → IsDomainPut name None None xs xs
       unchanged as_it_is = record {
@@ -137,21 +137,21 @@ module _ (xs ys : Content) (name : List ℕ) (whole : IsWhole xs) (after : IsWho
         readings = λ r was now e. refl;
         due_is = λ r there is. absurd (nobody name xs.domains none r there is);
         sponsor_is = λ r there is. absurd (nobody name xs.domains none r there is);
-        whole = (whole, whole);
+        consistent = (consistent, consistent);
       }
 
   removed : (row : table.Domain) → filter (table.domain_with_name name) xs.domains ≡ row ∷ [] → IsDomainRemoved row.id xs ys → IsDomainPut name None None xs ys
   removed row found gone =
       let at = row_there key name_of name xs.domains row found in
-      let none_now : filter (table.domain_with_name name) ys.domains ≡ [] = ap (filter (table.domain_with_name name)) gone.domains ∙ none-removed key name_of name xs.domains row found whole.keyed.domains whole.named.domains in
+      let none_now : filter (table.domain_with_name name) ys.domains ≡ [] = ap (filter (table.domain_with_name name)) gone.domains ∙ none-removed key name_of name xs.domains row found consistent.keyed.domains consistent.named.domains in
       assembled xs ys row.id gone.kept name None None
       (ap (map_of name_of (domain_of ys)) gone.domains
-      ∙ drop-stands key name_of (domain_of xs) (domain_of ys) name row xs.domains found whole.keyed.domains whole.named.domains (λ r was e. reads-alike xs ys row.id gone.kept r e))
-      (λ q e. ap (filter (table.domain_with_name q)) gone.domains ∙ others-removed key name_of name xs.domains row found whole.keyed.domains q e)
-      (λ r was now e. apart key name_of xs.domains row r name whole.keyed.domains at.0 was at.1 e)
+      ∙ drop-stands key name_of (domain_of xs) (domain_of ys) name row xs.domains found consistent.keyed.domains consistent.named.domains (λ r was e. reads-alike xs ys row.id gone.kept r e))
+      (λ q e. ap (filter (table.domain_with_name q)) gone.domains ∙ others-removed key name_of name xs.domains row found consistent.keyed.domains q e)
+      (λ r was now e. apart key name_of xs.domains row r name consistent.keyed.domains at.0 was at.1 e)
       (λ r there is. absurd (nobody name ys.domains none_now r there is))
       (λ r there is. absurd (nobody name ys.domains none_now r there is))
-      whole after
+      consistent after
 
   pub dropped : (row : Option table.Domain) → filter (table.domain_with_name name) xs.domains ≡ rows_of row → IsDomainDropped row xs ys → IsDomainPut name None None xs ys
   dropped None found same = none_there found same
@@ -182,7 +182,7 @@ written id beside d row e =
 
 -- ---- put
 
-module _ (xs m b ys : Content) (beside : DerivedColumns) (d : Domain) (row : table.Domain) (whole : IsWhole xs) (after : IsWhole ys) (is : IsDomain d) (registrant : contact_name xs beside.registrant ≡ Some d.links.registrant)
+module _ (xs m b ys : Content) (beside : DerivedColumns) (d : Domain) (row : table.Domain) (consistent : IsConsistent xs) (after : IsConsistent ys) (is : IsDomain d) (registrant : contact_name xs beside.registrant ≡ Some d.links.registrant)
     (placed : IsDomainPlaced d beside row xs m) (named_by : AreLinksPut row.id row.due d.links m b) (with : IsTransferPut (transferable.Domain row.id) d.transfer b ys) where
   rows_now : IsPlaced name_of d.name row xs.domains ys.domains
   rows_now = subst (IsPlaced name_of d.name row xs.domains) (sym (ap (λ (x : Content). x.domains) with.kept.rest ∙ ap (λ (x : Content). x.domains) named_by.others.rest)) placed.rows
@@ -232,4 +232,4 @@ module _ (xs m b ys : Content) (beside : DerivedColumns) (d : Domain) (row : tab
       (λ r was now e. apart key name_of ys.domains row r d.name after.keyed.domains rows_now.there now rows_now.named e)
       (λ r there same. ap Some (ap (λ (x : table.Domain). x.due) (after.named.domains r row there rows_now.there (same ∙ sym rows_now.named)) ∙ (written row.id beside d row placed.is).due))
       (λ r there same. ap Some (ap (λ (x : table.Domain). x.sponsor) (after.named.domains r row there rows_now.there (same ∙ sym rows_now.named)) ∙ (written row.id beside d row placed.is).sponsor))
-      whole after
+      consistent after

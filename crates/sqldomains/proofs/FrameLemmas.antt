@@ -21,7 +21,7 @@ use Rattle.sqltables.specs.Domain as table
 use Rattle.sqltables.specs.Host as host_table
 use Rattle.sqltables.specs.Link.{Link, link_with_domain}
 use Rattle.sqltables.specs.Transfer.{transfer_with_domain}
-use Rattle.sqltables.specs.inner.Whole.{IsWhole, LeadsTo}
+use Rattle.sqltables.specs.inner.Consistent.{IsConsistent, LeadsTo}
 use Rattle.sqlrows.specs.Read.{named}
 use Rattle.sqlobjects.specs.inner.Changes.{IsContactPut, IsHostPut}
 use Rattle.sqlobjects.specs.Changes.{contact_name, host_name}
@@ -75,13 +75,13 @@ module _ (xs ys : Content) (links : ys.links ≡ xs.links) (domains : ys.domains
 
 -- ---- a contact put
 
-contact-there : (xs : Content) (row : contact_table.Contact) (id : ℤ) → IsWhole xs → Has xs.contacts row → row.id ≡ id → contact_name xs id ≡ Some row.name
-contact-there xs row id whole there is =
-    ap (contact_name xs) (sym is) ∙ ap (option_map (λ (r : contact_table.Contact). r.name)) (get_by-has contact_table.contacts.key xs.contacts row whole.keyed.contacts there)
+contact-there : (xs : Content) (row : contact_table.Contact) (id : ℤ) → IsConsistent xs → Has xs.contacts row → row.id ≡ id → contact_name xs id ≡ Some row.name
+contact-there xs row id consistent there is =
+    ap (contact_name xs) (sym is) ∙ ap (option_map (λ (r : contact_table.Contact). r.name)) (get_by-has contact_table.contacts.key xs.contacts row consistent.keyed.contacts there)
 
-host-there : (xs : Content) (row : host_table.Host) (id : ℤ) → IsWhole xs → Has xs.hosts row → row.id ≡ id → host_name xs id ≡ Some row.name
-host-there xs row id whole there is =
-    ap (host_name xs) (sym is) ∙ ap (option_map (λ (r : host_table.Host). r.name)) (get_by-has host_table.hosts.key xs.hosts row whole.keyed.hosts there)
+host-there : (xs : Content) (row : host_table.Host) (id : ℤ) → IsConsistent xs → Has xs.hosts row → row.id ≡ id → host_name xs id ≡ Some row.name
+host-there xs row id consistent there is =
+    ap (host_name xs) (sym is) ∙ ap (option_map (λ (r : host_table.Host). r.name)) (get_by-has host_table.hosts.key xs.hosts row consistent.keyed.hosts there)
 
 module _ (name : List ℕ) (value : Option Contact) (xs ys : Content) (put : IsContactPut name value xs ys) where
   -- a number that something refers to before and after
@@ -90,18 +90,18 @@ module _ (name : List ℕ) (value : Option Contact) (xs ys : Content) (put : IsC
   same-contact a b column x id was now same there is =
       let old = was x there id is in
       let new = now x (subst (λ l. Has l x) (sym same) there) id is in
-      let before = contact-there xs old.0 id put.whole.0 old.1 old.2 in
-      let after = contact-there ys new.0 id put.whole.1 new.1 new.2 in
+      let before = contact-there xs old.0 id put.consistent.0 old.1 old.2 in
+      let after = contact-there ys new.0 id put.consistent.1 new.1 new.2 in
       after ∙ ap Some (sym (put.names id old.0.name new.0.name before after)) ∙ sym before
 
   contact-registrants : (row : table.Domain) → Has xs.domains row → contact_name ys row.registrant ≡ contact_name xs row.registrant
   contact-registrants row there =
-      same-contact xs.domains ys.domains (λ (x : table.Domain). Some x.registrant) row row.registrant put.whole.0.linked.domain_registrant put.whole.1.linked.domain_registrant put.domains there refl
+      same-contact xs.domains ys.domains (λ (x : table.Domain). Some x.registrant) row row.registrant put.consistent.0.linked.domain_registrant put.consistent.1.linked.domain_registrant put.domains there refl
 
   contact-names : (row : Link) → Has xs.links row → (role : Role) → linked_name ys role row.contact row.host ≡ linked_name xs role row.contact row.host
   contact-names row there role =
       name-where xs ys role row.contact row.host
-      (λ id is. same-contact xs.links ys.links (λ (x : Link). x.contact) row id put.whole.0.linked.link_contact put.whole.1.linked.link_contact put.links there is)
+      (λ id is. same-contact xs.links ys.links (λ (x : Link). x.contact) row id put.consistent.0.linked.link_contact put.consistent.1.linked.link_contact put.links there is)
       (λ id is. ap (λ rows. host_name (record ys { hosts = rows }) id) put.host_rows)
 
   pub contact-leaves-reading : (row : table.Domain) → Has xs.domains row → domain_of ys row ≡ domain_of xs row
@@ -118,10 +118,10 @@ module _ (name : List ℕ) (value : Option Host) (xs ys : Content) (put : IsHost
       name-where xs ys role row.contact row.host
       (λ id is. ap (λ rows. contact_name (record ys { contacts = rows }) id) put.contact_rows)
       (λ id is.
-      let old = put.whole.0.linked.link_host row there id is in
-      let new = put.whole.1.linked.link_host row (subst (λ l. Has l row) (sym put.links) there) id is in
-      let before = host-there xs old.0 id put.whole.0 old.1 old.2 in
-      let after = host-there ys new.0 id put.whole.1 new.1 new.2 in
+      let old = put.consistent.0.linked.link_host row there id is in
+      let new = put.consistent.1.linked.link_host row (subst (λ l. Has l row) (sym put.links) there) id is in
+      let before = host-there xs old.0 id put.consistent.0 old.1 old.2 in
+      let after = host-there ys new.0 id put.consistent.1 new.1 new.2 in
       after ∙ ap Some (sym (put.names id old.0.name new.0.name before after)) ∙ sym before)
 
   host-registrants : (row : table.Domain) → Has xs.domains row → contact_name ys row.registrant ≡ contact_name xs row.registrant

@@ -18,7 +18,7 @@ use Rattle.sqltables.specs.inner.Content.{links_to}
 use Rattle.sqltables.specs.Host as host_table
 use Rattle.sqltables.specs.Link as table
 use Rattle.sqltables.specs.Link.{Link, link_with_domain}
-use Rattle.sqltables.specs.inner.Whole.{IsWhole}
+use Rattle.sqltables.specs.inner.Consistent.{IsConsistent}
 use Rattle.sqlobjects.specs.Changes.{contact_name, host_name}
 use Rattle.sqlobjects.proofs.PutLemmas.{filter-append, filter-append_pass, filter-delete, filter-deleted, get_by-has}
 use Rattle.sqldomains.specs.declared.comparison.LinkComparison.TheVariants as comparisons
@@ -224,10 +224,10 @@ module _ (id due : ℤ) where
 
 -- ---- numbers of names
 
-pub contact-of-number : (xs : Content) (name : List ℕ) (id : ℤ) → IsWhole xs → IsNumberOfContact xs name (Some id) → contact_name xs id ≡ Some name
-contact-of-number xs name id whole it =
-    ap (contact_name xs) (sym it.3) ∙ ap (option_map (λ (r : contact_table.Contact). r.name)) (get_by-has contact_table.contacts.key xs.contacts it.0 whole.keyed.contacts it.1) ∙ ap Some it.2
+pub contact-of-number : (xs : Content) (name : List ℕ) (id : ℤ) → IsConsistent xs → IsNumberOfContact xs name (Some id) → contact_name xs id ≡ Some name
+contact-of-number xs name id consistent it =
+    ap (contact_name xs) (sym it.3) ∙ ap (option_map (λ (r : contact_table.Contact). r.name)) (get_by-has contact_table.contacts.key xs.contacts it.0 consistent.keyed.contacts it.1) ∙ ap Some it.2
 
-pub host-of-number : (xs : Content) (name : List ℕ) (id : ℤ) → IsWhole xs → IsNumberOfHost xs name (Some id) → host_name xs id ≡ Some name
-host-of-number xs name id whole it =
-    ap (host_name xs) (sym it.3) ∙ ap (option_map (λ (r : host_table.Host). r.name)) (get_by-has host_table.hosts.key xs.hosts it.0 whole.keyed.hosts it.1) ∙ ap Some it.2
+pub host-of-number : (xs : Content) (name : List ℕ) (id : ℤ) → IsConsistent xs → IsNumberOfHost xs name (Some id) → host_name xs id ≡ Some name
+host-of-number xs name id consistent it =
+    ap (host_name xs) (sym it.3) ∙ ap (option_map (λ (r : host_table.Host). r.name)) (get_by-has host_table.hosts.key xs.hosts it.0 consistent.keyed.hosts it.1) ∙ ap Some it.2

@@ -29,7 +29,7 @@ use Rattle.sqltables.specs.Domain as table
 use Rattle.sqltables.specs.inner.Domain as inner_table
 use Rattle.sqltables.specs.Link.{Link, link_with_domain}
 use Rattle.sqltables.specs.Transfer.{transfer_with_domain}
-use Rattle.sqltables.specs.inner.Whole.{IsWhole}
+use Rattle.sqltables.specs.inner.Consistent.{IsConsistent}
 use Rattle.sqlrows.specs.Read.{first_read, or_else}
 use Rattle.sqlobjects.specs.Changes.{contact_name, host_name}
 use Rattle.sqlobjects.specs.Objects.{last_transfer}
@@ -61,9 +61,9 @@ module _ (xs : Content) (test : Domain → Bool) where
       fails it.0 d (has-filter (table.domain_with_name k) xs.domains it.0 it.1).0 it.2))
 
   -- where the domain of a row passes, one does
-  pub one-passes : IsWhole xs → (row : table.Domain) (d : Domain) → Has xs.domains row → domain_of xs row ≡ Some d → test d ≡ true → list_any test (values (domains_of xs)) ≡ true
-  one-passes whole row d there reads passes =
-      let alone = only_named inner_table.domains.key (λ (r : table.Domain). r.name) xs.domains row whole.keyed.domains whole.named.domains there in
+  pub one-passes : IsConsistent xs → (row : table.Domain) (d : Domain) → Has xs.domains row → domain_of xs row ≡ Some d → test d ≡ true → list_any test (values (domains_of xs)) ≡ true
+  one-passes consistent row d there reads passes =
+      let alone = only_named inner_table.domains.key (λ (r : table.Domain). r.name) xs.domains row consistent.keyed.domains consistent.named.domains there in
       let found : get (domains_of xs) row.name ≡ Some d = sym (domain-named xs row.name) ∙ ap (first_read (domain_of xs)) alone ∙ ap (λ o. or_else o None) reads in
       among_values (slice_cmp nat_cmp) test (domains_of xs) row.name d passes found
 

@@ -22,7 +22,7 @@ use Rattle.sqltables.specs.Content.{Content}
 use Rattle.sqltables.specs.Domain as table
 use Rattle.sqltables.specs.inner.Domain as inner_table
 use Rattle.sqltables.specs.Transfer.{transfer_with_domain}
-use Rattle.sqltables.specs.inner.Whole.{IsWhole}
+use Rattle.sqltables.specs.inner.Consistent.{IsConsistent}
 use Rattle.sqlrows.specs.Read.{first_read, or_else}
 use Rattle.sqlobjects.specs.Objects.{last_transfer}
 use Rattle.sqlobjects.proofs.PutLemmas.{bytes_is, has-filter, only_named}
@@ -171,9 +171,9 @@ name-read xs row d e =
     let x = step (deletion_in row.deleted row.restore_requested) _ d s.rest in
     sym (ap (λ (z : Domain). z.name) (same_some _ d x.rest))
 
-pub stands-there : (xs : Content) (row : table.Domain) (d : Domain) → IsWhole xs → Has xs.domains row → domain_of xs row ≡ Some d → get (domains_of xs) row.name ≡ Some d
-stands-there xs row d whole there reads =
-    sym (domain-named xs row.name) ∙ ap (first_read (domain_of xs)) (only_named inner_table.domains.key (λ (r : table.Domain). r.name) xs.domains row whole.keyed.domains whole.named.domains there) ∙ ap (λ o. or_else o None) reads
+pub stands-there : (xs : Content) (row : table.Domain) (d : Domain) → IsConsistent xs → Has xs.domains row → domain_of xs row ≡ Some d → get (domains_of xs) row.name ≡ Some d
+stands-there xs row d consistent there reads =
+    sym (domain-named xs row.name) ∙ ap (first_read (domain_of xs)) (only_named inner_table.domains.key (λ (r : table.Domain). r.name) xs.domains row consistent.keyed.domains consistent.named.domains there) ∙ ap (λ o. or_else o None) reads
 
 -- the row under a name
 pub row-under : (xs : Content) (n : List ℕ) (d : Domain) → get (domains_of xs) n ≡ Some d → (row : table.Domain) × Has xs.domains row × (domain_of xs row ≡ Some d) × (row.name ≡ n)

@@ -16,7 +16,7 @@ use Rattle.sqltables.specs.Domain as table
 use Rattle.sqltables.specs.Link.{Link, link_with_domain}
 use Rattle.sqltables.specs.Transfer.{Transfer, transfer_with_domain}
 use Rattle.sqltables.specs.inner.Domain as inner_table
-use Rattle.sqltables.specs.inner.Whole.{IsWhole}
+use Rattle.sqltables.specs.inner.Consistent.{IsConsistent}
 use Rattle.sqldomains.specs.declared.domain_rows.DerivedColumns.{DerivedColumns}
 use Rattle.sqldomains.specs.inner.Stages.{HasNoParts, IsDomainPlaced}
 use Rattle.sqldomains.proofs.DomainLemmas.{nobody}
@@ -34,7 +34,7 @@ points-so : (o : Option ℤ) (id : ℤ) → points_to o id ≡ true → o ≡ So
 points-so None id e = cc
 points-so (Some n) id e = ap Some (same_int n id e)
 
-module _ (xs m : Content) (beside : DerivedColumns) (d : Domain) (row : table.Domain) (whole : IsWhole xs) (still : IsWhole m) (placed : IsDomainPlaced d beside row xs m)
+module _ (xs m : Content) (beside : DerivedColumns) (d : Domain) (row : table.Domain) (consistent : IsConsistent xs) (still : IsConsistent m) (placed : IsDomainPlaced d beside row xs m)
     (none : rows_named domains d.name xs ≡ []) where
   -- no row had the number
   fresh : (r : table.Domain) → Has xs.domains r → r.id ≡ row.id → ⊥
@@ -50,12 +50,12 @@ module _ (xs m : Content) (beside : DerivedColumns) (d : Domain) (row : table.Do
 
   no-links : filter (link_with_domain row.id) xs.links ≡ []
   no-links = none-pass (link_with_domain row.id) xs.links (λ l there is.
-      let led = whole.linked.link_domain l there l.domain refl in
+      let led = consistent.linked.link_domain l there l.domain refl in
       fresh led.0 led.1 (led.2 ∙ same_int l.domain row.id is))
 
   no-transfers : filter (transfer_with_domain row.id) xs.transfers ≡ []
   no-transfers = none-pass (transfer_with_domain row.id) xs.transfers (λ t there is.
-      let led = whole.linked.transfer_domain t there row.id (points-so t.domain row.id is) in
+      let led = consistent.linked.transfer_domain t there row.id (points-so t.domain row.id is) in
       fresh led.0 led.1 led.2)
 
   pub no-parts : HasNoParts row.id m

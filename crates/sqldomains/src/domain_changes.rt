@@ -108,11 +108,11 @@ fn put_beside<S: Alter>(
         return Err(BookFault::Store);
     }
     let is_new = found.is_none();
-    store.show_whole();
+    store.show_consistent();
     let row = place(store, alloc, beside, found, domain)?;
-    store.show_whole();
+    store.show_consistent();
     put_parts(store, alloc, &row, domain, is_new)?;
-    store.show_whole();
+    store.show_consistent();
     Ok(())
 }
 
@@ -157,9 +157,9 @@ pub fn drop_domain<S: Alter>(store: &mut RowStore<S>, name: &Text) -> Result<(),
     requires { store.old.is_open ≡ true }
     ensures { Changes result (IsDomainPut name.now None None) store.old store.new }
 {
-    store.show_whole();
+    store.show_consistent();
     let row = row_named(store, name)?;
     remove_found(store, row)?;
-    store.show_whole();
+    store.show_consistent();
     Ok(())
 }

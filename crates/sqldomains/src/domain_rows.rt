@@ -1,6 +1,6 @@
 //! Rows of domains: written, and removed with their links and transfers.
 ghost use Rattle.std.specs.Prelude.{◌≡◌, true, pos, Some, IfOk};
-ghost use Rattle.sqltables.specs.inner.Whole.{IsWhole};
+ghost use Rattle.sqltables.specs.inner.Consistent.{IsConsistent};
 ghost use Rattle.sqlrows.specs.Meanings.{Changes};
 ghost use Rattle.sqlobjects.specs.inner.Stages.{ChangesGiving, domains, rows_named};
 ghost use Rattle.sqlrows.specs.Read.{rows_of};
@@ -64,7 +64,7 @@ pub(crate) fn place<S: Alter>(
     domain: &Domain,
 ) -> Result<DomainRow, BookFault>
     requires { store.old.is_open ≡ true }
-    ensures { ChangesGiving result (λ row old new. IsWhole old
+    ensures { ChangesGiving result (λ row old new. IsConsistent old
         → rows_named domains domain.now.name old ≡ rows_of found
         → IsDomainPlaced domain.now beside.now row old new) store.old store.new }
 {

@@ -228,7 +228,7 @@ pub(crate) fn contact_number<S: Alter>(
     ensures { FindsSome result (λ id. changes.contact_name store.old.content id ≡ Some name.now)
         store.old store.new }
 {
-    store.show_whole();
+    store.show_consistent();
     match number_of_contact(store, name)? {
         None => Err(BookFault::Store),
         Some(id) => Ok(id),
@@ -240,7 +240,7 @@ fn host_number<S: Alter>(store: &mut RowStore<S>, name: &Text) -> Result<i64, Bo
     ensures { FindsSome result (λ id. changes.host_name store.old.content id ≡ Some name.now) store.old
         store.new }
 {
-    store.show_whole();
+    store.show_consistent();
     match number_of_host(store, name)? {
         None => Err(BookFault::Store),
         Some(id) => Ok(id),

@@ -27,7 +27,7 @@ pub fn is_linked_contact<S: Alter>(
 ) -> Result<bool, BookFault>
     ensures { Finds result (spec.is_linked_contact store.old.content name.now) store.old store.new }
 {
-    store.show_whole();
+    store.show_consistent();
     let Some(id) = number_of_contact(store, name)? else {
         return Ok(false);
     };
@@ -135,7 +135,7 @@ pub fn is_linked_host<S: Alter>(
 ) -> Result<bool, BookFault>
     ensures { Finds result (spec.is_linked_host store.old.content name.now) store.old store.new }
 {
-    store.show_whole();
+    store.show_consistent();
     let Some(id) = number_of_host(store, name)? else {
         return Ok(false);
     };

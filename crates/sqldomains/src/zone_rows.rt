@@ -21,7 +21,7 @@ pub fn delegations<S: Alter>(
 ) -> Result<Seq<Delegation>, BookFault>
     ensures { Finds result (spec.delegations store.old.content) store.old store.new }
 {
-    store.show_whole();
+    store.show_consistent();
     let rows = store.all_domains()?;
     let all = with_rows(store, alloc, rows)?;
     Ok(listed(alloc, &all)?)

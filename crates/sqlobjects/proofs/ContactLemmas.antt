@@ -13,7 +13,7 @@ use Rattle.sqlcolumns.proofs.ReadLemmas.{same_some, step}
 use Rattle.sqltables.specs.Contact as contact_table
 use Rattle.sqltables.specs.Content.{Content}
 use Rattle.sqltables.specs.inner.Content.{contacts_to}
-use Rattle.sqltables.specs.inner.Whole.{IsWhole}
+use Rattle.sqltables.specs.inner.Consistent.{IsConsistent}
 use Rattle.sqlrows.specs.Read.{rows_of}
 use Rattle.sqlobjects.specs.inner.Changes.{IsContactPut, put}
 use Rattle.sqlobjects.specs.Objects.{contact_of, contacts_of, hosts_of, last_transfer}
@@ -34,8 +34,8 @@ reads-alike xs ys id r kept other = λ i. last_transfer (kept.others (transferab
 
 -- what else a change of contacts leaves
 assembled : (xs ys : Content) (name : List ℕ) (value : Option Contact) (id : ℤ) → contacts_of ys ≡ put (contacts_of xs) name value → AreOthersKept name_of name xs.contacts ys.contacts
-    → AreOtherTransfersKept (transferable.Contact id) xs (record ys { contacts = xs.contacts }) → IsWhole xs → IsWhole ys → IsContactPut name value xs ys
-assembled xs ys name value id stands others kept whole after = record {
+    → AreOtherTransfersKept (transferable.Contact id) xs (record ys { contacts = xs.contacts }) → IsConsistent xs → IsConsistent ys → IsContactPut name value xs ys
+assembled xs ys name value id stands others kept consistent after = record {
   contacts = stands;
   hosts = ap hosts_of kept.rest;
   metas = ap (λ (x : Content). x.metas) kept.rest;
@@ -48,8 +48,8 @@ assembled xs ys name value id stands others kept whole after = record {
   lines = ap (λ (x : Content). x.lines) kept.rest;
   messages = ap (λ (x : Content). x.messages) kept.rest;
   transfers = λ domain. kept.others (transferable.Domain domain) refl;
-  names = names_kept key name_of name xs.contacts ys.contacts whole.keyed.contacts after.keyed.contacts others;
-  whole = (whole, after);
+  names = names_kept key name_of name xs.contacts ys.contacts consistent.keyed.contacts after.keyed.contacts others;
+  consistent = (consistent, after);
 }
 
 -- ---- dropped
@@ -66,20 +66,20 @@ removed-so id number xs m same clear = record {
   contacts = ap (λ k. delete_where (contact_table.contact_with_id k) m.contacts) same ∙ ap (λ (x : Content). delete_where (contact_table.contact_with_id id) x.contacts) clear.kept.rest;
 }
 
-module _ (xs ys : Content) (name : List ℕ) (whole : IsWhole xs) (after : IsWhole ys) where
+module _ (xs ys : Content) (name : List ℕ) (consistent : IsConsistent xs) (after : IsConsistent ys) where
   none_there : filter (contact_table.contact_with_name name) xs.contacts ≡ [] → ys ≡ xs → IsContactPut name None xs ys
   none_there none same =
       let as_it_is : AreOtherTransfersKept (transferable.Contact (pos 0)) xs xs = record { others = λ other e. refl; rest = refl } in
-      subst (λ z. IsWhole z → IsContactPut name None xs z) (sym same)
-      (λ still. assembled xs xs name None (pos 0) (none-stands name_of (contact_of xs) name xs.contacts none) (λ q e. refl) as_it_is whole still) after
+      subst (λ z. IsConsistent z → IsContactPut name None xs z) (sym same)
+      (λ still. assembled xs xs name None (pos 0) (none-stands name_of (contact_of xs) name xs.contacts none) (λ q e. refl) as_it_is consistent still) after
 
   removed : (row : contact_table.Contact) → filter (contact_table.contact_with_name name) xs.contacts ≡ row ∷ [] → IsContactRemoved row.id xs ys → IsContactPut name None xs ys
   removed row found gone = assembled xs ys name None row.id
       (ap (map_of name_of (contact_of ys)) gone.contacts
-      ∙ drop-stands key name_of (contact_of xs) (contact_of ys) name row xs.contacts found whole.keyed.contacts whole.named.contacts (λ r was e. reads-alike xs ys row.id r gone.cleared.kept e))
-      (λ q e. ap (filter (contact_table.contact_with_name q)) gone.contacts ∙ others-removed key name_of name xs.contacts row found whole.keyed.contacts q e)
+      ∙ drop-stands key name_of (contact_of xs) (contact_of ys) name row xs.contacts found consistent.keyed.contacts consistent.named.contacts (λ r was e. reads-alike xs ys row.id r gone.cleared.kept e))
+      (λ q e. ap (filter (contact_table.contact_with_name q)) gone.contacts ∙ others-removed key name_of name xs.contacts row found consistent.keyed.contacts q e)
       gone.cleared.kept
-      whole after
+      consistent after
 
   pub dropped : (row : Option contact_table.Contact) → filter (contact_table.contact_with_name name) xs.contacts ≡ rows_of row → IsContactDropped row xs ys → IsContactPut name None xs ys
   dropped None found same = none_there found same
@@ -103,7 +103,7 @@ written id c row e =
 
 -- ---- put
 
-module _ (xs m ys : Content) (c : Contact) (row : contact_table.Contact) (whole : IsWhole xs) (after : IsWhole ys) (is : IsContact c)
+module _ (xs m ys : Content) (c : Contact) (row : contact_table.Contact) (consistent : IsConsistent xs) (after : IsConsistent ys) (is : IsContact c)
     (placed : IsContactPlaced c row xs m) (with : IsTransferPut (transferable.Contact row.id) c.transfer m ys) where
   rows_now : IsPlaced name_of c.name row xs.contacts ys.contacts
   rows_now = subst (IsPlaced name_of c.name row xs.contacts) (sym (ap (λ (x : Content). x.contacts) with.kept.rest)) placed.rows
@@ -122,4 +122,4 @@ module _ (xs m ys : Content) (c : Contact) (row : contact_table.Contact) (whole 
       (put-stands key name_of (contact_of xs) (contact_of ys) c.name row c xs.contacts ys.contacts rows_now after.keyed.contacts after.named.contacts reads_now (λ r was now e. reads-alike xs ys row.id r kept_now e))
       rows_now.others
       kept_now
-      whole after
+      consistent after

@@ -13,7 +13,7 @@ use Rattle.sqlcolumns.proofs.ReadLemmas.{same_some, step}
 use Rattle.sqltables.specs.Content.{Content}
 use Rattle.sqltables.specs.inner.Content.{hosts_to}
 use Rattle.sqltables.specs.Host as host_table
-use Rattle.sqltables.specs.inner.Whole.{IsWhole}
+use Rattle.sqltables.specs.inner.Consistent.{IsConsistent}
 use Rattle.sqlrows.specs.Read.{rows_of}
 use Rattle.sqlobjects.specs.inner.Changes.{IsHostPut, put}
 use Rattle.sqlobjects.specs.Objects.{addresses_of, contacts_of, host_of, hosts_of}
@@ -35,8 +35,8 @@ reads-alike xs ys id r kept other = ap (host_in r) (kept.hosts r.id other)
 -- what else a change of hosts leaves
 assembled : (xs ys : Content) (name : List ℕ) (value : Option Host) (id : ℤ) → hosts_of ys ≡ put (hosts_of xs) name value → AreOthersKept name_of name xs.hosts ys.hosts
     → AreOtherAddressesKept id xs (record ys { hosts = xs.hosts }) → ((row : host_table.Host) → Has xs.hosts row → row.name ≡ name → is_sponsor_right xs row ≡ true)
-    → ((row : host_table.Host) → Has ys.hosts row → row.name ≡ name → is_sponsor_right ys row ≡ true) → IsWhole xs → IsWhole ys → IsHostPut name value xs ys
-assembled xs ys name value id stands others kept was is whole after = record {
+    → ((row : host_table.Host) → Has ys.hosts row → row.name ≡ name → is_sponsor_right ys row ≡ true) → IsConsistent xs → IsConsistent ys → IsHostPut name value xs ys
+assembled xs ys name value id stands others kept was is consistent after = record {
   hosts = stands;
   contacts = ap contacts_of kept.rest;
   metas = ap (λ (x : Content). x.metas) kept.rest;
@@ -51,8 +51,8 @@ assembled xs ys name value id stands others kept was is whole after = record {
   others = others;
   sponsor_was = was;
   sponsor_is = is;
-  names = names_kept key name_of name xs.hosts ys.hosts whole.keyed.hosts after.keyed.hosts others;
-  whole = (whole, after);
+  names = names_kept key name_of name xs.hosts ys.hosts consistent.keyed.hosts after.keyed.hosts others;
+  consistent = (consistent, after);
 }
 
 -- ---- dropped
@@ -67,22 +67,22 @@ removed-so id number xs m same clear =
       hosts = ap (λ (x : Content). delete_where (host_table.host_with_id number) x.hosts) clear.others.rest;
     })
 
-module _ (xs ys : Content) (name : List ℕ) (whole : IsWhole xs) (after : IsWhole ys) (was : (row : host_table.Host) → Has xs.hosts row → row.name ≡ name → is_sponsor_right xs row ≡ true) where
+module _ (xs ys : Content) (name : List ℕ) (consistent : IsConsistent xs) (after : IsConsistent ys) (was : (row : host_table.Host) → Has xs.hosts row → row.name ≡ name → is_sponsor_right xs row ≡ true) where
   none_there : filter (host_table.host_with_name name) xs.hosts ≡ [] → ys ≡ xs → IsHostPut name None xs ys
   none_there none same =
       let as_it_is : AreOtherAddressesKept (pos 0) xs xs = record { hosts = λ other e. refl; rest = refl } in
-      subst (λ z. IsWhole z → IsHostPut name None xs z) (sym same)
-      (λ still. assembled xs xs name None (pos 0) (none-stands name_of (host_of xs) name xs.hosts none) (λ q e. refl) as_it_is was (λ row there is. absurd (nobody name xs.hosts none row there is)) whole still) after
+      subst (λ z. IsConsistent z → IsHostPut name None xs z) (sym same)
+      (λ still. assembled xs xs name None (pos 0) (none-stands name_of (host_of xs) name xs.hosts none) (λ q e. refl) as_it_is was (λ row there is. absurd (nobody name xs.hosts none row there is)) consistent still) after
 
   removed : (row : host_table.Host) → filter (host_table.host_with_name name) xs.hosts ≡ row ∷ [] → IsHostRemoved row.id xs ys → IsHostPut name None xs ys
   removed row found gone = assembled xs ys name None row.id
       (ap (map_of name_of (host_of ys)) gone.hosts
-      ∙ drop-stands key name_of (host_of xs) (host_of ys) name row xs.hosts found whole.keyed.hosts whole.named.hosts (λ r was e. reads-alike xs ys row.id r gone.cleared.others e))
-      (λ q e. ap (filter (host_table.host_with_name q)) gone.hosts ∙ others-removed key name_of name xs.hosts row found whole.keyed.hosts q e)
+      ∙ drop-stands key name_of (host_of xs) (host_of ys) name row xs.hosts found consistent.keyed.hosts consistent.named.hosts (λ r was e. reads-alike xs ys row.id r gone.cleared.others e))
+      (λ q e. ap (filter (host_table.host_with_name q)) gone.hosts ∙ others-removed key name_of name xs.hosts row found consistent.keyed.hosts q e)
       gone.cleared.others
       was
-      (λ r there is. absurd (nobody name ys.hosts (ap (filter (host_table.host_with_name name)) gone.hosts ∙ none-removed key name_of name xs.hosts row found whole.keyed.hosts whole.named.hosts) r there is))
-      whole after
+      (λ r there is. absurd (nobody name ys.hosts (ap (filter (host_table.host_with_name name)) gone.hosts ∙ none-removed key name_of name xs.hosts row found consistent.keyed.hosts consistent.named.hosts) r there is))
+      consistent after
 
   pub dropped : (row : Option host_table.Host) → filter (host_table.host_with_name name) xs.hosts ≡ rows_of row → IsHostDropped row xs ys → IsHostPut name None xs ys
   dropped None found same = none_there found same
@@ -110,7 +110,7 @@ written xs id h row e =
 
 -- ---- put
 
-module _ (xs m ys : Content) (h : Host) (row : host_table.Host) (whole : IsWhole xs) (after : IsWhole ys) (is : IsHost h)
+module _ (xs m ys : Content) (h : Host) (row : host_table.Host) (consistent : IsConsistent xs) (after : IsConsistent ys) (is : IsHost h)
     (was : (r : host_table.Host) → Has xs.hosts r → r.name ≡ h.name → is_sponsor_right xs r ≡ true) (placed : IsHostPlaced h row xs m) (with : AreAddressesPut row.id h.addresses m ys) where
   rows_now : IsPlaced name_of h.name row xs.hosts ys.hosts
   rows_now = subst (IsPlaced name_of h.name row xs.hosts) (sym (ap (λ (x : Content). x.hosts) with.others.rest)) placed.rows
@@ -135,4 +135,4 @@ module _ (xs m ys : Content) (h : Host) (row : host_table.Host) (whole : IsWhole
       rows_now.others
       kept_now
       was right_now
-      whole after
+      consistent after

@@ -13,7 +13,7 @@ use Rattle.sqlcolumns.specs.Transfers.{is_same}
 use Rattle.sqlcolumns.proofs.ReadLemmas.{same_some}
 use Rattle.sqltables.specs.Content.{Content}
 use Rattle.sqltables.specs.Host as table
-use Rattle.sqltables.specs.inner.Whole.{IsWhole}
+use Rattle.sqltables.specs.inner.Consistent.{IsConsistent}
 use Rattle.sqltables.proofs.RowLemmas.{all_at}
 use Rattle.sqlobjects.specs.declared.host_sponsors.Sponsors.{Sponsors}
 use Rattle.sqlobjects.specs.Objects.{host_entry, hosts_of}
@@ -124,21 +124,21 @@ moved-stand xs ys above before after moved addresses =
 
 -- ---- the hosts of a domain
 
-pub hosts-moved : (xs ys : Content) (above given : List ℕ) (s : Sponsors) (rows : List table.Host) → IsWhole xs → given ≡ above → rows ≡ filter (table.host_with_above given) xs.hosts
+pub hosts-moved : (xs ys : Content) (above given : List ℕ) (s : Sponsors) (rows : List table.Host) → IsConsistent xs → given ≡ above → rows ≡ filter (table.host_with_above given) xs.hosts
     → AreWritten (λ hosts. with_all_moved s hosts rows) xs ys → AreHostsMoved above s xs ys
-hosts-moved xs ys above given s rows whole same found made = record {
-  rows = all-moved s above xs.hosts ys.hosts whole.keyed.hosts (ap (with_all_moved s xs.hosts) (sym (found ∙ ap (λ n. filter (table.host_with_above n) xs.hosts) same)) ∙ made.hosts);
+hosts-moved xs ys above given s rows consistent same found made = record {
+  rows = all-moved s above xs.hosts ys.hosts consistent.keyed.hosts (ap (with_all_moved s xs.hosts) (sym (found ∙ ap (λ n. filter (table.host_with_above n) xs.hosts) same)) ∙ made.hosts);
   rest = made.rest;
 }
 
 pub followed : (xs ys : Content) (above given : List ℕ) (before column : Option ℤ) (after : Option ℕ) → given ≡ above → before ≡ domain_sponsor xs given → column ≡ maybe_registrar_column after
-    → is_same before column ≡ false → IsWhole xs → IsWhole ys → AreHostsMoved above (record { before = before; after = column }) xs ys → IsSponsorSetBelow above after xs ys
-followed xs ys above given before column after same is become differ whole still moved =
+    → is_same before column ≡ false → IsConsistent xs → IsConsistent ys → AreHostsMoved above (record { before = before; after = column }) xs ys → IsSponsorSetBelow above after xs ys
+followed xs ys above given before column after same is become differ consistent still moved =
     let was : before ≡ domain_sponsor xs above = is ∙ ap (domain_sponsor xs) same in
     record {
       stays = λ e. absurd (true≢false (sym e ∙ (λ i. is_same (sym was i) (sym become i)) ∙ differ));
       moves = λ e. subst (λ (b : Option ℤ). AreMoved above b (maybe_registrar_column after) xs.hosts ys.hosts) was (subst (λ (b : Option ℤ). AreMoved above before b xs.hosts ys.hosts) become moved.rows);
       hosts = moved-stand xs ys above before column moved.rows (ap (λ (x : Content). x.addresses) moved.rest);
       rest = moved.rest;
-      whole = (whole, still);
+      consistent = (consistent, still);
     }

@@ -4,7 +4,7 @@ use Rattle.sqlite_rules.specs.Lists.{Has}
 use Rattle.sqlite_keyed.specs.Keyed.{insert_by, next_key}
 use Rattle.sqlite_typed.specs.Tests.{bytes_eq}
 use Rattle.sqltables.specs.Content.{Content}
-use Rattle.sqltables.specs.inner.Whole.{IsWhole}
+use Rattle.sqltables.specs.inner.Consistent.{IsConsistent}
 use Rattle.sqlrows.specs.Read.{rows_of}
 use Rattle.sqlobjects.specs.inner.Stages.{IsPlaced, IsPlacedAt, IsRowPlaced, NamedTable, rows_named, with_last, with_replaced}
 use Rattle.sqlrows.proofs.ReplaceLemmas.{replaced-is-put}
@@ -13,22 +13,22 @@ use Rattle.sqlobjects.proofs.PutLemmas.{found-added, has-filter, placed-added, p
 module _ {R : Type 0} (t : NamedTable R) where
   -- in the place of the row of its name
   pub replaced-placed : (xs : Content) (found given row : R) → row ≡ t.numbered given (t.key found) → IsPlacedAt t (Some found) given row xs (with_replaced t row xs)
-  replaced-placed xs found given row is whole there =
+  replaced-placed xs found given row is consistent there =
       let number : t.key row ≡ t.key found = ap t.key is ∙ t.number_is given (t.key found) in
       let name : t.name row ≡ t.name given = ap t.name is ∙ t.name_is given (t.key found) in
       let all : List R = insert_by t.key (t.rows xs) row in
       let has = has-filter (λ r. bytes_eq (t.name r) (t.name given)) (t.rows xs) found (subst (λ rows. Has rows found) (sym there) (inl refl)) in
       let put : t.with_rows all xs ≡ with_replaced t row xs =
-      ap (λ l. t.with_rows l xs) (sym (replaced-is-put t.key (t.rows xs) found row (λ it. t.numbered row (t.key it)) (t.keyed xs whole) has.0 (sym number) (λ it e. ap (t.numbered row) e ∙ t.itself row))) in
+      ap (λ l. t.with_rows l xs) (sym (replaced-is-put t.key (t.rows xs) found row (λ it. t.numbered row (t.key it)) (t.keyed xs consistent) has.0 (sym number) (λ it e. ap (t.numbered row) e ∙ t.itself row))) in
       subst (IsRowPlaced t (λ it. it ≡ t.numbered given (t.key it)) (t.name given) row xs) put (record {
         is = is ∙ ap (t.numbered given) (sym number);
-        rows = subst (IsPlaced t.name (t.name given) row (t.rows xs)) (sym (t.rows_are all xs)) (placed-put t.key t.name (t.name given) (t.rows xs) found there (t.keyed xs whole) row number name);
+        rows = subst (IsPlaced t.name (t.name given) row (t.rows xs)) (sym (t.rows_are all xs)) (placed-put t.key t.name (t.name given) (t.rows xs) found there (t.keyed xs consistent) row number name);
         rest = ap (λ l. t.with_rows l xs) (sym (t.rows_are all xs));
       })
 
   -- after the others, and found again
   pub added-placed : (xs m : Content) (given row : R) → m ≡ with_last t given xs → rows_named t (t.name given) m ≡ row ∷ [] → IsPlacedAt t None given row xs m
-  added-placed xs m given row content found whole none =
+  added-placed xs m given row content found consistent none =
       let k : ℤ = next_key t.key (t.rows xs) in
       let added : R = t.numbered given k in
       let rows : t.rows m ≡ t.rows xs ++ added ∷ [] = ap t.rows content ∙ t.rows_are (t.rows xs ++ added ∷ []) xs in
@@ -42,9 +42,9 @@ module _ {R : Type 0} (t : NamedTable R) where
 
   -- what is in the row that was given, under whatever number, is in the row that came of it
   pub placed-as : (is_row : R → Type 0) (n : List ℕ) (found : Option R) (given row : R) (xs ys : Content) → t.name given ≡ n → ((k : ℤ) → is_row (t.numbered given k)) → rows_named t n xs ≡ rows_of found
-      → IsPlacedAt t found given row xs ys → IsWhole xs → IsRowPlaced t is_row n row xs ys
-  placed-as is_row n found given row xs ys name again there step whole =
-      let placed = step whole (ap (λ m. rows_named t m xs) name ∙ there) in
+      → IsPlacedAt t found given row xs ys → IsConsistent xs → IsRowPlaced t is_row n row xs ys
+  placed-as is_row n found given row xs ys name again there step consistent =
+      let placed = step consistent (ap (λ m. rows_named t m xs) name ∙ there) in
       record {
         is = subst is_row (sym placed.is) (again (t.key row));
         rows = subst (λ m. IsPlaced t.name m row (t.rows xs) (t.rows ys)) name placed.rows;

@@ -13,7 +13,7 @@ use Rattle.sqlite_keyed.proofs.KeyedLemmas.{int_eq_apart, key-get_by, same_int}
 use Rattle.sqlite_keyed.proofs.ListLemmas.{filter_none}
 use Rattle.sqlite_rules.specs.Lists.{Has}
 use Rattle.sqlite_typed.specs.Tests.{bytes_eq}
-use Rattle.sqltables.specs.inner.Whole.{IsNamedBy}
+use Rattle.sqltables.specs.inner.Consistent.{IsNamedBy}
 use Rattle.sqltables.proofs.RowLemmas.{all_at, bytes_same, same_by_key}
 use Rattle.sqlrows.specs.Read.{first_read, or_else}
 use Rattle.sqlrows.proofs.NameLemmas.{entries_of, stands}

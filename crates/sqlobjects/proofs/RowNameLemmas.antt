@@ -18,7 +18,7 @@ use Rattle.sqlcolumns.proofs.HostLemmas.{host_back}
 use Rattle.sqlcolumns.proofs.ReadLemmas.{same_some}
 use Rattle.sqltables.specs.Content.{Content}
 use Rattle.sqltables.specs.Host as host_table
-use Rattle.sqltables.specs.inner.Whole.{IsWhole}
+use Rattle.sqltables.specs.inner.Consistent.{IsConsistent}
 use Rattle.sqltables.proofs.RowLemmas.{bytes_same, same_by_key}
 use Rattle.sqlrows.specs.Read.{first_read, or_else}
 use Rattle.sqlrows.proofs.RowLemmas.{get_by-insert_by}
@@ -57,7 +57,7 @@ put-or-there {X} key (x ∷ xs) new y h = go (int_cmp (key x) (key new)) (put-or
     go Greater more (inl e) = inl e
     go Greater more (inr there) = inr there
 
-module _ (from : List ℕ) (h : Host) (row : host_table.Host) (xs m ys : Content) (whole : IsWhole xs) (after : IsWhole ys) (is : IsHost h) (taken : IsRowTaken from h row xs m) (with : AreAddressesPut row.id h.addresses m ys) where
+module _ (from : List ℕ) (h : Host) (row : host_table.Host) (xs m ys : Content) (consistent : IsConsistent xs) (after : IsConsistent ys) (is : IsHost h) (taken : IsRowTaken from h row xs m) (with : AreAddressesPut row.id h.addresses m ys) where
   abbrev found : host_table.Host
   found = taken.found
 
@@ -95,17 +95,17 @@ module _ (from : List ℕ) (h : Host) (row : host_table.Host) (xs m ys : Content
 
       go : (r ≡ row) ⊎ Has xs.hosts r → ⊥
       go (inl e) = never e
-      go (inr before) = never (same_by_key key ys.hosts r row after.keyed.hosts there here (ap key (whole.named.hosts r found before was.0 (same ∙ sym was.1)) ∙ sym number))
+      go (inr before) = never (same_by_key key ys.hosts r row after.keyed.hosts there here (ap key (consistent.named.hosts r found before was.0 (same ∙ sym was.1)) ∙ sym number))
 
   -- without the row
   abbrev rest : List host_table.Host
   rest = delete_where (λ (r : host_table.Host). int_eq (key r) (key found)) xs.hosts
 
   others-from : AreOthersKept name_of from xs.hosts rest
-  others-from = others-removed key name_of from xs.hosts found taken.was.rows whole.keyed.hosts
+  others-from = others-removed key name_of from xs.hosts found taken.was.rows consistent.keyed.hosts
 
   none-from : filter (λ (r : host_table.Host). bytes_eq r.name from) rest ≡ []
-  none-from = none-removed key name_of from xs.hosts found taken.was.rows whole.keyed.hosts whole.named.hosts
+  none-from = none-removed key name_of from xs.hosts found taken.was.rows consistent.keyed.hosts consistent.named.hosts
 
   none-now : filter (λ (r : host_table.Host). bytes_eq r.name from) ys.hosts ≡ []
   none-now = filter_none (λ (r : host_table.Host). bytes_eq r.name from) ys.hosts (all_from_has (λ (r : host_table.Host). bytes_eq r.name from ≡ false) ys.hosts (λ r there. go r there (bytes_eq r.name from) refl))
@@ -124,7 +124,7 @@ module _ (from : List ℕ) (h : Host) (row : host_table.Host) (xs m ys : Content
       go false e =
           ap (filter (λ (r : host_table.Host). bytes_eq r.name q)) rows_now
           ∙ filter-insert_by key (λ (r : host_table.Host). bytes_eq r.name q) xs.hosts row (bytes_apart row.name h.name q named other)
-          (λ r there same. tied key name_of from xs.hosts found taken.was.rows whole.keyed.hosts q e r there (same ∙ number))
+          (λ r there same. tied key name_of from xs.hosts found taken.was.rows consistent.keyed.hosts q e r there (same ∙ number))
           ∙ sym (others-from q e)
 
   -- ---- the hosts
@@ -145,7 +145,7 @@ module _ (from : List ℕ) (h : Host) (row : host_table.Host) (xs m ys : Content
   hosts-now =
       changed name_of h.name (Some h) (host_of xs) (host_of ys) rest ys.hosts (ap (first_read (host_of ys)) alone-now ∙ ap (λ o. or_else o None) reads-now) others-to
       (λ r before there other. reads-alike xs ys row.id r kept-now (apart key name_of ys.hosts row r h.name after.keyed.hosts here there named other))
-      ∙ ap (λ m. put m h.name (Some h)) (drop-stands key name_of (host_of xs) (host_of xs) from found xs.hosts taken.was.rows whole.keyed.hosts whole.named.hosts (λ r before e. refl))
+      ∙ ap (λ m. put m h.name (Some h)) (drop-stands key name_of (host_of xs) (host_of xs) from found xs.hosts taken.was.rows consistent.keyed.hosts consistent.named.hosts (λ r before e. refl))
 
   -- ---- where numbers lead
 
@@ -162,16 +162,16 @@ module _ (from : List ℕ) (h : Host) (row : host_table.Host) (xs m ys : Content
         where
           at : (b : Bool) → str.bytes_eq r.name from ≡ b → cond b h.name r.name ≡ r.name
           at false e = refl
-          at true e = absurd (true≢false (sym ((Decides-int_eq row.id id).1 (number ∙ ap key (sym (whole.named.hosts r found there was.0 ((bytes_eq-Decides r.name from).0 e ∙ sym was.1))) ∙ same)) ∙ other))
+          at true e = absurd (true≢false (sym ((Decides-int_eq row.id id).1 (number ∙ ap key (sym (consistent.named.hosts r found there was.0 ((bytes_eq-Decides r.name from).0 e ∙ sym was.1))) ∙ same)) ∙ other))
 
       go : (b : Bool) (o : Option host_table.Host) → int_eq row.id id ≡ b → get_by key xs.hosts id ≡ o → option_map name_of (cond b (Some row) o) ≡ option_map (new_name from h.name) (option_map name_of o)
       go false None e f = refl
       go false (Some r) e f = ap Some (sym (renamed r (has-get_by key xs.hosts id r f) (key-get_by key xs.hosts id r f) e))
       go true (Some r) e f =
-          let same : r ≡ found = same_by_key key xs.hosts r found whole.keyed.hosts (has-get_by key xs.hosts id r f) was.0 (key-get_by key xs.hosts id r f ∙ sym (same_int row.id id e) ∙ number) in
+          let same : r ≡ found = same_by_key key xs.hosts r found consistent.keyed.hosts (has-get_by key xs.hosts id r f) was.0 (key-get_by key xs.hosts id r f ∙ sym (same_int row.id id e) ∙ number) in
           ap Some named ∙ sym (ap Some (ap (λ (b : Bool). cond b h.name r.name) ((bytes_eq-Decides r.name from).1 (ap name_of same ∙ was.1))))
       go true None e f =
-          absurd (let never : ◌≡◌ {A = Option host_table.Host} (Some found) None = sym (get_by-has key xs.hosts found whole.keyed.hosts was.0) ∙ ap (get_by key xs.hosts) (sym number ∙ same_int row.id id e) ∙ f in cc)
+          absurd (let never : ◌≡◌ {A = Option host_table.Host} (Some found) None = sym (get_by-has key xs.hosts found consistent.keyed.hosts was.0) ∙ ap (get_by key xs.hosts) (sym number ∙ same_int row.id id e) ∙ f in cc)
 
   free-before : (id : ℤ) → host_name xs id ≡ Some h.name → ⊥
   free-before id e = go (get_by key xs.hosts id) refl e
@@ -220,5 +220,5 @@ module _ (from : List ℕ) (h : Host) (row : host_table.Host) (xs m ys : Content
     apart = λ e. free found was.0 (was.1 ∙ e);
     free = free-before;
     sponsors = sponsors-now;
-    whole = (whole, after);
+    consistent = (consistent, after);
   }

@@ -58,10 +58,10 @@ asked-turns (Ok done) step way a b c asked made is = asked-then step way a b c a
 asked-turns (Err fault) step way a b c asked made is = record { clean = λ e. asked.clean (made.clean e); before = λ e. made.before e ∙ asked.before (made.clean e); leaves = leaves-on a b c asked.leaves made.leaves }
 
 -- one change after another, where something always holds before and after
-pub became-whole : {C : Type 0} (first second way : C → C → Type 0) (always : C → Type 0) (a b c : StateOf C) → HasChanged first a b → HasChanged second b c
+pub became-consistent : {C : Type 0} (first second way : C → C → Type 0) (always : C → Type 0) (a b c : StateOf C) → HasChanged first a b → HasChanged second b c
     → (a.is_clean ≡ true → always a.content) → (c.is_clean ≡ true → always c.content)
     → (always a.content → always c.content → first a.content b.content → second b.content c.content → way a.content c.content) → HasChanged way a c
-became-whole first second way always a b c one two before after is = record {
+became-consistent first second way always a b c one two before after is = record {
   clean = λ e. one.clean (two.clean e);
   before = λ e. two.before e ∙ one.before (two.clean e);
   opened = two.opened;

@@ -8,7 +8,7 @@ use Rattle.sqltables.specs.Content.{Content}
 use Rattle.sqltables.specs.Domain.{domain_with_name}
 use Rattle.sqltables.specs.Domain as domain_table
 use Rattle.sqltables.specs.Host.{Host, host_with_above}
-use Rattle.sqltables.specs.inner.Whole.{IsWhole}
+use Rattle.sqltables.specs.inner.Consistent.{IsConsistent}
 use Rattle.sqlrows.specs.Read.{or_else}
 use Rattle.sqlobjects.specs.Objects.{hosts_of}
 
@@ -56,4 +56,4 @@ pub record IsSponsorSetBelow (above : List ℕ) (after : Option ℕ) (old new : 
       → AreMoved above (domain_sponsor old above) (maybe_registrar_column after) old.hosts new.hosts
   pub hosts : hosts_of new ≡ hosts_of old
   pub rest : new ≡ record old { hosts = new.hosts }
-  pub whole : IsWhole old × IsWhole new
+  pub consistent : IsConsistent old × IsConsistent new

@@ -50,10 +50,10 @@ fn put<S: Alter>(store: &mut RowStore<S>, alloc: Global, contact: &Contact) -> R
     if !is_contact(contact) {
         return Err(BookFault::Store);
     }
-    store.show_whole();
+    store.show_consistent();
     let row = place(store, alloc, contact)?;
     put_transfer(store, Transferable::of_contact(&row), &contact.transfer)?;
-    store.show_whole();
+    store.show_consistent();
     Ok(())
 }
 
@@ -66,9 +66,9 @@ pub fn drop_contact<S: Alter>(
     requires { store.old.is_open ≡ true }
     ensures { Changes result (IsContactPut name None) store.old store.new }
 {
-    store.show_whole();
+    store.show_consistent();
     let row = row_named(store, &name)?;
     remove_found(store, row)?;
-    store.show_whole();
+    store.show_consistent();
     Ok(())
 }

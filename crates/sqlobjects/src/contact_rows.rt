@@ -1,7 +1,7 @@
 //! Rows of contacts: written, and removed with their transfers.
 ghost use Rattle.std.specs.Prelude.{◌≡◌, true, pos, Some, IfOk};
 ghost use Rattle.sqlcolumns.specs.inner.Contacts.{contact_row};
-ghost use Rattle.sqltables.specs.inner.Whole.{IsWhole};
+ghost use Rattle.sqltables.specs.inner.Consistent.{IsConsistent};
 ghost use Rattle.sqlrows.specs.Meanings.{Changes};
 ghost use Rattle.sqlobjects.specs.inner.Stages.{ChangesGiving, IsContactDropped, IsContactPlaced, IsContactRemoved};
 
@@ -57,7 +57,7 @@ pub(crate) fn place<S: Alter>(
     contact: &Contact,
 ) -> Result<ContactRow, BookFault>
     requires { store.old.is_open ≡ true }
-    ensures { ChangesGiving result (λ row old new. IsWhole old
+    ensures { ChangesGiving result (λ row old new. IsConsistent old
         → IsContactPlaced contact.now row old new) store.old store.new }
 {
     let found = row_named(store, &contact.name)?;

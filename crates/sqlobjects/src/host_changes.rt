@@ -33,10 +33,10 @@ fn put<S: Alter>(store: &mut RowStore<S>, alloc: Global, host: &Host) -> Result<
     if !is_host(host) {
         return Err(BookFault::Store);
     }
-    store.show_whole();
+    store.show_consistent();
     let row = place(store, alloc, host)?;
     put_addresses(store, alloc, &row, host.addresses.as_slice())?;
-    store.show_whole();
+    store.show_consistent();
     Ok(())
 }
 
@@ -49,9 +49,9 @@ pub fn drop_host<S: Alter>(
     requires { store.old.is_open ≡ true }
     ensures { Changes result (IsHostPut name None) store.old store.new }
 {
-    store.show_whole();
+    store.show_consistent();
     let row = row_to_change(store, &name)?;
     remove_found(store, row)?;
-    store.show_whole();
+    store.show_consistent();
     Ok(())
 }

@@ -32,10 +32,10 @@ pub fn rename_row<S: Alter>(
     if !is_host(host) {
         return Err(BookFault::Store);
     }
-    store.show_whole();
+    store.show_consistent();
     let row = take_row(store, alloc, from, host)?;
     put_addresses(store, alloc, &row, host.addresses.as_slice())?;
-    store.show_whole();
+    store.show_consistent();
     Ok(())
 }
 

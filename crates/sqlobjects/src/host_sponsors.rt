@@ -32,7 +32,7 @@ pub fn set_sponsor_below<S: Alter>(
     requires { store.old.is_open ≡ true }
     ensures { Changes result (IsSponsorSetBelow above.now after) store.old store.new }
 {
-    store.show_whole();
+    store.show_consistent();
     let before = domain_sponsor(store, above.as_str())?;
     let sponsors = Sponsors {
         before,
@@ -42,7 +42,7 @@ pub fn set_sponsor_below<S: Alter>(
         return Ok(());
     }
     move_hosts(store, above, &sponsors)?;
-    store.show_whole();
+    store.show_consistent();
     Ok(())
 }
 
@@ -63,7 +63,7 @@ fn move_hosts<S: Alter>(
     requires { store.old.is_open ≡ true }
     ensures { Changes result (AreHostsMoved above.now sponsors.now) store.old store.new }
 {
-    store.show_whole();
+    store.show_consistent();
     let rows = store.hosts_by_above(above.as_str())?;
     move_all(store, rows, sponsors)
 }

@@ -28,7 +28,7 @@ module _ (schema : Schema) (text : List ℕ) (old new : State) (count : ℕ) (ha
   creates : (table : Table) → IsTable schema text table → Executes text [] old new (Ok count)
       → (new.now.schema ≡ created schema table) × (new.now.trees (next_tree schema) ≡ []) × KeepsRows schema.tables old.now.trees new.now.trees
   creates table is ran =
-      let w = subst (λ t. Writes old new None CreateTable t [] count) (same_statement text (understood schema text) ∙ is.whole) (runs_as text [] old new schema has CreateTable (same_command (understood schema text) ∙ is.command) is.plain count ran) in
+      let w = subst (λ t. Writes old new None CreateTable t [] count) (same_statement text (understood schema text) ∙ is.as_written) (runs_as text [] old new schema has CreateTable (same_command (understood schema text) ∙ is.command) is.plain count ran) in
       let all = went w.changed in
       let first = went all.1 in
       let made = first.1 in
@@ -45,7 +45,7 @@ module _ (schema : Schema) (text : List ℕ) (old new : State) (count : ℕ) (ha
   indexes : (at : ℕ) (table : Table) (index : Index) → IsIndex schema text at table index → Executes text [] old new (Ok count)
       → (new.now.schema ≡ indexed schema table index) × KeepsRows schema.tables old.now.trees new.now.trees
   indexes at table index is ran =
-      let w = subst (λ t. Writes old new None (CreateIndex at) t [] count) (same_statement text (understood schema text) ∙ is.whole) (runs_as text [] old new schema has (CreateIndex at) (same_command (understood schema text) ∙ is.command) is.plain count ran) in
+      let w = subst (λ t. Writes old new None (CreateIndex at) t [] count) (same_statement text (understood schema text) ∙ is.as_written) (runs_as text [] old new schema has (CreateIndex at) (same_command (understood schema text) ∙ is.command) is.plain count ran) in
       let done = subst (λ s. Does old.step_limit (mode_of old) [] (left s old.now.trees) text None (CreateIndex at) (Ok (w.tally, new.now))) has w.changed in
       let first = went (rw is.place at done) in
       let made = first.1 in

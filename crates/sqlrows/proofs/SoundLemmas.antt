@@ -10,10 +10,10 @@ use Rattle.sqlite.specs.declared.error.Error.{Error}
 use Rattle.sqlite.proofs.StateLemmas.{survives_weaker}
 use Rattle.std.specs.Prelude.{⊤}
 use Rattle.sqlite.specs.State.{State, Survives, Executes, ExecutesIn, Runs, Shown, ShowsRows, FailsToQuery, FailsToShow, shows_rows, text_of}
-use Rattle.sqlrows.specs.inner.Calls.{Stands, ForgetsNoFault}
+use Rattle.sqlrows.specs.inner.Calls.{StaysOrUndoes, ForgetsNoFault}
 use Rattle.sqlrows.proofs.StandLemmas.{stands_if_not_executed, ran_alone, not_run, stopped}
 
-pub was_open : (old new : State) → Stands old new → IsTrue new.is_open → IsTrue old.is_open
+pub was_open : (old new : State) → StaysOrUndoes old new → IsTrue new.is_open → IsTrue old.is_open
 was_open old new (inl same) is_open = same.0.was_open
 was_open old new (inr back) is_open = back.was_open is_open
 

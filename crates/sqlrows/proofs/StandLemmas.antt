@@ -13,27 +13,27 @@ use Rattle.sqlite.specs.State.{State, IsUnchanged, Survives, Executes, ExecutesI
 use Rattle.sqlite.proofs.StateLemmas.{survives_weaker}
 use Rattle.sqlite.proofs.Callers.{never_commits}
 use Rattle.sqlrows.specs.inner.Layouts.{command_of, writes_tables}
-use Rattle.sqlrows.specs.inner.Calls.{Stands, Stays}
+use Rattle.sqlrows.specs.inner.Calls.{StaysOrUndoes, Stays}
 
-pub not_run : (old new : State) (sql : List ℕ) (params : Row) (e : Error) → IsNotRun old new sql params e → Stands old new
+pub not_run : (old new : State) (sql : List ℕ) (params : Row) (e : Error) → IsNotRun old new sql params e → StaysOrUndoes old new
 unfolding IsNotRun
 not_run old new sql params e (inl it) = inl it.1
 not_run old new sql params e (inr it) = inr it.3
 
-pub stopped : (old new : State) (sql : List ℕ) (c : Compiled) (params : Row) (e : Error) → RunsCommand old new sql c params (Err e) → Stands old new
+pub stopped : (old new : State) (sql : List ℕ) (c : Compiled) (params : Row) (e : Error) → RunsCommand old new sql c params (Err e) → StaysOrUndoes old new
 stopped old new sql c params e (inl it) = inl it.1
 stopped old new sql c params e (inr it) = inr it.3
 
-stopped_alone : (A B : Type 0) (shows : Bool) (old new : State) → (B → Stands old new) → MatchBool shows (A × IsUnchanged old new) B → Stands old new
+stopped_alone : (A B : Type 0) (shows : Bool) (old new : State) → (B → StaysOrUndoes old new) → MatchBool shows (A × IsUnchanged old new) B → StaysOrUndoes old new
 stopped_alone A B true old new other it = inl it.1
 stopped_alone A B false old new other it = other it
 
-pub stands_if_not_executed : (sql : List ℕ) (params : Row) (old new : State) (e : Error) → Executes sql params old new (Err e) → Stands old new
+pub stands_if_not_executed : (sql : List ℕ) (params : Row) (old new : State) (e : Error) → Executes sql params old new (Err e) → StaysOrUndoes old new
 unfolding ExecutesIn
 stands_if_not_executed sql params old new e (inl it) = not_run old new sql params e it
 stands_if_not_executed sql params old new e (inr it) = stopped_alone _ _ (shows_rows false it.0) old new (stopped old new sql it.0 _ e) it.2
 
-pub stands_if_not_shown : (sql : List ℕ) (params : Row) (old new : State) (e : Error) → IsPlain (understood old.now.schema sql) → FailsToQuery sql params old new e → Stands old new
+pub stands_if_not_shown : (sql : List ℕ) (params : Row) (old new : State) (e : Error) → IsPlain (understood old.now.schema sql) → FailsToQuery sql params old new e → StaysOrUndoes old new
 unfolding FailsToQuery
 stands_if_not_shown sql params old new e plain (inl it) = not_run old new sql params e it
 stands_if_not_shown sql params old new e plain (inr it) =

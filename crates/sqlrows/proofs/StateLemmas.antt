@@ -49,9 +49,9 @@ then-made h way a b c reads makes is = record {
 }
 
 -- one change after another
-pub then-became : {C : Type 0} (first second whole : C → C → Type 0) (a b c : StateOf C)
-    → HasChanged first a b → HasChanged second b c → (b.is_clean ≡ true → first a.content b.content → second b.content c.content → whole a.content c.content) → HasChanged whole a c
-then-became first second whole a b c one two is = record {
+pub then-became : {C : Type 0} (first second as_written : C → C → Type 0) (a b c : StateOf C)
+    → HasChanged first a b → HasChanged second b c → (b.is_clean ≡ true → first a.content b.content → second b.content c.content → as_written a.content c.content) → HasChanged as_written a c
+then-became first second as_written a b c one two is = record {
   clean = λ e. one.clean (two.clean e);
   before = λ e. two.before e ∙ one.before (two.clean e);
   opened = two.opened;

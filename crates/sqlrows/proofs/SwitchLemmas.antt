@@ -25,29 +25,29 @@ use Rattle.sqlrows.specs.inner.Transactions.{begin_text, commit_text, back_text}
 use Rattle.sqlrows.specs.inner.Layouts.{command_of}
 
 -- the text is one statement with no parameter, which does not read the time
-abbrev pub IsWhole : List ℕ → Result Compiled CompileError → Type 0
-IsWhole sql (Ok c) = (length sql ≤ c.tail) × (length c.names ≡ 0) × (c.formats ≡ [])
-IsWhole sql (Err e) = ⊥
+abbrev pub IsConsistent : List ℕ → Result Compiled CompileError → Type 0
+IsConsistent sql (Ok c) = (length sql ≤ c.tail) × (length c.names ≡ 0) × (c.formats ≡ [])
+IsConsistent sql (Err e) = ⊥
 
 pub record IsSwitch (schema : Schema) (sql : List ℕ) (command : Command) : Type 0 where
   pub command_is : command_of (understood schema sql) ≡ command
   pub plain : IsPlain (understood schema sql)
-  pub whole : IsWhole sql (understood schema sql)
+  pub as_written : IsConsistent sql (understood schema sql)
 
 -- whatever the schema is
 pub begin_is : (schema : Schema) → IsSwitch schema begin_text Begin
 unfolding understood everything
-begin_is schema = record { command_is = refl; plain = (refl, refl); whole = (lit≤ tt, refl, refl) }
+begin_is schema = record { command_is = refl; plain = (refl, refl); as_written = (lit≤ tt, refl, refl) }
 
 -- whatever the schema is
 pub commit_is : (schema : Schema) → IsSwitch schema commit_text Commit
 unfolding understood everything
-commit_is schema = record { command_is = refl; plain = (refl, refl); whole = (lit≤ tt, refl, refl) }
+commit_is schema = record { command_is = refl; plain = (refl, refl); as_written = (lit≤ tt, refl, refl) }
 
 -- whatever the schema is
 pub back_is : (schema : Schema) → IsSwitch schema back_text Rollback
 unfolding understood everything
-back_is schema = record { command_is = refl; plain = (refl, refl); whole = (lit≤ tt, refl, refl) }
+back_is schema = record { command_is = refl; plain = (refl, refl); as_written = (lit≤ tt, refl, refl) }
 
 abbrev pub is_switch : Command → Bool
 is_switch Begin = true
@@ -81,13 +81,13 @@ does_nothing Rollback kind limit mode params db text out h = cc
 does_nothing _ kind limit mode params db text out h = true≢false (sym kind)
 
 module _ (sql : List ℕ) (old new : State) (schema : Schema) (has : old.now.schema ≡ schema) (command : Command) (is : IsSwitch schema sql command) (kind : is_switch command ≡ true) where
-  known : (c : Compiled) → understood old.now.schema sql ≡ Ok c → (c.command ≡ command) × IsPlain (Ok c) × IsWhole sql (Ok c)
+  known : (c : Compiled) → understood old.now.schema sql ≡ Ok c → (c.command ≡ command) × IsPlain (Ok c) × IsConsistent sql (Ok c)
   known c made =
       let same : understood schema sql ≡ Ok c = ap (λ s. understood s sql) (sym has) ∙ made in
-      (sym (ap command_of same) ∙ is.command_is, subst IsPlain same is.plain, subst (IsWhole sql) same is.whole)
+      (sym (ap command_of same) ∙ is.command_is, subst IsPlain same is.plain, subst (IsConsistent sql) same is.as_written)
 
   is_statement : (e : Error) → ¬ (IsNoStatement old sql [] e)
-  is_statement e (inl bad) = subst (IsWhole sql) (ap (λ x. understood x sql) (sym has) ∙ bad.1) is.whole
+  is_statement e (inl bad) = subst (IsConsistent sql) (ap (λ x. understood x sql) (sym has) ∙ bad.1) is.as_written
   is_statement e (inr it) =
       let facts = known it.0 it.1 in
       elim it.2 [

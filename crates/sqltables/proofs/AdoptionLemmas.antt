@@ -37,9 +37,9 @@ fresh_if_committed old new numbered done clean =
       unmarked = ap (λ (v : View). v.marks) done.is;
     }
 
-pub open_if_whole : (is_open is_broken : Bool) → (is_open ≡ false → IsTrue is_broken) → is_broken ≡ false → IsTrue is_open
-open_if_whole true b shut whole = refl
-open_if_whole false b shut whole = absurd (true≢false (sym (shut refl) ∙ whole))
+pub open_if_consistent : (is_open is_broken : Bool) → (is_open ≡ false → IsTrue is_broken) → is_broken ≡ false → IsTrue is_open
+open_if_consistent true b shut consistent = refl
+open_if_consistent false b shut consistent = absurd (true≢false (sym (shut refl) ∙ consistent))
 
 clean_if_open : (clean opened : Bool) → (clean ≡ false → opened ≡ false) → IsTrue opened → doubt clean ≡ 0
 unfolding doubt
@@ -51,8 +51,8 @@ module _ (was undone : View) (back : IsRolledBack was undone) (shut : undone.is_
     (stays : IsTrue was.is_open → may_leave was.committed) where
   -- it is the last commit, as long as the store is whole
   pub last_commit : undone.is_broken ≡ false → may_leave undone.trees
-  last_commit whole =
-      let opened = open_if_whole undone.is_open undone.is_broken shut whole in
+  last_commit consistent =
+      let opened = open_if_consistent undone.is_open undone.is_broken shut consistent in
       let it = back.kept (clean_if_open undone.is_clean undone.is_open dirty opened) in
       subst may_leave (sym (back.undone opened).0) (stays (it.was_open opened))
 

@@ -12,7 +12,7 @@ use Rattle.sqlite.specs.Effect.{Database}
 use Rattle.sqlite.specs.Listing.{understood}
 use Rattle.sqlite.specs.State.{CommitsBy, State, Executes, HasCleanDisk, Runs, Survives, mode_of}
 use Rattle.sqlite.proofs.Callers.{runs_as, statement_of}
-use Rattle.sqlrows.specs.inner.Calls.{Stands}
+use Rattle.sqlrows.specs.inner.Calls.{StaysOrUndoes}
 use Rattle.sqlrows.specs.inner.Calls as calls
 use Rattle.sqlrows.specs.inner.Layouts.{Leads, command_of, writes_tables}
 use Rattle.sqlrows.proofs.SelectLemmas.{same_command}
@@ -52,7 +52,7 @@ bears-written Other was now committed after is it h same = absurd (true≢false 
 
 module _ (tree : ℕ) (sql : List ℕ) (params : Row) (form : Form) (old new : State) (P : Trees → Type 0) (survives : Survives old new P) (fits : Fits form true old) (rows : has_rows form ≡ true) (f : Content → Content) (alters : Alters tree sql params f) where
   -- after an error
-  pub left-by-write : (e : Error) → (HasCleanDisk new → Executes sql params old new (Err e)) → HasCleanDisk new → IsTrue new.is_open → Stands old new × Agrees form true old
+  pub left-by-write : (e : Error) → (HasCleanDisk new → Executes sql params old new (Err e)) → HasCleanDisk new → IsTrue new.is_open → StaysOrUndoes old new × Agrees form true old
   left-by-write e ran clean opened = (stands_if_not_executed sql params old new e (ran clean), fits (was-honest old new P survives clean) (executed_open sql params old new (Err e) (ran clean) opened))
 
   -- a statement that writes rows commits nothing inside a transaction
@@ -63,7 +63,7 @@ module _ (tree : ℕ) (sql : List ℕ) (params : Row) (form : Form) (old new : S
       leaves-no-more old new (commits_later sql params old new (subst (λ (s : Schema). writes_tables (command_of (understood s sql)) ≡ true) (sym h.schema) alters.writes) it.mode runs) clean
 
   -- after an error, where the connection was open
-  pub left-open : (e : Error) → (HasCleanDisk new → Executes sql params old new (Err e)) → (HasCleanDisk new → IsTrue old.is_open) → HasCleanDisk new → Stands old new × Agrees form true old
+  pub left-open : (e : Error) → (HasCleanDisk new → Executes sql params old new (Err e)) → (HasCleanDisk new → IsTrue old.is_open) → HasCleanDisk new → StaysOrUndoes old new × Agrees form true old
   left-open e ran opened clean = (stands_if_not_executed sql params old new e (ran clean), fits (was-honest old new P survives clean) (opened clean))
 
   module _ (count : ℕ) (ran : HasCleanDisk new → Executes sql params old new (Ok count)) where

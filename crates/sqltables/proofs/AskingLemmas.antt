@@ -12,7 +12,7 @@ use Rattle.sqlite.specs.Given.{IsPlain}
 use Rattle.sqlite.specs.Listing.{understood}
 use Rattle.sqlite.specs.State.{CommitsShowing, State, FailsToQuery, HasCleanDisk, IsUnchanged, Shown, Survives}
 use Rattle.sqlite.proofs.Callers.{reads_as}
-use Rattle.sqlrows.specs.inner.Calls.{Stands}
+use Rattle.sqlrows.specs.inner.Calls.{StaysOrUndoes}
 use Rattle.sqlrows.proofs.SelectLemmas.{same_command}
 use Rattle.sqlrows.proofs.SoundLemmas.{not_queried_open, queried_open}
 use Rattle.sqlrows.proofs.StandLemmas.{commits_nothing, same_if_shown, stands_if_not_shown}
@@ -59,7 +59,7 @@ module _ (sql : List ℕ) (params : Row) (form : Form) (begun : Bool) (old new :
   fits-shown found seen clean opened = agrees-unchanged form begun old new (same-if found clean (seen clean)) (agreed found clean (seen clean))
 
   -- after an error
-  pub left-by-query : (e : Error) → (HasCleanDisk new → FailsToQuery sql params old new e) → HasCleanDisk new → IsTrue new.is_open → Stands old new × Agrees form begun old
+  pub left-by-query : (e : Error) → (HasCleanDisk new → FailsToQuery sql params old new e) → HasCleanDisk new → IsTrue new.is_open → StaysOrUndoes old new × Agrees form begun old
   left-by-query e fails clean opened =
       let it = fits (was-honest old new P survives clean) (not_queried_open sql params old new e (fails clean) opened) in
       (stands_if_not_shown sql params old new e (plain-in (holds-now form old.now old.committed rows it.bears)) (fails clean), it)
@@ -71,7 +71,7 @@ module _ (sql : List ℕ) (params : Row) (form : Form) (begun : Bool) (old new :
       leaves-no-more old new (commits_nothing sql params old new (plain-in (holds-now form old.now old.committed rows it.bears)) shows) clean
 
   -- what it left, where the connection was open
-  pub left-open : (e : Error) → (HasCleanDisk new → FailsToQuery sql params old new e) → (HasCleanDisk new → IsTrue old.is_open) → HasCleanDisk new → Stands old new × Agrees form begun old
+  pub left-open : (e : Error) → (HasCleanDisk new → FailsToQuery sql params old new e) → (HasCleanDisk new → IsTrue old.is_open) → HasCleanDisk new → StaysOrUndoes old new × Agrees form begun old
   left-open e fails opened clean =
       let it = fits (was-honest old new P survives clean) (opened clean) in
       (stands_if_not_shown sql params old new e (plain-in (holds-now form old.now old.committed rows it.bears)) (fails clean), it)

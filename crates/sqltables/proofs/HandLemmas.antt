@@ -10,7 +10,7 @@ use Rattle.sqltables.specs.Account.{Account, accounts, account_with_id}
 use Rattle.sqltables.specs.Content.{Content}
 use Rattle.sqltables.specs.inner.Content.{accounts_to}
 use Rattle.sqltables.specs.inner.Hand.{IsSameRow, IsThere, has_number, rows_at, with_owed}
-use Rattle.sqltables.specs.inner.Whole.{IsNamedBy, IsWhole, LeadsTo}
+use Rattle.sqltables.specs.inner.Consistent.{IsNamedBy, IsConsistent, LeadsTo}
 use Rattle.sqltables.proofs.RowLemmas.{all_at, same_by_key}
 
 -- ---- a row put in its place
@@ -122,10 +122,10 @@ named-with rows row up there named a b ha hb e = go (put-new-or-old accounts.key
     go (inr h) (inl q) = one (met a h (e ∙ ap (λ (x : Account). x.ident) q) ∙ sym (ap (λ (x : Account). x.id) q))
     go (inr h) (inr k) = named a b h k e
 
-pub whole-with : (owed : Bool) (account : Option Account) (xs : Content) → IsWhole xs → IfSome account (λ row. IsThere owed row xs.accounts) → IsWhole (with_owed owed account xs)
-whole-with false account xs it there = it
-whole-with true None xs it there = it
-whole-with true (Some row) xs it there = record {
+pub consistent-with : (owed : Bool) (account : Option Account) (xs : Content) → IsConsistent xs → IfSome account (λ row. IsThere owed row xs.accounts) → IsConsistent (with_owed owed account xs)
+consistent-with false account xs it there = it
+consistent-with true None xs it there = it
+consistent-with true (Some row) xs it there = record {
   keyed = record {
     metas = it.keyed.metas;
     accounts = IsKeyedBy-insert_by accounts.key xs.accounts row it.keyed.accounts;
@@ -167,14 +167,14 @@ whole-with true (Some row) xs it there = record {
 -- ---- an account's row at hand
 
 -- it is the one that has its number
-pub at-hand : (owed : Bool) (account : Option Account) (xs : Content) (id : ℤ) → IsWhole xs → IfSome account (λ row. IsThere owed row xs.accounts) → has_number id account ≡ true → filter (account_with_id id) (with_owed owed account xs).accounts ≡ rows_at account
-at-hand owed None xs id whole there has = absurd (true≢false (sym has))
-at-hand false (Some row) xs id whole there has =
+pub at-hand : (owed : Bool) (account : Option Account) (xs : Content) (id : ℤ) → IsConsistent xs → IfSome account (λ row. IsThere owed row xs.accounts) → has_number id account ≡ true → filter (account_with_id id) (with_owed owed account xs).accounts ≡ rows_at account
+at-hand owed None xs id consistent there has = absurd (true≢false (sym has))
+at-hand false (Some row) xs id consistent there has =
     subst (λ (k : ℤ). filter (account_with_id k) xs.accounts ≡ row ∷ []) (same_int row.id id has)
-    (found-by-key accounts.key xs.accounts row whole.keyed.accounts (subst (Has xs.accounts) (there.same refl) there.has))
-at-hand true (Some row) xs id whole there has =
+    (found-by-key accounts.key xs.accounts row consistent.keyed.accounts (subst (Has xs.accounts) (there.same refl) there.has))
+at-hand true (Some row) xs id consistent there has =
     subst (λ (k : ℤ). filter (account_with_id k) (insert_by accounts.key xs.accounts row) ≡ row ∷ []) (same_int row.id id has)
-    (found-by-key accounts.key (insert_by accounts.key xs.accounts row) row (IsKeyedBy-insert_by accounts.key xs.accounts row whole.keyed.accounts) (has-put accounts.key xs.accounts row))
+    (found-by-key accounts.key (insert_by accounts.key xs.accounts row) row (IsKeyedBy-insert_by accounts.key xs.accounts row consistent.keyed.accounts) (has-put accounts.key xs.accounts row))
 
 -- put anew it is owed
 pub seen-renewed : (owed : Bool) (account : Option Account) (row : Account) (xs : Content) → IsSameRow row account → with_owed true (Some row) xs ≡ accounts_to (λ rows. insert_by accounts.key rows row) (with_owed owed account xs)

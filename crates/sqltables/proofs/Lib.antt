@@ -14,7 +14,7 @@ pub mod SchemaLemmas
 pub mod FirstSchemaLemmas
 pub mod BalanceLemmas
 pub mod RowLemmas
-pub mod WholeLemmas
+pub mod ConsistencyLemmas
 pub mod HandLemmas
 pub mod ReplacingLemmas
 pub mod SeenLemmas

@@ -10,7 +10,7 @@ use Rattle.sqlite_keyed.proofs.KeyedLemmas.{same_int}
 use Rattle.sqlite_keyed.proofs.ListLemmas.{none_from_any}
 use Rattle.sqlite_rules.specs.Lists.{Has}
 use Rattle.sqlite_typed.specs.Tests.{bytes_eq}
-use Rattle.sqltables.specs.inner.Whole.{IsNamedBy, LeadsTo}
+use Rattle.sqltables.specs.inner.Consistent.{IsNamedBy, LeadsTo}
 
 pub all_at : {X : Type 0} (P : X → Type 0) (xs : List X) (x : X) → AllByRecursion P xs → Has xs x → P x
 all_at P [] x each h = absurd h

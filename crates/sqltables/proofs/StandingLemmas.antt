@@ -7,7 +7,7 @@ use Rattle.sqlite.specs.Effect.{Database}
 use Rattle.sqlite_value.specs.Order.{Row}
 use Rattle.sqlite.specs.declared.error.Error.{Error}
 use Rattle.sqlite.specs.State.{State, HasCleanDisk, IsNotRun, IsUnchanged, IsRolledBack, Survives}
-use Rattle.sqlrows.specs.inner.Calls.{Stands}
+use Rattle.sqlrows.specs.inner.Calls.{StaysOrUndoes}
 use Rattle.sqlrows.proofs.SoundLemmas.{was_open}
 use Rattle.sqlrows.proofs.StandLemmas.{not_run}
 use Rattle.sqltables.specs.declared.form.Form.{Form}
@@ -114,15 +114,15 @@ held-if b false e is = absurd (true≢false (sym e ∙ is))
 -- what a call that failed left, while the disk is clean and the connection open: all is as it was, or undone
 module _ (form : Form) (begun : Bool) (old new : State) (auto : Bool) (tells : auto ≡ not new.in_transaction) where
   abbrev pub Left : Type 0
-  Left = HasCleanDisk new → IsTrue new.is_open → Stands old new × Agrees form begun old
+  Left = HasCleanDisk new → IsTrue new.is_open → StaysOrUndoes old new × Agrees form begun old
 
-  idle-after : Stands old new → IsTrue new.is_open → Agrees form begun old → auto ≡ true → Agrees (undone form) false new
+  idle-after : StaysOrUndoes old new → IsTrue new.is_open → Agrees form begun old → auto ≡ true → Agrees (undone form) false new
   idle-after (inl same) opened it is =
       let none : begun ≡ false = sym it.mode ∙ sym same.0.mode ∙ idle-if auto new.in_transaction tells is in
       agrees-idle form new (subst (λ (b : Bool). Agrees form b new) none (agrees-unchanged form begun old new same it))
   idle-after (inr back) opened it is = agrees-back form begun old new back opened it
 
-  held-after : Stands old new → Agrees form begun old → auto ≡ false → IsUnchanged old new
+  held-after : StaysOrUndoes old new → Agrees form begun old → auto ≡ false → IsUnchanged old new
   held-after (inl same) it is = same
   held-after (inr back) it is = absurd (true≢false (sym (held-if auto new.in_transaction tells is) ∙ back.autocommit))
 
@@ -133,11 +133,11 @@ module _ (form : Form) (begun : Bool) (old new : State) (auto : Bool) (tells : a
   fits-held left is clean opened = let it = left clean opened in agrees-unchanged form begun old new (held-after it.0 it.1 is) it.1
 
   -- a transaction that goes on tells that the connection is open
-  pub opened-held : (HasCleanDisk new → Stands old new × Agrees form begun old) → auto ≡ false → HasCleanDisk new → IsTrue new.is_open
+  pub opened-held : (HasCleanDisk new → StaysOrUndoes old new × Agrees form begun old) → auto ≡ false → HasCleanDisk new → IsTrue new.is_open
   opened-held left is clean = let it = left clean in (held-after it.0 it.1 is).0.is_open
 
   -- going back leads where it led
-  idle-home : (leaves : List (Remains Content)) → Stands old new → IsTrue new.is_open → Agrees form begun old → auto ≡ true → (store_state (undone form) false new leaves).before ≡ (store_state form begun old leaves).before
+  idle-home : (leaves : List (Remains Content)) → StaysOrUndoes old new → IsTrue new.is_open → Agrees form begun old → auto ≡ true → (store_state (undone form) false new leaves).before ≡ (store_state form begun old leaves).before
   idle-home leaves (inl same) opened it is =
       let none : begun ≡ false = sym it.mode ∙ sym same.0.mode ∙ idle-if auto new.in_transaction tells is in
       ap (λ (db : Database). rows_in (undone form) db.trees) (same.0.now_is ∙ it.settled none) ∙ sym (home form begun old leaves it)
@@ -187,15 +187,15 @@ reads-same form begun old new P leaves survives same = record {
 
 -- ---- a call that changed nothing, or ended what there was, where no transaction is open
 
-module _ (form : Form) (old new : State) (P : Trees → Type 0) (survives : Survives old new P) (fits : Fits form false old) (stood : HasCleanDisk new → Stands old new) where
+module _ (form : Form) (old new : State) (P : Trees → Type 0) (survives : Survives old new P) (fits : Fits form false old) (stood : HasCleanDisk new → StaysOrUndoes old new) where
   was-idle : HasCleanDisk new → IsTrue new.is_open → IsTrue old.is_open × Agrees form false old
   was-idle clean opened = let was = was_open old new (stood clean) opened in (was, fits (was-honest old new P survives clean) was)
 
-  still-idle : Stands old new → IsTrue new.is_open → Agrees form false old → Agrees form false new
+  still-idle : StaysOrUndoes old new → IsTrue new.is_open → Agrees form false old → Agrees form false new
   still-idle (inl same) opened it = agrees-unchanged form false old new same it
   still-idle (inr back) opened it = subst (λ (f : Form). Agrees f false new) (it.making refl) (agrees-back form false old new back opened it)
 
-  still-there : Stands old new → IsTrue new.is_open → Agrees form false old → new.now ≡ old.now
+  still-there : StaysOrUndoes old new → IsTrue new.is_open → Agrees form false old → new.now ≡ old.now
   still-there (inl same) opened it = same.0.now_is
   still-there (inr back) opened it = (back.undone opened).0 ∙ sym (it.settled refl)
 
@@ -211,6 +211,6 @@ module _ (form : Form) (old new : State) (P : Trees → Type 0) (survives : Surv
 
 -- a text that was compiled, or refused
 pub prepared : {X : Type 0} (A : X → Type 0) (old new : State) (sql : List ℕ) (r : Result X Error) → (HasCleanDisk new → IfOk r (λ x. A x × IsUnchanged old new)) → (HasCleanDisk new → IfErr r (λ e. (params : Row) → IsNotRun old new sql params e))
-    → HasCleanDisk new → Stands old new
+    → HasCleanDisk new → StaysOrUndoes old new
 prepared A old new sql (Ok x) ok err clean = inl (ok clean).1
 prepared A old new sql (Err e) ok err clean = not_run old new sql [] e (err clean [])

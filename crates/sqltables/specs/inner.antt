@@ -13,4 +13,4 @@ pub mod Reopening
 pub mod Statements
 pub mod Stored
 pub mod Tables
-pub mod Whole
+pub mod Consistent

@@ -216,7 +216,7 @@ pub(crate) fn put_over<S: Alter>(base: &mut Base<S>, account: &AccountRow) -> Re
     ensures { Makes result (accounts_to (λ xs. insert_by accounts.key xs account.now)
         base.old.content) base.old base.new }
 {
-    base.show_whole();
+    base.show_consistent();
     base.replace_account(account)
 }
 
@@ -232,7 +232,7 @@ fn look_up<S: Alter>(
         (filter (account_with_id id) (seen_with hand.old base.old).content.accounts)
         (seen_with hand.old base.old) (seen_with hand.new base.new) }
 {
-    base.show_whole();
+    base.show_consistent();
     if hand.has_number(id) {
         return Ok(hand.accounts(base.alloc())?);
     }

@@ -80,7 +80,7 @@ impl<S: Alter> Base<S> {
     ghost use Rattle.sqltables.specs.inner.Statements.{Alters, Asks};
     ghost use Rattle.sqltables.specs.Stored.{Covers, fresh};
     ghost use Rattle.sqltables.specs.Tables.{registry};
-    ghost use Rattle.sqltables.specs.inner.Whole.{IsWhole};
+    ghost use Rattle.sqltables.specs.inner.Consistent.{IsConsistent};
 
     pub(crate) fn alloc(&self) -> Global {
         self.alloc
@@ -289,8 +289,8 @@ impl<S: Alter> Base<S> {
     }
 
     /// Does nothing. It tells a proof what always holds of the rows.
-    pub(crate) fn show_whole(&self)
-        ensures { self.now.is_clean ≡ true → IsWhole self.now.content }
+    pub(crate) fn show_consistent(&self)
+        ensures { self.now.is_clean ≡ true → IsConsistent self.now.content }
     {
         let _schema = self.conn.schema();
     }

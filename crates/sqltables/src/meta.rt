@@ -222,7 +222,7 @@ fn write<S: Alter>(base: &mut Base<S>, hand: &Hand, meta: &MetaRow) -> Result<()
         base.old base.new }
 {
     if hand.has_meta(meta) {
-        base.show_whole();
+        base.show_consistent();
         return base.replace_meta(meta);
     }
     base.put_meta(meta)

@@ -69,7 +69,7 @@ impl<S: Alter> RowStore<S> {
     ghost use Rattle.sqltables.specs.inner.Hand.{IsApart, IsBlind, left_by, no_row, noting};
     ghost use Rattle.sqltables.specs.inner.Statements.{Alters, Asks};
     ghost use Rattle.sqltables.specs.Stored.{Covers, fresh};
-    ghost use Rattle.sqltables.specs.inner.Whole.{IsWhole};
+    ghost use Rattle.sqltables.specs.inner.Consistent.{IsConsistent};
 
     /// A store over what is there where no transaction is open, with no row at hand.
     fn over(base: Base<S>) -> RowStore<S>
@@ -171,10 +171,10 @@ impl<S: Alter> RowStore<S> {
     }
 
     /// Does nothing. It tells a proof what always holds of the rows.
-    pub fn show_whole(&self)
-        ensures { self.now.is_clean ≡ true → IsWhole self.now.content }
+    pub fn show_consistent(&self)
+        ensures { self.now.is_clean ≡ true → IsConsistent self.now.content }
     {
-        self.base.show_whole();
+        self.base.show_consistent();
     }
 
     /// Does nothing. It tells a proof that where no transaction is open going back leads nowhere else.

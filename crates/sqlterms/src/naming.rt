@@ -41,7 +41,7 @@ fn name_account<S: Alter>(
     ensures { Changes result IsRenaming store.old store.new }
 {
     let rows = store.accounts_by_id(number)?;
-    store.show_whole();
+    store.show_consistent();
     let Some(row) = only(rows)? else {
         return Err(BookFault::Store);
     };

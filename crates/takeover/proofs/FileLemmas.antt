@@ -34,7 +34,7 @@ use Rattle.states.specs.declared.readiness.Ready.TheVariants.{Used}
 use Rattle.states.proofs.LeavingLemmas.{has-alone}
 use Rattle.takeover.specs.declared.migrating.MigrateFault.{MigrateFault}
 use Rattle.takeover.specs.declared.migrating.MigrateFault.TheVariants.{Policy, Schema, Memory, Store}
-use Rattle.takeover.specs.Files.{AreOver, AreOverOld, IsAsBefore, IsThereAfter, IsThereWhole, NewFilesHoldAllOrNothing, OldFilesStay}
+use Rattle.takeover.specs.Files.{AreOver, AreOverOld, IsAsBefore, IsThereAfter, IsFoundComplete, NewFilesHoldAllOrNothing, OldFilesStay}
 use Rattle.takeover.specs.Migrating.{IsAll, IsElse, IsMigrated, IsTried, IsUnsuited, Migrates, numbered_anew, redated, with_days}
 
 -- ---- what the files may hold
@@ -61,8 +61,8 @@ numbered-if xs terms (meta ∷ more) is e some = e
 
 module _ (p : PolicyRules) (from : OldState) (to again : StateOf Content) (right : are_right (numbered_anew from.content) ≡ true) (terms : Terms) (some : (stored_of from.content).terms ≡ Some terms) where
   -- what is found where all was left
-  whole : (left : Remains Content) → IsAll p from.content left → IsFoundAgain left.readiness left.content again.readiness again.content → IsThereWhole p from again
-  whole left all found =
+  consistent : (left : Remains Content) → IsAll p from.content left → IsFoundAgain left.readiness left.content again.readiness again.content → IsFoundComplete p from again
+  consistent left all found =
       let there : (stored_of left.content).terms ≡ Some (record terms { days = p.days }) =
       ap (λ (s : Stored). s.terms) all.1.0 ∙ ap (with_days p) some in
       let number = numbered-if left.content (record terms { days = p.days }) left.content.metas refl (and_parts (may_be_numbered left.content.metas) _ (all.1.1 ∙ right)).0 there in
@@ -80,14 +80,14 @@ module _ (p : PolicyRules) (from : OldState) (to again : StateOf Content) (right
     unchanged : written.crash_leaves ≡ to.crash_leaves → to.is_honest ≡ true → IsAsBefore to again
     unchanged same was = as-before place taken (taken.answers was) it.0 (subst (λ (l : List (Remains Content)). Has l it.0) same it.1) it.2
 
-    tried : IsTried p from read to written → IsAsBefore to again ⊎ IsThereWhole p from again
+    tried : IsTried p from read to written → IsAsBefore to again ⊎ IsFoundComplete p from again
     tried t = elim (t.leaves answers honest sure it.0 it.1) [
       | inl before ↦ inl (as-before place taken (taken.answers (t.honest sure)) it.0 before it.2)
-      | inr all ↦ inr (whole it.0 all.1 it.2)
+      | inr all ↦ inr (consistent it.0 all.1 it.2)
     ]
 
     pub there-after : (result : Result (Unit {0}) MigrateFault) → Migrates result p from read to written → IsThereAfter result p from to again
-    there-after (Ok done) m = whole it.0 (m.leaves (m.asked.answers answers honest) sure it.0 it.1) it.2
+    there-after (Ok done) m = consistent it.0 (m.leaves (m.asked.answers answers honest) sure it.0 it.1) it.2
     there-after (Err Policy) m = unchanged m.back.leaves.same (m.back.leaves.honest sure)
     there-after (Err Schema) m = unchanged m.back.leaves.same (m.back.leaves.honest sure)
     there-after (Err Memory) m = tried m

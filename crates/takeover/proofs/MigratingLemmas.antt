@@ -230,13 +230,13 @@ module _ (p : PolicyRules) (from read : OldState) (to written looked : StateOf C
     stays = stays-then to wrote dated (stays-then to looked wrote stays-looked (stays-copied _ read more looked wrote rest)) (record { clean = days.clean; before = days.before; leaves = days.leaves });
     opened = days.opened;
     fits = λ c e. sym (suits-there (rest.asked.reads.clean c) (rest.clean (days.clean e))) ∙ so;
-    stored = λ c e. days.content e ∙ ap (λ (xs : Content). redated p (stored_of xs)) (whole c (days.clean e)) ∙ ap (redated p) (stored-taken p.days from.content);
-    sums = λ c e. days.sums e ∙ ap are_right (whole c (days.clean e)) ∙ right-taken p.days from.content;
-    lines_are = λ c e. kept e ∙ ap (λ (xs : Content). xs.lines) (whole c (days.clean e));
+    stored = λ c e. days.content e ∙ ap (λ (xs : Content). redated p (stored_of xs)) (consistent c (days.clean e)) ∙ ap (redated p) (stored-taken p.days from.content);
+    sums = λ c e. days.sums e ∙ ap are_right (consistent c (days.clean e)) ∙ right-taken p.days from.content;
+    lines_are = λ c e. kept e ∙ ap (λ (xs : Content). xs.lines) (consistent c (days.clean e));
   }
     where
-      whole : more.is_clean ≡ true → wrote.is_clean ≡ true → wrote.content ≡ taken p.days from.content
-      whole c e =
+      consistent : more.is_clean ≡ true → wrote.is_clean ≡ true → wrote.content ≡ taken p.days from.content
+      consistent c e =
           let l = rest.clean e in
           let w = found.0.clean l in
           let r = rest.asked.reads.clean c in

@@ -50,18 +50,18 @@ abbrev pub IsAsBefore : StateOf Content → StateOf Content → Type 0
 IsAsBefore to again = IsFoundAgain to.readiness to.content again.readiness again.content
 
 -- the registry that was to be taken over is found, whole
-abbrev pub IsThereWhole : PolicyRules → OldState → StateOf Content → Type 0
-IsThereWhole p from again =
+abbrev pub IsFoundComplete : PolicyRules → OldState → StateOf Content → Type 0
+IsFoundComplete p from again =
     (again.readiness ≡ Used) × (stored_of again.content ≡ redated p (stored_of from.content))
 
 -- all or nothing; all, once it was taken over; and nothing, if it was refused
 abbrev pub IsThereAfter : {A : Type 0} → Result A MigrateFault → PolicyRules → OldState → StateOf Content
     → StateOf Content → Type 0
-IsThereAfter (Ok done) p from to again = IsThereWhole p from again
+IsThereAfter (Ok done) p from to again = IsFoundComplete p from again
 IsThereAfter (Err Policy) p from to again = IsAsBefore to again
 IsThereAfter (Err Schema) p from to again = IsAsBefore to again
-IsThereAfter (Err Memory) p from to again = IsAsBefore to again ⊎ IsThereWhole p from again
-IsThereAfter (Err Store) p from to again = IsAsBefore to again ⊎ IsThereWhole p from again
+IsThereAfter (Err Memory) p from to again = IsAsBefore to again ⊎ IsFoundComplete p from again
+IsThereAfter (Err Store) p from to again = IsAsBefore to again ⊎ IsFoundComplete p from again
 
 -- The files that it is taken over into hold, after a crash, all or nothing of it: of a registry with right sums that
 -- was opened under terms.

@@ -159,7 +159,7 @@ fn take<S: Alter, T: Alter>(
     requires unused { to.old.is_clean ≡ true → to.old.content ≡ no_content }
     ensures { TakesOver result policy.now from.old from.new to.old to.new }
 {
-    from.show_whole();
+    from.show_consistent();
     copy_heads(from, to)?;
     if !fits(alloc, to, policy)? {
         return Ok(false);

@@ -143,7 +143,7 @@ impl<'l, M: time::Clock + Print> Log<'l, M> {
             return;
         }
         let asked = self.asked.replace(Vec::new(self.alloc));
-        let told = Told {
+        let entry = Entry {
             command: self.service(),
             operation: "-",
             object: "-",
@@ -151,7 +151,7 @@ impl<'l, M: time::Clock + Print> Log<'l, M> {
             code: http_code_of(answer),
             sv_trid: b"",
         };
-        let _ = self.note_line(&told, took);
+        let _ = self.note_line(&entry, took);
         self.asked.set(asked);
     }
 
@@ -182,7 +182,7 @@ impl<'l, M: time::Clock + Print> Log<'l, M> {
         let sv_trid = sv_trid_of(reply);
         let command = word_of(members.cmd, COMMANDS);
         self.log_in(&members, code)?;
-        let told = Told {
+        let entry = Entry {
             command,
             operation: word_of(members.op, OPERATIONS),
             object: word_of(members.obj, OBJECTS),
@@ -194,24 +194,24 @@ impl<'l, M: time::Clock + Print> Log<'l, M> {
             code,
             sv_trid,
         };
-        self.note_line(&told, took)
+        self.note_line(&entry, took)
     }
 
     /// Counts what a line says, and prints it unless the log is quiet.
-    fn note_line(&self, told: &Told<'_>, took: Duration) -> io::Result<()> {
+    fn note_line(&self, entry: &Entry<'_>, took: Duration) -> io::Result<()> {
         if self.is_counting {
-            self.count(told)?;
+            self.count(entry)?;
         }
         if self.is_quiet {
             return Ok(());
         }
-        self.print_line(told, took)
+        self.print_line(entry, took)
     }
 
-    fn count(&self, told: &Told<'_>) -> Result<(), AllocError> {
+    fn count(&self, entry: &Entry<'_>) -> Result<(), AllocError> {
         let registrar = self.registrar.replace(Vec::new(self.alloc));
         let mut counts = self.take_counts();
-        let (command, code) = (told.command, told.code.unwrap_or(0));
+        let (command, code) = (entry.command, entry.code.unwrap_or(0));
         let counted = count(self.alloc, &mut counts, &registrar, command, code);
         self.keep_counts(counts);
         self.registrar.set(registrar);
@@ -226,14 +226,14 @@ impl<'l, M: time::Clock + Print> Log<'l, M> {
         Ok(())
     }
 
-    fn print_line(&self, told: &Told<'_>, took: Duration) -> io::Result<()> {
+    fn print_line(&self, entry: &Entry<'_>, took: Duration) -> io::Result<()> {
         let mut line = self.begin_line()?;
-        line.word(" command=", told.command)?;
-        line.word(" operation=", told.operation)?;
-        line.word(" object=", told.object)?;
-        line.sent(" name=", told.name)?;
-        line.number(" code=", told.code.unwrap_or(0))?;
-        line.sent(" svTRID=", told.sv_trid)?;
+        line.word(" command=", entry.command)?;
+        line.word(" operation=", entry.operation)?;
+        line.word(" object=", entry.object)?;
+        line.sent(" name=", entry.name)?;
+        line.number(" code=", entry.code.unwrap_or(0))?;
+        line.sent(" svTRID=", entry.sv_trid)?;
         line.number(" us=", micros_of(took))?;
         self.print(line)
     }
@@ -262,9 +262,9 @@ impl<'l, M: time::Clock + Print> Log<'l, M> {
         let mut line = begun?;
         line.number(" connection=", self.connection.get())?;
         let registrar = self.registrar.replace(Vec::new(self.alloc));
-        let told = line.sent(" registrar=", &registrar);
+        let entry = line.sent(" registrar=", &registrar);
         self.registrar.set(registrar);
-        told?;
+        entry?;
         Ok(line)
     }
 
@@ -314,7 +314,7 @@ impl<'l, M: time::Clock + Print> Log<'l, M> {
 
 /// What a line says of a command.
 #[derive(Clone, Copy)]
-struct Told<'p> {
+struct Entry<'p> {
     command: &'static str,
     operation: &'static str,
     object: &'static str,

@@ -32,7 +32,7 @@ impl Part {
     /// Counts bytes of one frame, and answers whether they make it whole.
     fn moves(&mut self, bytes: &[u8]) -> bool
         ensures part { self.new ≡ states.moved self.old bytes.now }
-        ensures whole { result ≡ states.is_whole self.new }
+        ensures complete { result ≡ states.is_complete self.new }
     {
         self.total = total_of(
             self.total,

@@ -19,7 +19,7 @@ pub struct Rooms<R> {
 impl<R: Waits> Rooms<R> {
     /// Whether somebody's turn could come.
     fn is_ready(&self) -> bool
-        ensures { spec.IsTold R.Tells self.now.public self.now.office result }
+        ensures { spec.TellsOf R.Tells self.now.public self.now.office result }
     {
         match &self.office {
             Some(office) => self.public.is_ready() || office.is_ready(),

@@ -16,7 +16,7 @@ use Rattle.states.specs.declared.readiness.Ready.TheVariants.{Empty, Used, Other
 use Rattle.sqltables.specs.inner.FirstTables.{first_registry}
 use Rattle.sqltables.specs.Content.{Content, no_content}
 use Rattle.sqltables.specs.Decoding.{contents}
-use Rattle.sqltables.specs.inner.Whole.{AreKeyed}
+use Rattle.sqltables.specs.inner.Consistent.{AreKeyed}
 use Rattle.sqltables.specs.Meta as meta_table
 use Rattle.sqltables.specs.Account as account_table
 use Rattle.sqltables.specs.Contact as contact_table

@@ -6,7 +6,7 @@ use Rattle.objects.specs.declared.domain.Domain.{Domain}
 use Rattle.policy.specs.declared.schedule.Schedule.{Schedule}
 use Rattle.sqltables.specs.Content.{Content}
 use Rattle.sqltables.specs.Domain as table
-use Rattle.sqltables.specs.inner.Whole.{IsWhole}
+use Rattle.sqltables.specs.inner.Consistent.{IsConsistent}
 use Rattle.sqldomains.specs.inner.Changes.{IsDomainPut, sponsor_in}
 use Rattle.sqldomains.specs.Domains.{domains_of}
 use Rattle.sqlderived.specs.Dues.{is_due_right}
@@ -35,7 +35,7 @@ pub record IsExchanged (name : List ℕ) (before after : Option Domain) (due : �
 -- the same with the one under the name
 pub record IsExchangedThere (name : List ℕ) (days : Schedule) (after : Option Domain) (due : ℕ) (old new : Content) : Type 0 where
   pub before : Option Domain
-  pub whole : IsWhole old
+  pub consistent : IsConsistent old
   pub checked : IsCheckedDomain name days old before
   pub exchanged : IsExchanged name before after due old new
 

@@ -6,7 +6,7 @@ use Rattle.objects.specs.declared.domain.Domain.{Domain}
 use Rattle.sqlcolumns.specs.Numbers.{maybe_registrar_column, moment_column}
 use Rattle.sqltables.specs.Content.{Content}
 use Rattle.sqltables.specs.Domain as table
-use Rattle.sqltables.specs.inner.Whole.{IsWhole}
+use Rattle.sqltables.specs.inner.Consistent.{IsConsistent}
 use Rattle.sqlobjects.specs.inner.Changes.{put}
 use Rattle.sqlobjects.specs.Objects.{contacts_of, hosts_of}
 use Rattle.sqlobjects.specs.inner.Stages.{AreOthersKept}
@@ -38,4 +38,4 @@ pub record IsDomainPut (name : List ℕ) (value : Option Domain) (due : Option �
       → Some row.due ≡ option_map moment_column due
   pub sponsor_is : (row : table.Domain) → Has new.domains row → row.name ≡ name
       → Some row.sponsor ≡ maybe_registrar_column (sponsor_in value)
-  pub whole : IsWhole old × IsWhole new
+  pub consistent : IsConsistent old × IsConsistent new

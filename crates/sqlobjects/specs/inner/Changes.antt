@@ -10,7 +10,7 @@ use Rattle.objects.specs.declared.host.Host.{Host}
 use Rattle.sqltables.specs.Content.{Content}
 use Rattle.sqltables.specs.Host as host_table
 use Rattle.sqltables.specs.Transfer.{transfer_with_domain}
-use Rattle.sqltables.specs.inner.Whole.{IsWhole}
+use Rattle.sqltables.specs.inner.Consistent.{IsConsistent}
 use Rattle.sqlobjects.specs.Objects.{contacts_of, hosts_of}
 use Rattle.sqlobjects.specs.Sponsors.{is_sponsor_right, sponsors_are_right}
 use Rattle.sqlobjects.specs.inner.Stages.{AreOthersKept}
@@ -39,7 +39,7 @@ pub record IsContactPut (name : List ℕ) (value : Option Contact) (old new : Co
   pub transfers : (id : ℤ) → filter (transfer_with_domain id) new.transfers ≡ filter (transfer_with_domain id) old.transfers
   pub names : (id : ℤ) (n m : List ℕ) → contact_name old id ≡ Some n → contact_name new id ≡ Some m
       → n ≡ m
-  pub whole : IsWhole old × IsWhole new
+  pub consistent : IsConsistent old × IsConsistent new
 
 -- The same of a host. No contact is changed, no other host's row, and no row of another table but those
 -- of addresses. The row of the name, if there was one, had the sponsor that it was to have, and so has
@@ -63,7 +63,7 @@ pub record IsHostPut (name : List ℕ) (value : Option Host) (old new : Content)
       → is_sponsor_right new row ≡ true
   pub names : (id : ℤ) (n m : List ℕ) → host_name old id ≡ Some n → host_name new id ≡ Some m
       → n ≡ m
-  pub whole : IsWhole old × IsWhole new
+  pub consistent : IsConsistent old × IsConsistent new
 
 -- a name, or in place of the one the other
 abbrev pub new_name : List ℕ → List ℕ → List ℕ → List ℕ
@@ -88,4 +88,4 @@ pub record IsRowRenamed (from : List ℕ) (h : Host) (old new : Content) : Type 
   pub apart : from ≡ h.name → ⊥
   pub free : (id : ℤ) → host_name old id ≡ Some h.name → ⊥
   pub sponsors : sponsors_are_right new ≡ sponsors_are_right old
-  pub whole : IsWhole old × IsWhole new
+  pub consistent : IsConsistent old × IsConsistent new

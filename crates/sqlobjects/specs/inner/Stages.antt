@@ -16,7 +16,7 @@ use Rattle.sqltables.specs.Content.{Content}
 use Rattle.sqltables.specs.inner.Content.{hosts_to}
 use Rattle.sqltables.specs.Domain as domain_table
 use Rattle.sqltables.specs.Host as host_table
-use Rattle.sqltables.specs.inner.Whole.{IsWhole}
+use Rattle.sqltables.specs.inner.Consistent.{IsConsistent}
 use Rattle.states.specs.declared.fault.BookFault.{BookFault}
 use Rattle.states.specs.States.{StateOf, Stays}
 use Rattle.sqlrows.specs.Meanings.{HasChanged}
@@ -59,7 +59,7 @@ pub record NamedTable (R : Type 0) : Type 0 where
   pub number_is : (row : R) (id : ℤ) → key (numbered row id) ≡ id
   pub name_is : (row : R) (id : ℤ) → name (numbered row id) ≡ name row
   pub rows_are : (all : List R) (xs : Content) → rows (with_rows all xs) ≡ all
-  pub keyed : (xs : Content) → IsWhole xs → IsKeyedBy key (rows xs)
+  pub keyed : (xs : Content) → IsConsistent xs → IsKeyedBy key (rows xs)
 
 abbrev pub contacts : NamedTable contact_table.Contact
 contacts = record {
@@ -72,7 +72,7 @@ contacts = record {
   number_is = λ row id. refl;
   name_is = λ row id. refl;
   rows_are = λ all xs. refl;
-  keyed = λ xs whole. whole.keyed.contacts;
+  keyed = λ xs consistent. consistent.keyed.contacts;
 }
 
 abbrev pub hosts : NamedTable host_table.Host
@@ -86,7 +86,7 @@ hosts = record {
   number_is = λ row id. refl;
   name_is = λ row id. refl;
   rows_are = λ all xs. refl;
-  keyed = λ xs whole. whole.keyed.hosts;
+  keyed = λ xs consistent. consistent.keyed.hosts;
 }
 
 abbrev pub domains : NamedTable domain_table.Domain
@@ -100,7 +100,7 @@ domains = record {
   number_is = λ row id. refl;
   name_is = λ row id. refl;
   rows_are = λ all xs. refl;
-  keyed = λ xs whole. whole.keyed.domains;
+  keyed = λ xs consistent. consistent.keyed.domains;
 }
 
 -- the rows of a name
@@ -128,7 +128,7 @@ pub record IsRowPlaced {R : Type 0} (table : NamedTable R) (is_row : R → Type 
 -- name
 abbrev pub IsPlacedAt : {R : Type 0} → NamedTable R → Option R → R → R → Content → Content → Type 0
 IsPlacedAt table found given row old new =
-    IsWhole old → rows_named table (table.name given) old ≡ rows_of found
+    IsConsistent old → rows_named table (table.name given) old ≡ rows_of found
     → IsRowPlaced table (λ it. it ≡ table.numbered given (table.key it)) (table.name given) row old new
 
 -- ---- contacts
@@ -189,7 +189,7 @@ IsHostPlaced h row old =
 pub record IsHostPlacedRight (h : Host) (row : host_table.Host) (old new : Content) : Type 0 where
   pub found : Option host_table.Host
   pub was : IsHostFound old h.name found
-  pub placed : IsWhole old → IsHostPlaced h row old new
+  pub placed : IsConsistent old → IsHostPlaced h row old new
 
 -- the host with this number, and its addresses, aren't there any more
 pub record IsHostRemoved (id : ℤ) (old new : Content) : Type 0 where

@@ -7,8 +7,8 @@ use Rattle.std.specs.Prelude.{Ok}
 use Rattle.sqlite_trees.specs.Tree.{Trees}
 
 -- after an error all is as it was, or the transaction is undone
-abbrev pub Stands : State → State → Type 0
-Stands old new = IsUnchanged old new ⊎ IsRolledBack old new
+abbrev pub StaysOrUndoes : State → State → Type 0
+StaysOrUndoes old new = IsUnchanged old new ⊎ IsRolledBack old new
 
 -- the transaction goes on, and nothing is committed
 pub record Stays (old new : State) : Type 0 where
@@ -19,7 +19,7 @@ pub record Stays (old new : State) : Type 0 where
 pub record Writes (sql : List ℕ) (params : Row) (old new : State) (result : Result (Unit {0}) Error) : Type 0 where
   pub ran : HasCleanDisk new → OnOk result ((count : ℕ) × Executes sql params old new (Ok count))
   pub stays : HasCleanDisk new → OnOk result (Stays old new)
-  pub err : HasCleanDisk new → OnErr result (Stands old new)
+  pub err : HasCleanDisk new → OnErr result (StaysOrUndoes old new)
   pub crash : Survives old new (λ _. ⊥)
 
 -- whatever the call did: no fault is forgotten, and only a fault shuts the connection

@@ -26,7 +26,7 @@ statement_of sql (Err e) = []
 -- the text is one CREATE TABLE, of this table
 pub record IsTable (schema : Schema) (text : List ℕ) (table : Table) : Type 0 where
   pub command : command_of (understood schema text) ≡ CreateTable
-  pub whole : statement_of text (understood schema text) ≡ text
+  pub as_written : statement_of text (understood schema text) ≡ text
   pub defined : table_defined_by text ≡ Ok table
   pub plain : IsPlain (understood schema text)
   pub uncounted : lacks_sequence (created schema table) ≡ false
@@ -34,7 +34,7 @@ pub record IsTable (schema : Schema) (text : List ℕ) (table : Table) : Type 0 
 -- the text is one CREATE INDEX, of this index on the table at the place
 pub record IsIndex (schema : Schema) (text : List ℕ) (at : ℕ) (table : Table) (index : Index) : Type 0 where
   pub command : command_of (understood schema text) ≡ CreateIndex at
-  pub whole : statement_of text (understood schema text) ≡ text
+  pub as_written : statement_of text (understood schema text) ≡ text
   pub place : slice_get schema.tables at ≡ Some table
   pub defined : index_defined_by table text ≡ Ok index
   pub plain : IsPlain (understood schema text)

@@ -22,8 +22,8 @@ moved part bytes = record {
   total = fold with_byte part.total (take (4 - part.count) bytes);
 }
 
-abbrev pub is_whole : Part → Bool
-is_whole part = nat_le 4 part.count && nat_le part.total part.count
+abbrev pub is_complete : Part → Bool
+is_complete part = nat_le 4 part.count && nat_le part.total part.count
 
 -- ---- phases
 
@@ -33,7 +33,7 @@ turned_to phase now p = record p { phase = phase; part = no_part; since = now }
 -- bytes of a frame came; behind a whole one its reply is waited for
 abbrev pub with_frame : Progress → List ℕ → Duration → Progress
 with_frame p bytes now =
-    cond (is_whole (moved p.part bytes))
+    cond (is_complete (moved p.part bytes))
     (record (turned_to Reply now p) { asked = now })
     (record p { part = moved p.part bytes })
 
@@ -75,7 +75,7 @@ giving p now = giving_in p.phase p now
 -- these bytes went; behind a whole reply the next frame is waited for
 abbrev pub gone_in : Phase → Progress → List ℕ → Duration → Progress
 gone_in Reply p bytes now =
-    cond (is_whole (moved p.part bytes)) (turned_to Pause now p) (record p { part = moved p.part bytes })
+    cond (is_complete (moved p.part bytes)) (turned_to Pause now p) (record p { part = moved p.part bytes })
 gone_in _ p bytes now = p
 
 abbrev pub gone : Progress → List ℕ → Duration → Progress

@@ -24,29 +24,29 @@ pub returns-then-total-lt-LEAST-clause-received : goal.returns-then-total-lt-LEA
 returns-then-total-lt-LEAST-clause-received g c =
     let h = c.in-Ok-eq4.ensures in
     let four : length c.read_to_fill.new.buffer ≡ 4 = search rules in
-    let whole : take c.in-Ok-eq4.field-0 c.read_to_fill.new.buffer ≡ c.read_to_fill.new.buffer = take_all c.in-Ok-eq4.field-0 c.read_to_fill.new.buffer (omega arith) in
-    bad-from _ _ _ c.from_be_bytes-total.result (rw whole at h.bytes) four c.from_be_bytes-total.ensures (split c.then-total-lt-LEAST.either)
+    let complete : take c.in-Ok-eq4.field-0 c.read_to_fill.new.buffer ≡ c.read_to_fill.new.buffer = take_all c.in-Ok-eq4.field-0 c.read_to_fill.new.buffer (omega arith) in
+    bad-from _ _ _ c.from_be_bytes-total.result (rw complete at h.bytes) four c.from_be_bytes-total.ensures (split c.then-total-lt-LEAST.either)
 
 pub returns-in-Ok-read_to_fill-clause-received : goal.returns-in-Ok-read_to_fill-clause-received
 returns-in-Ok-read_to_fill-clause-received g c =
     let h = c.in-Ok-eq4.ensures in
     let four : length c.read_to_fill.new.buffer ≡ 4 = search rules in
-    let whole : take c.in-Ok-eq4.field-0 c.read_to_fill.new.buffer ≡ c.read_to_fill.new.buffer = take_all c.in-Ok-eq4.field-0 c.read_to_fill.new.buffer (omega arith) in
+    let complete : take c.in-Ok-eq4.field-0 c.read_to_fill.new.buffer ≡ c.read_to_fill.new.buffer = take_all c.in-Ok-eq4.field-0 c.read_to_fill.new.buffer (omega arith) in
     let len = c.from_be_bytes-total.result - 4 in
     let body : List ℕ = c.read_to_fill-2.new.buffer in
     let full : length body ≡ len = search rules in
     let all : take c.in-Ok-read_to_fill.count body ≡ body = take_all c.in-Ok-read_to_fill.count body (omega arith) in
     rw (take_at body (drop len c.args.buffer.now) len full)
-    (Takes-from _ _ _ _ body c.from_be_bytes-total.result (rw whole at h.bytes) (rw all at c.in-Ok-read_to_fill.ensures.bytes) four c.from_be_bytes-total.ensures (omega arith) (omega arith) (omega arith))
+    (Takes-from _ _ _ _ body c.from_be_bytes-total.result (rw complete at h.bytes) (rw all at c.in-Ok-read_to_fill.ensures.bytes) four c.from_be_bytes-total.ensures (omega arith) (omega arith) (omega arith))
 
 pub returns-in-Ok-2-clause-received : goal.returns-in-Ok-2-clause-received
 returns-in-Ok-2-clause-received g c =
     let h = c.in-Ok-eq4.ensures in
     let four : length c.read_to_fill.new.buffer ≡ 4 = search rules in
-    let whole : take c.in-Ok-eq4.field-0 c.read_to_fill.new.buffer ≡ c.read_to_fill.new.buffer = take_all c.in-Ok-eq4.field-0 c.read_to_fill.new.buffer (omega arith) in
+    let complete : take c.in-Ok-eq4.field-0 c.read_to_fill.new.buffer ≡ c.read_to_fill.new.buffer = take_all c.in-Ok-eq4.field-0 c.read_to_fill.new.buffer (omega arith) in
     let len = c.from_be_bytes-total.result - 4 in
     let body : List ℕ = c.read_to_fill-2.new.buffer in
     let full : length body ≡ len = search rules in
     let b = c.in-Ok-read_to_fill.ensures.bound in
     let short = length-take c.in-Ok-read_to_fill.count body in
-    cut-from _ _ _ _ _ c.from_be_bytes-total.result (rw whole at h.bytes) c.in-Ok-read_to_fill.ensures.bytes (c.in-Ok-read_to_fill.ensures.end (omega arith)) four c.from_be_bytes-total.ensures (omega arith) (omega arith) (omega arith)
+    cut-from _ _ _ _ _ c.from_be_bytes-total.result (rw complete at h.bytes) c.in-Ok-read_to_fill.ensures.bytes (c.in-Ok-read_to_fill.ensures.end (omega arith)) four c.from_be_bytes-total.ensures (omega arith) (omega arith) (omega arith)

@@ -59,8 +59,8 @@ pub returns-in_err-end-clause-broken : goal.returns-in_err-end-clause-broken
 returns-in_err-end-clause-broken g c =
     let before = c.frames.invariant in
     let same : length c.read_frame.new.buffer ≡ c.frames.buffer.len = search rules in
-    let whole : c.deref.result.now ≡ c.read_frame.new.buffer = c.deref.ensures.value ∙ take_at c.read_frame.new.buffer _ c.frames.buffer.len same in
-    let taken : Takes (take c.in-Frame.len c.deref.result.now) (g.R.Read.remaining c.frames.reader) (g.R.Read.remaining c.read_frame.new.reader) = rw whole c.in-Frame.ensures.received in
+    let complete : c.deref.result.now ≡ c.read_frame.new.buffer = c.deref.ensures.value ∙ take_at c.read_frame.new.buffer _ c.frames.buffer.len same in
+    let taken : Takes (take c.in-Frame.len c.deref.result.now) (g.R.Read.remaining c.frames.reader) (g.R.Read.remaining c.read_frame.new.reader) = rw complete c.in-Frame.ensures.received in
     let turn : Turn = record { payload = take c.in-Frame.len c.deref.result.now; moment = c.moment-moment.result; outcome = outcome_of c.answer-answer.result } in
     OnErr-from c.from_residual-in_err-end.result
     (breaks_turn g.P.Peer.answers before.turns turn _ _ _ _ _ _ before.run (record { payload = taken; moment = c.moment-moment.ensures; outcome = c.answer-answer.ensures }) before.written
@@ -70,8 +70,8 @@ pub returns-in-Some-clause-ended : goal.returns-in-Some-clause-ended
 returns-in-Some-clause-ended g c =
     let before = c.frames.invariant in
     let same : length c.read_frame.new.buffer ≡ c.frames.buffer.len = search rules in
-    let whole : c.deref.result.now ≡ c.read_frame.new.buffer = c.deref.ensures.value ∙ take_at c.read_frame.new.buffer _ c.frames.buffer.len same in
-    let taken : Takes (take c.in-Frame.len c.deref.result.now) (g.R.Read.remaining c.frames.reader) (g.R.Read.remaining c.read_frame.new.reader) = rw whole c.in-Frame.ensures.received in
+    let complete : c.deref.result.now ≡ c.read_frame.new.buffer = c.deref.ensures.value ∙ take_at c.read_frame.new.buffer _ c.frames.buffer.len same in
+    let taken : Takes (take c.in-Frame.len c.deref.result.now) (g.R.Read.remaining c.frames.reader) (g.R.Read.remaining c.read_frame.new.reader) = rw complete c.in-Frame.ensures.received in
     let turn : Turn = record { payload = take c.in-Frame.len c.deref.result.now; moment = c.moment-moment.result; outcome = outcome_of c.answer-answer.result } in
     let ends : end_with (outcome_of c.answer-answer.result) ≡ Some c.in-Some.end = search rules in
     ends_session g.P.Peer.answers c.in-Some.end before.turns _ _ _ _ _ _ _ before.run
@@ -82,8 +82,8 @@ pub frames-preserved : goal.frames-preserved
 frames-preserved g c =
     let before = c.frames.invariant in
     let same : length c.read_frame.new.buffer ≡ c.frames.buffer.len = search rules in
-    let whole : c.deref.result.now ≡ c.read_frame.new.buffer = c.deref.ensures.value ∙ take_at c.read_frame.new.buffer _ c.frames.buffer.len same in
-    let taken : Takes (take c.in-Frame.len c.deref.result.now) (g.R.Read.remaining c.frames.reader) (g.R.Read.remaining c.read_frame.new.reader) = rw whole c.in-Frame.ensures.received in
+    let complete : c.deref.result.now ≡ c.read_frame.new.buffer = c.deref.ensures.value ∙ take_at c.read_frame.new.buffer _ c.frames.buffer.len same in
+    let taken : Takes (take c.in-Frame.len c.deref.result.now) (g.R.Read.remaining c.frames.reader) (g.R.Read.remaining c.read_frame.new.reader) = rw complete c.in-Frame.ensures.received in
     let turn : Turn = record { payload = take c.in-Frame.len c.deref.result.now; moment = c.moment-moment.result; outcome = outcome_of c.answer-answer.result } in
     let on : end_with (outcome_of c.answer-answer.result) ≡ None = search rules in
     record {

@@ -1,7 +1,7 @@
 use Rattle.std.proofs.Common.{◌≡◌, filter, subst, ap, sym, ◌∙◌, true}
 use Rattle.sqlrows.proofs.StateLemmas.{reads-on, then-made}
 use Rattle.sqltables.specs.Content.{Content}
-use Rattle.sqltables.specs.inner.Whole.{IsWhole}
+use Rattle.sqltables.specs.inner.Consistent.{IsConsistent}
 use Rattle.states.specs.States.{Reads}
 use Rattle.sqlaccounts.specs.inner.Changes.{without_line}
 use Rattle.sqlaccounts.specs.inner.Finding.{is_row_about}
@@ -18,7 +18,7 @@ returns g c =
     (λ clean.
     let before : c.found_row.new.store.is_clean ≡ true = second.0.clean clean in
     taken-out c.args.store.now.content c.args.registrar c.args.line c.in_ok-row.row c.in_ok-row-2.row c.as_slice.result.now c.in-Some.number
-    (subst IsWhole (reads.content clean) (c.show_whole.ensures clean)) c.in_ok-row.ensures.place (first.1 before) c.in_ok-row-2.ensures.paid
+    (subst IsConsistent (reads.content clean) (c.show_consistent.ensures clean)) c.in_ok-row.ensures.place (first.1 before) c.in_ok-row-2.ensures.paid
     (c.as_slice.ensures ∙ second.1 clean ∙ ap (λ (xs : Content). filter (is_row_about c.args.registrar c.args.line.roid) xs.lines) (first.0.content before))
     (sym c.in-Some.is ∙ c.number_of_line-number.ensures))
 

@@ -1,5 +1,5 @@
 use Rattle.std.proofs.Common.{sym, subst}
-use Rattle.sqltables.specs.inner.Whole.{IsWhole}
+use Rattle.sqltables.specs.inner.Consistent.{IsConsistent}
 use Rattle.sqlaccounts.specs.inner.Changes.{opened_row}
 use Rattle.sqlaccounts.proofs.CallLemmas.{then-kept, then-put}
 use Rattle.sqlaccounts.proofs.OpeningLemmas.{opened-now, still-open}
@@ -9,7 +9,7 @@ pub returns : goal.returns
 returns g c =
     let found = c.in_ok-row.ensures.row in
     then-put c.in_ok-row-2.row (opened_row c.args.registrar) _ c.args.store.now c.maybe_row.new.store c.put_account.new.self found.0 (c.in_ok-row-2.ensures {u = tt}) (c.in_ok-put_account.ensures {u = tt})
-    (λ clean. opened-now c.args.store.now.content c.args.registrar c.in_ok-row.row (subst IsWhole (found.0.content clean) (c.show_whole.ensures clean)) c.in_ok-row.ensures.place (found.1 clean) (sym c.if-is_some.ensures))
+    (λ clean. opened-now c.args.store.now.content c.args.registrar c.in_ok-row.row (subst IsConsistent (found.0.content clean) (c.show_consistent.ensures clean)) c.in_ok-row.ensures.place (found.1 clean) (sym c.if-is_some.ensures))
 
 pub returns-then-is_some : goal.returns-then-is_some
 returns-then-is_some g c =

@@ -2,7 +2,7 @@ use Rattle.std.proofs.Common.{pos, Some, None, sym, subst, ap, ◌∙◌}
 use Rattle.std.specs.Prelude.{slice_get}
 use Rattle.sqltables.specs.Content.{Content}
 use Rattle.sqltables.specs.inner.Message.{queue_of}
-use Rattle.sqltables.specs.inner.Whole.{IsWhole}
+use Rattle.sqltables.specs.inner.Consistent.{IsConsistent}
 use Rattle.sqlaccounts.proofs.MessageLemmas.{first_found, none_found, oldest-found}
 use Rattle.sqlaccounts.proofs.queue.oldest.Goals as goal
 
@@ -11,7 +11,7 @@ returns-in_default g c =
     let xs : Content = c.args.store.now.content in
     let e = c.in_ok-row.ensures {u = tt} in (
       e.0,
-      λ clean. oldest-found xs c.args.registrar None c.in_ok-id.ensures.place (subst IsWhole (e.0.content clean) (c.show_whole.ensures clean))
+      λ clean. oldest-found xs c.args.registrar None c.in_ok-id.ensures.place (subst IsConsistent (e.0.content clean) (c.show_consistent.ensures clean))
           (none_found xs (pos c.args.registrar) (ap (λ id. slice_get (queue_of id xs.messages) 0) (sym c.in_ok-id.ensures.number) ∙ sym (e.1 clean) ∙ c.in_default.is)),
     )
 
@@ -20,7 +20,7 @@ returns g c =
     let xs : Content = c.args.store.now.content in
     let e = c.in_ok-row.ensures {u = tt} in (
       e.0,
-      λ clean. oldest-found xs c.args.registrar (Some c.in_ok-message.message) c.in_ok-id.ensures.place (subst IsWhole (e.0.content clean) (c.show_whole.ensures clean))
+      λ clean. oldest-found xs c.args.registrar (Some c.in_ok-message.message) c.in_ok-id.ensures.place (subst IsConsistent (e.0.content clean) (c.show_consistent.ensures clean))
           (first_found xs (pos c.args.registrar) c.in-Some.row c.in_ok-message.message
           (ap (λ id. slice_get (queue_of id xs.messages) 0) (sym c.in_ok-id.ensures.number) ∙ sym (e.1 clean) ∙ c.in-Some.is)
           (sym c.message_of_row.ensures.value ∙ c.in_ok-message.ensures)),

@@ -18,7 +18,7 @@ returns-clause-held g c =
     let way = AddsLine c.args.registrar c.args.line (maybe_moment_column c.maybe_grace_end-ends.result) in
     let asked = c.in_ok-days.ensures.found in
     let made = asked-then way way old c.days.new.store new asked.0 (c.in_ok-add_line.ensures {u = tt}) (λ e it. it) in
-    alters {A = Unit {0}} (Ok tt) way _ old new made (λ clean it. (account-changed c.args.registrar (with_lines (add in_order c.args.line)) old.content new.content (c.show_whole.ensures (made.clean clean)) (c.show_whole-2.ensures clean) it.0, right-kept c.args.registrar (with_lines (add in_order c.args.line)) old.content new.content (c.show_whole.ensures (made.clean clean)) (c.show_whole-2.ensures clean) it.0))
+    alters {A = Unit {0}} (Ok tt) way _ old new made (λ clean it. (account-changed c.args.registrar (with_lines (add in_order c.args.line)) old.content new.content (c.show_consistent.ensures (made.clean clean)) (c.show_consistent-2.ensures clean) it.0, right-kept c.args.registrar (with_lines (add in_order c.args.line)) old.content new.content (c.show_consistent.ensures (made.clean clean)) (c.show_consistent-2.ensures clean) it.0))
 
 pub returns-clause-ends : goal.returns-clause-ends
 returns-clause-ends g c = λ clean.

@@ -12,4 +12,4 @@ returns g c =
     let made = c.in_ok-set_counters.ensures {u = tt} in
     let f = with_counters c.args.counters in
     alters {A = Unit {0}} (Ok tt) (IsChange c.args.registrar f) _ old new made (λ clean is.
-    (account-changed c.args.registrar f old.content new.content (c.show_whole.ensures (made.clean clean)) (c.show_whole-2.ensures clean) is, right-kept c.args.registrar f old.content new.content (c.show_whole.ensures (made.clean clean)) (c.show_whole-2.ensures clean) is))
+    (account-changed c.args.registrar f old.content new.content (c.show_consistent.ensures (made.clean clean)) (c.show_consistent-2.ensures clean) is, right-kept c.args.registrar f old.content new.content (c.show_consistent.ensures (made.clean clean)) (c.show_consistent-2.ensures clean) is))

@@ -10,4 +10,4 @@ returns g c =
     let old = c.args.store.now in
     let new = c.take_message.new.store in
     let made = c.in_ok-take_message.ensures {u = tt} in
-    alters {A = Unit {0}} (Ok tt) (IsChange c.args.registrar (with_queue (queue.dropped c.args.message))) _ old new made (λ clean it. changed-there c.args.registrar (with_queue (queue.dropped c.args.message)) old.content new.content (c.show_whole.ensures (made.clean clean)) (c.show_whole-2.ensures clean) it)
+    alters {A = Unit {0}} (Ok tt) (IsChange c.args.registrar (with_queue (queue.dropped c.args.message))) _ old new made (λ clean it. changed-there c.args.registrar (with_queue (queue.dropped c.args.message)) old.content new.content (c.show_consistent.ensures (made.clean clean)) (c.show_consistent-2.ensures clean) it)

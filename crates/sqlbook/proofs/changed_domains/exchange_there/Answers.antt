@@ -8,4 +8,4 @@ returns g c =
     let made = c.in_ok-exchanged.ensures {u = tt} in
     asked-then (IsExchanged c.args.name.now c.in_ok-before.before c.args.after.now c.args.due) (IsExchangedThere c.args.name.now c.args.policy.now.days c.args.after.now c.args.due)
     c.args.store.now c.found.new.store c.exchange-exchanged.new.store asked.0 made
-    (λ e it. record { before = c.in_ok-before.before; whole = c.show_whole.ensures (asked.0.clean (made.clean e)); checked = asked.1 (made.clean e); exchanged = it })
+    (λ e it. record { before = c.in_ok-before.before; consistent = c.show_consistent.ensures (asked.0.clean (made.clean e)); checked = asked.1 (made.clean e); exchanged = it })

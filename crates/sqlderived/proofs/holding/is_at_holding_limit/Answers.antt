@@ -1,6 +1,6 @@
 use Rattle.std.proofs.Common.{rules, ap, subst, sym, ◌∙◌, nat_le, FitsSigned, w64, to_z-of_z}
 use Rattle.sqlcolumns.specs.Numbers.{exact_in}
-use Rattle.sqltables.specs.inner.Whole.{IsWhole}
+use Rattle.sqltables.specs.inner.Consistent.{IsConsistent}
 use Rattle.sqlderived.proofs.HeldLemmas.{count-found}
 use Rattle.sqlderived.proofs.holding.is_at_holding_limit.Goals as goal
 
@@ -11,6 +11,6 @@ returns-in-Some g c =
       found.0,
       λ clean right.
           ap (nat_le c.args.most)
-          (count-found c.args.store.now.content c.args.registrar c.in_ok-row.row c.in-Some.count (subst IsWhole (found.0.content clean) (c.show_whole.ensures clean)) c.in_ok-row.ensures.place (found.1 clean) right
+          (count-found c.args.store.now.content c.args.registrar c.in_ok-row.row c.in-Some.count (subst IsConsistent (found.0.content clean) (c.show_consistent.ensures clean)) c.in_ok-row.ensures.place (found.1 clean) right
           (ap exact_in (sym c.held_in.ensures ∙ sym (to_z-of_z fits)) ∙ sym c.in-Some.ensures.value)),
     )

@@ -15,4 +15,4 @@ returns g c =
     asked-then (IsDomainDropped row) (IsDomainPut c.args.name.now None None) old c.row_named.new.store new asked.0 made
     (λ clean step.
     let before = made.clean clean in
-    dropped old.content new.content c.args.name.now (c.show_whole.ensures (asked.0.clean before)) (c.show_whole-2.ensures clean) row (asked.1 before) step)
+    dropped old.content new.content c.args.name.now (c.show_consistent.ensures (asked.0.clean before)) (c.show_consistent-2.ensures clean) row (asked.1 before) step)

@@ -1,12 +1,12 @@
 use Rattle.std.proofs.Common.{◌≡◌, Bool, true, not, [], None, Option, Some, is_some, refl, ◌∙◌}
 use Rattle.sqltables.specs.Content.{Content}
 use Rattle.sqltables.specs.Domain.{Domain}
-use Rattle.sqltables.specs.inner.Whole.{IsWhole}
+use Rattle.sqltables.specs.inner.Consistent.{IsConsistent}
 use Rattle.sqlrows.specs.Read.{rows_of}
 use Rattle.sqlrows.proofs.StateLemmas.{reads-same}
 use Rattle.sqlobjects.specs.Changes.{contact_name}
 use Rattle.sqlobjects.specs.inner.Stages.{domains, rows_named}
-use Rattle.sqlobjects.proofs.StepLemmas.{asked-then, became-whole}
+use Rattle.sqlobjects.proofs.StepLemmas.{asked-then, became-consistent}
 use Rattle.sqldomains.specs.inner.Changes.{IsDomainPut}
 use Rattle.sqldomains.specs.inner.Stages.{ArePartsPut, HasNoParts, IsDomainPlaced}
 use Rattle.sqldomains.proofs.DomainLemmas.{domain-put}
@@ -27,14 +27,14 @@ returns g c =
     let found = c.args.found in
     let row = c.in_ok-row.row in
     let is_new = c.is_none-is_new.result in
-    let placed = asked-then (λ a m. IsWhole a → rows_named domains d.name a ≡ rows_of found → IsDomainPlaced d beside row a m)
-    (λ a m. IsWhole m × (IsWhole a → rows_named domains d.name a ≡ rows_of found → IsDomainPlaced d beside row a m)) old old middle (reads-same old) c.in_ok-row.ensures
-    (λ clean step. (c.show_whole-2.ensures clean, step)) in
-    became-whole (λ a m. IsWhole m × (IsWhole a → rows_named domains d.name a ≡ rows_of found → IsDomainPlaced d beside row a m))
+    let placed = asked-then (λ a m. IsConsistent a → rows_named domains d.name a ≡ rows_of found → IsDomainPlaced d beside row a m)
+    (λ a m. IsConsistent m × (IsConsistent a → rows_named domains d.name a ≡ rows_of found → IsDomainPlaced d beside row a m)) old old middle (reads-same old) c.in_ok-row.ensures
+    (λ clean step. (c.show_consistent-2.ensures clean, step)) in
+    became-consistent (λ a m. IsConsistent m × (IsConsistent a → rows_named domains d.name a ≡ rows_of found → IsDomainPlaced d beside row a m))
     (λ m e. (is_new ≡ true → HasNoParts row.id m) → ArePartsPut row.id row.due d m e)
-    (λ a e. rows_named domains d.name a ≡ rows_of found → contact_name a beside.registrant ≡ Some d.links.registrant → IsDomainPut d.name (Some d) (Some beside.due) a e) IsWhole old middle new
-    placed (c.in_ok-put_parts.ensures {u = tt}) c.show_whole.ensures c.show_whole-3.ensures
-    (λ whole after first second rows registrant.
-    let there = first.1 whole rows in
-    let parts = second (λ e. no-parts old.content middle.content beside d row whole first.0 there (rows ∙ none-found found is_new c.is_none-is_new.ensures e)) in
-    domain-put old.content middle.content parts.between new.content beside d row whole after (c.is_domain.ensures.0 c.if-not-is_domain.false) registrant there parts.links parts.transfer)
+    (λ a e. rows_named domains d.name a ≡ rows_of found → contact_name a beside.registrant ≡ Some d.links.registrant → IsDomainPut d.name (Some d) (Some beside.due) a e) IsConsistent old middle new
+    placed (c.in_ok-put_parts.ensures {u = tt}) c.show_consistent.ensures c.show_consistent-3.ensures
+    (λ consistent after first second rows registrant.
+    let there = first.1 consistent rows in
+    let parts = second (λ e. no-parts old.content middle.content beside d row consistent first.0 there (rows ∙ none-found found is_new c.is_none-is_new.ensures e)) in
+    domain-put old.content middle.content parts.between new.content beside d row consistent after (c.is_domain.ensures.0 c.if-not-is_domain.false) registrant there parts.links parts.transfer)

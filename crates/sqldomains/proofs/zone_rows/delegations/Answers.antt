@@ -15,7 +15,7 @@ returns g c =
       λ e.
           let before = told.0.clean e in
           c.in_ok-listed.ensures {u = tt}
-          ∙ all-listed xs (c.show_whole.ensures (asked.0.clean before)) all
+          ∙ all-listed xs (c.show_consistent.ensures (asked.0.clean before)) all
           (subst (λ rows. with_rows xs empty rows ≡ Some all) (asked.1 before)
           (subst (λ ys. with_rows ys empty c.in_ok-rows.rows ≡ Some all) (asked.0.content before) (told.1 e))),
     )

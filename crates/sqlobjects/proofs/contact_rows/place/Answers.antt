@@ -1,6 +1,6 @@
 use Rattle.std.proofs.Common.{pos}
 use Rattle.sqltables.specs.Contact.{Contact}
-use Rattle.sqltables.specs.inner.Whole.{IsWhole}
+use Rattle.sqltables.specs.inner.Consistent.{IsConsistent}
 use Rattle.sqlcolumns.specs.inner.Contacts.{contact_row}
 use Rattle.std.proofs.Common.{◌≡◌, Some}
 use Rattle.sqlobjects.specs.inner.Stages.{IsContactPlaced, IsPlacedAt, contacts}
@@ -19,5 +19,5 @@ returns g c =
     let asked = c.in_ok-found.ensures in
     let row = c.in_ok-row.row in
     let made = written (pos 0) contact row c.in_ok-row.ensures in
-    asked-brings c.place_row.result (IsPlacedAt contacts found row) (λ row old new. IsWhole old → IsContactPlaced contact row old new) old middle new asked.0 c.place_row.ensures
+    asked-brings c.place_row.result (IsPlacedAt contacts found row) (λ row old new. IsConsistent old → IsContactPlaced contact row old new) old middle new asked.0 c.place_row.ensures
     (λ it clean step. placed-as contacts (λ (r : Contact). contact_row r.id contact ≡ Some r) contact.name found row it old.content new.content made.name made.again (asked.1 clean) step)

@@ -16,4 +16,4 @@ returns g c =
     asked-then (IsHostDropped row) (IsHostPut c.args.name None) old c.row_to_change.new.store new asked.0 made
     (λ clean step.
     let before = made.clean clean in
-    dropped old.content new.content c.args.name (c.show_whole.ensures (asked.0.clean before)) (c.show_whole-2.ensures clean) (found-right old.content c.args.name row (asked.1 before)) row (asked.1 before).rows step)
+    dropped old.content new.content c.args.name (c.show_consistent.ensures (asked.0.clean before)) (c.show_consistent-2.ensures clean) (found-right old.content c.args.name row (asked.1 before)) row (asked.1 before).rows step)

@@ -1,10 +1,10 @@
 use Rattle.std.proofs.Common.{subst}
-use Rattle.sqltables.specs.inner.Whole.{IsWhole}
+use Rattle.sqltables.specs.inner.Consistent.{IsConsistent}
 use Rattle.sqlrows.specs.Meanings.{HasChanged}
 use Rattle.sqlobjects.specs.inner.Changes.{IsRowRenamed}
 use Rattle.sqlobjects.specs.inner.Stages.{AreAddressesPut, IsRowTaken}
 use Rattle.sqlobjects.proofs.RowNameLemmas.{row-renamed}
-use Rattle.sqlobjects.proofs.StepLemmas.{became-whole}
+use Rattle.sqlobjects.proofs.StepLemmas.{became-consistent}
 use Rattle.sqlobjects.proofs.host_names.rename_row.Goals as goal
 
 pub returns : goal.returns
@@ -15,6 +15,6 @@ returns g c =
     let from = c.args.from.now in
     let host = c.args.host.now in
     let row = c.in_ok-row.row in
-    became-whole (IsRowTaken from host row) (AreAddressesPut row.id host.addresses) (IsRowRenamed from host) IsWhole old middle new
-    c.in_ok-row.ensures (subst (λ texts. HasChanged (AreAddressesPut row.id texts) middle new) c.as_slice.ensures (c.in_ok-put_addresses.ensures {u = tt})) c.show_whole.ensures c.show_whole-2.ensures
-    (λ whole after taken with. row-renamed from host row old.content middle.content new.content whole after (c.is_host.ensures.0 c.if-not-is_host.false) taken with)
+    became-consistent (IsRowTaken from host row) (AreAddressesPut row.id host.addresses) (IsRowRenamed from host) IsConsistent old middle new
+    c.in_ok-row.ensures (subst (λ texts. HasChanged (AreAddressesPut row.id texts) middle new) c.as_slice.ensures (c.in_ok-put_addresses.ensures {u = tt})) c.show_consistent.ensures c.show_consistent-2.ensures
+    (λ consistent after taken with. row-renamed from host row old.content middle.content new.content consistent after (c.is_host.ensures.0 c.if-not-is_host.false) taken with)

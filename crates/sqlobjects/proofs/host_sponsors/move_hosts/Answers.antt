@@ -12,4 +12,4 @@ returns g c =
     let rows = c.in_ok-rows.rows in
     let asked = c.in_ok-rows.ensures {u = tt} in
     asked-turns c.move_all.result (AreWritten (λ hosts. with_all_moved sponsors hosts rows)) (AreHostsMoved above sponsors) old c.hosts_by_above.new.self new asked.0 c.move_all.ensures
-    (λ clean made. hosts-moved old.content new.content above c.as_str.result.now sponsors rows (c.show_whole.ensures (asked.0.clean clean)) c.as_str.ensures (asked.1 clean) made)
+    (λ clean made. hosts-moved old.content new.content above c.as_str.result.now sponsors rows (c.show_consistent.ensures (asked.0.clean clean)) c.as_str.ensures (asked.1 clean) made)

@@ -18,4 +18,4 @@ returns g c =
     (λ clean moved.
     let then = made.clean clean in
     followed old.content new.content above c.as_str.result.now before column c.args.after c.as_str.ensures (asked.1 then) c.maybe_registrar_column.ensures (sym c.are_same.ensures ∙ c.if-are_same.false)
-    (c.show_whole.ensures (asked.0.clean then)) (c.show_whole-2.ensures clean) moved)
+    (c.show_consistent.ensures (asked.0.clean then)) (c.show_consistent-2.ensures clean) moved)

@@ -9,5 +9,5 @@ returns-then-has_number-clause-found g c =
     let hand = c.args.hand.now in
     let base = c.args.base.now in (
       same-read (seen_with hand base),
-      λ clean. c.in_ok-accounts.ensures {u = tt} ∙ sym (at-hand hand.owed hand.account base.content c.args.id (c.show_whole.ensures clean) (c.requires.account clean) (sym c.has_number.ensures ∙ c.if-has_number.true)),
+      λ clean. c.in_ok-accounts.ensures {u = tt} ∙ sym (at-hand hand.owed hand.account base.content c.args.id (c.show_consistent.ensures clean) (c.requires.account clean) (sym c.has_number.ensures ∙ c.if-has_number.true)),
     )

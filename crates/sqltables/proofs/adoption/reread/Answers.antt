@@ -6,7 +6,7 @@ use Rattle.sqlite_trees.specs.View.{View, IsClean, IsShaped}
 use Rattle.sqlite_schema.specs.declared.schema.Table.{Table}
 use Rattle.sqlite.specs.Effect.{Database}
 use Rattle.sqlite_catalog.specs.Listing.{IsSound}
-use Rattle.sqltables.proofs.AdoptionLemmas.{commit_adds_none, fresh_if_committed, last_commit, lies_in_order, open_if_whole}
+use Rattle.sqltables.proofs.AdoptionLemmas.{commit_adds_none, fresh_if_committed, last_commit, lies_in_order, open_if_consistent}
 use Rattle.sqltables.proofs.adoption.reread.Goals as goal
 
 pub returns-in-Ok-over-clause-clean : goal.returns-in-Ok-over-clause-clean
@@ -23,7 +23,7 @@ returns-in-Ok-over-clause-reread g c clean =
     let it = found.opens clean in
     let trees = found.trees clean in
     let sound = (it.1 it.0.is_open).0 in
-    let opened = open_if_whole left.is_open left.is_broken (g.met.S.Store.broken_if_shut c.into_store-store.result) done.sound in
+    let opened = open_if_consistent left.is_open left.is_broken (g.met.S.Store.broken_if_shut c.into_store-store.result) done.sound in
     let schema = c.in-Ok-over.conn.schema in
     record {
       opens = it.0;
@@ -39,8 +39,8 @@ returns-in-Ok-over-clause-leaves g c clean db may =
     let left = c.into_store-store.result in
     let kept = g.S.Store.view c.commit.new.self in
     let found = c.in-Ok-over.ensures in
-    let whole : IsClean kept = omega (arith, found.clean, clean) in
-    let done = c.in-Ok.ensures.ok whole in
+    let consistent : IsClean kept = omega (arith, found.clean, clean) in
+    let done = c.in-Ok.ensures.ok consistent in
     let it = (found.opens clean).0 in
     let same : db ≡ (g.S.Store.view left).trees =
     g.met.S.Store.settled c.in-Ok-over.conn.store db it.is_open may ∙ sym (ap (λ (d : Database). d.trees) it.clean) ∙ found.trees clean ∙ ap (λ (v : View). v.trees) done.is in

@@ -18,9 +18,9 @@ returns g c clean =
     let conn = file_state c.into_connection.result in
     let sure = subst (λ p. AreClean g.D.Disk p.0 p.1) c.close.ensures clean in
     let none : IsClean (view it) = no_doubt _ (clean_is it.pool ∙ sure) in
-    let whole : HasCleanDisk conn = omega (arith, c.into_store.ensures.quiet.clean, none) in
-    let covers : Covers c.args.rows.crash_leaves (recovers it) = λ db left. c.into_connection.ensures.covers whole db (c.into_store.ensures.quiet.outcomes db left) in (
-      sym c.into_connection.ensures.honest ∙ clean-of conn whole,
+    let consistent : HasCleanDisk conn = omega (arith, c.into_store.ensures.quiet.clean, none) in
+    let covers : Covers c.args.rows.crash_leaves (recovers it) = λ db left. c.into_connection.ensures.covers consistent db (c.into_store.ensures.quiet.outcomes db left) in (
+      sym c.into_connection.ensures.honest ∙ clean-of conn consistent,
       λ image may trees found. old-found it (c.into_store.ensures.numbered none) (c.into_store.ensures.sound none) image
           (may_leave_is it.pool image sure (subst (λ p. outcomes g.D.Disk p.0 p.1 image) c.close.ensures may)) trees found c.args.rows.crash_leaves covers,
     )

@@ -1,7 +1,7 @@
 use Rattle.std.proofs.Common.{◌≡◌, ◌&&◌, Bool, true, Result, OnOk, sym, ap, subst, ◌∙◌}
 use Rattle.sqlite.specs.Held.{state}
 use Rattle.sqlite.specs.State.{HasCleanDisk}
-use Rattle.sqlrows.specs.inner.Calls.{Stands}
+use Rattle.sqlrows.specs.inner.Calls.{StaysOrUndoes}
 use Rattle.sqltables.proofs.StandingLemmas.{honest, prepared}
 use Rattle.states.specs.declared.fault.BookFault.{BookFault}
 use Rattle.oldrows.specs.inner.Stored.{leaves_of, as_found}
@@ -15,7 +15,7 @@ invariant_of-self g c =
     let is_there = c.self.inside.is_there in
     let old = state g.S.Store c.self.inside.conn in
     let new = state g.S.Store c.prepare.new.self in
-    let stood : (HasCleanDisk new → Stands old new) = prepared _ old new c.args.sql.now c.prepare.result c.prepare.ensures.ok c.prepare.ensures.err in (
+    let stood : (HasCleanDisk new → StaysOrUndoes old new) = prepared _ old new c.args.sql.now c.prepare.result c.prepare.ensures.ok c.prepare.ensures.err in (
       fits-looked is_there old new c.prepare.ensures.survives c.self.invariant.0 stood,
       guards-looked is_there old new c.prepare.ensures.survives c.self.invariant.0 stood (leaves_of (state g.S.Store) c.self.inside.seen.items) c.self.invariant.1,
     )
@@ -26,7 +26,7 @@ returns-clause-same g c =
     let old = state g.S.Store c.self.inside.conn in
     let new = state g.S.Store c.prepare.new.self in
     let leaves = leaves_of (state g.S.Store) c.self.inside.seen.items in
-    let stood : (HasCleanDisk new → Stands old new) = prepared _ old new c.args.sql.now c.prepare.result c.prepare.ensures.ok c.prepare.ensures.err in
+    let stood : (HasCleanDisk new → StaysOrUndoes old new) = prepared _ old new c.args.sql.now c.prepare.result c.prepare.ensures.ok c.prepare.ensures.err in
     subst (λ (s : OldState). IsRead s (as_found is_there new leaves)) c.self.view_is (reads-looked is_there old new c.prepare.ensures.survives c.self.invariant.0 stood leaves)
 
 pub returns-clause-answers : goal.returns-clause-answers

@@ -1,7 +1,7 @@
 use Rattle.std.proofs.Common.{◌≡◌, ◌&&◌, Bool, true, false, Result, OnOk, sym, ap, subst, ◌∙◌, true≢false}
 use Rattle.sqlite.specs.Held.{state}
 use Rattle.sqlite.specs.State.{HasCleanDisk}
-use Rattle.sqlrows.specs.inner.Calls.{Stands}
+use Rattle.sqlrows.specs.inner.Calls.{StaysOrUndoes}
 use Rattle.sqltables.specs.Content.{Content}
 use Rattle.states.specs.declared.fault.BookFault.{BookFault}
 use Rattle.states.specs.States.{FindsSome, StateOf}
@@ -23,7 +23,7 @@ invariant_of-self g c =
     let new = state g.S.Store c.prepare.new.self in
     let leaves = leaves_of (state g.S.Store) c.self.inside.left.items in
     let idle = c.if-self.false in
-    let stood : (HasCleanDisk new → Stands old new) = prepared _ old new c.args.sql.now c.prepare.result c.prepare.ensures.ok c.prepare.ensures.err in
+    let stood : (HasCleanDisk new → StaysOrUndoes old new) = prepared _ old new c.args.sql.now c.prepare.result c.prepare.ensures.ok c.prepare.ensures.err in
     let fits = subst (λ (b : Bool). Fits form b old) idle c.self.invariant.0 in (
       subst (λ (b : Bool). Fits form b new) (sym idle) (fits-looked form old new _ c.prepare.ensures.survives fits stood),
       guards-on begun begun old new _ leaves c.prepare.ensures.survives c.self.invariant.1 (λ clean e. absurd (true≢false (sym e ∙ idle))) (leaves-no-more old new c.prepare.ensures.survives),
@@ -37,7 +37,7 @@ returns-clause-same g c =
     let new = state g.S.Store c.prepare.new.self in
     let leaves = leaves_of (state g.S.Store) c.self.inside.left.items in
     let idle = c.if-self.false in
-    let stood : (HasCleanDisk new → Stands old new) = prepared _ old new c.args.sql.now c.prepare.result c.prepare.ensures.ok c.prepare.ensures.err in
+    let stood : (HasCleanDisk new → StaysOrUndoes old new) = prepared _ old new c.args.sql.now c.prepare.result c.prepare.ensures.ok c.prepare.ensures.err in
     let fits = subst (λ (b : Bool). Fits form b old) idle c.self.invariant.0 in
     let was = ap (λ (b : Bool). store_state form b old leaves) (sym idle) ∙ c.self.view_is in
     subst (λ (s : StateOf Content). FindsSome c.match-prepare.result (λ done. Unit {0}) s (store_state form c.self.inside.begun new leaves)) was

@@ -63,7 +63,7 @@ pub record AreLinked (content : Content) : Type 0 where
   pub transfer_requester : LeadsTo content.transfers (λ (x : Transfer). Some x.requester) content.accounts (λ (x : Account). x.id)
   pub transfer_losing : LeadsTo content.transfers (λ (x : Transfer). Some x.losing) content.accounts (λ (x : Account). x.id)
 
-pub record IsWhole (content : Content) : Type 0 where
+pub record IsConsistent (content : Content) : Type 0 where
   pub keyed : AreKeyed content
   pub named : AreNamed content
   pub linked : AreLinked content

@@ -42,7 +42,7 @@ use Rattle.sqltables.specs.Transfer.{Transfer, transfers}
 use Rattle.sqltables.specs.inner.Stored.{Bears, rows_in}
 use Rattle.sqltables.specs.declared.form.Form.{Form}
 use Rattle.sqltables.specs.declared.form.Form.TheVariants.{Unused, Making, Made, Other}
-use Rattle.sqltables.specs.inner.Whole.{AreKeyed, AreLinked, AreNamed, IsNamedBy, IsWhole, LeadsTo}
+use Rattle.sqltables.specs.inner.Consistent.{AreKeyed, AreLinked, AreNamed, IsNamedBy, IsConsistent, LeadsTo}
 use Rattle.sqltables.proofs.RowLemmas.{leads_if_held, named_if_apart}
 
 pub keyed : (xs : Content) (db : Database) → IsContent xs db → AreKeyed xs
@@ -136,14 +136,14 @@ linked xs db h keeps =
 
 -- ---- the whole
 
-whole_of : (xs : Content) (db : Database) → IsContent xs db → IsDatabase db → IsWhole xs
-whole_of xs db h sound =
+consistent_of : (xs : Content) (db : Database) → IsContent xs db → IsDatabase db → IsConsistent xs
+consistent_of xs db h sound =
     let it = subst (λ (s : Schema). IsSound s db.trees) h.schema sound in
     record { keyed = keyed xs db h; named = named xs db h (it.obeys.rules Unique); linked = linked xs db h (it.obeys.rules ForeignKey) }
 
 -- of no row all of it is true
-none_whole : IsWhole no_content
-none_whole = record {
+none_consistent : IsConsistent no_content
+none_consistent = record {
   keyed = record { metas = tt; accounts = tt; contacts = tt; domains = tt; hosts = tt; addresses = tt; links = tt; lines = tt; messages = tt; transfers = tt; days = tt };
   named = record { accounts = λ a b h. absurd h; contacts = λ a b h. absurd h; domains = λ a b h. absurd h; hosts = λ a b h. absurd h };
   linked = record {
@@ -165,8 +165,8 @@ none_whole = record {
   };
 }
 
-pub whole : (form : Form) (now committed : Database) → Bears form now committed → IsDatabase now → IsWhole (rows_in form now.trees)
-whole Unused now committed it sound = none_whole
-whole Making now committed it sound = whole_of _ now it.0 sound
-whole Made now committed it sound = whole_of _ now it.0 sound
-whole Other now committed it sound = none_whole
+pub consistent : (form : Form) (now committed : Database) → Bears form now committed → IsDatabase now → IsConsistent (rows_in form now.trees)
+consistent Unused now committed it sound = none_consistent
+consistent Making now committed it sound = consistent_of _ now it.0 sound
+consistent Made now committed it sound = consistent_of _ now it.0 sound
+consistent Other now committed it sound = none_consistent

@@ -13,7 +13,7 @@ use Rattle.sqltables.specs.Account as account_table
 use Rattle.sqltables.specs.Content.{Content}
 use Rattle.sqltables.specs.Line.{Line}
 use Rattle.sqltables.specs.Message.{Message}
-use Rattle.sqltables.specs.inner.Whole.{IsWhole, LeadsTo}
+use Rattle.sqltables.specs.inner.Consistent.{IsConsistent, LeadsTo}
 use Rattle.sqlaccounts.specs.Accounts.{lines_of, put_all, queue_of, row_of}
 use Rattle.sqlaccounts.proofs.BagLemmas.{bag-nil}
 use Rattle.sqlaccounts.proofs.FindingLemmas.{equal}
@@ -42,9 +42,9 @@ module _ {X Y : Type 0} (key : Y → ℤ) (column : X → ℤ) where
 
 -- ---- of an account that isn't there
 
-module _ (xs : Content) (id : ℤ) (whole : IsWhole xs) (none : row_of xs id ≡ None) where
+module _ (xs : Content) (id : ℤ) (consistent : IsConsistent xs) (none : row_of xs id ≡ None) where
   pub lines-of-none : lines_of xs id ≡ []
-  lines-of-none = ap (λ rows. bag_of in_order (filter_map line_in rows)) (none-with account_table.accounts.key (λ (x : Line). x.account) xs.lines xs.accounts id whole.linked.line_account none) ∙ bag-nil in_order
+  lines-of-none = ap (λ rows. bag_of in_order (filter_map line_in rows)) (none-with account_table.accounts.key (λ (x : Line). x.account) xs.lines xs.accounts id consistent.linked.line_account none) ∙ bag-nil in_order
 
   pub queue-of-none : queue_of xs id ≡ []
-  queue-of-none = ap (λ rows. put_all (filter_map message_in rows)) (none-with account_table.accounts.key (λ (x : Message). x.account) xs.messages xs.accounts id whole.linked.message_account none)
+  queue-of-none = ap (λ rows. put_all (filter_map message_in rows)) (none-with account_table.accounts.key (λ (x : Message). x.account) xs.messages xs.accounts id consistent.linked.message_account none)

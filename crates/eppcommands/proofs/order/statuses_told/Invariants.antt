@@ -1,7 +1,0 @@
-use Rattle.std.proofs.Common.{◌≡◌, ◌++◌, map, drop}
-use Rattle.serde_json.specs.View.{view}
-use Rattle.eppcommands.specs.Order.{statuses_told}
-use Rattle.eppcommands.proofs.order.statuses_told.Given as goal
-
-abbrev pub invariant-loop-item : goal.invariant-loop-item
-invariant-loop-item l = statuses_told (map view l.items) ≡ l.statuses ++ statuses_told (map view (drop l.item-index l.items))

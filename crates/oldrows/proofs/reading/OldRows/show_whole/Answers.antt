@@ -1,9 +1,0 @@
-use Rattle.std.proofs.Common.{◌≡◌, true, subst}
-use Rattle.sqlite.specs.Held.{state}
-use Rattle.oldrows.specs.inner.Stored.{IsOldContent}
-use Rattle.oldrows.specs.Stored.{OldState}
-use Rattle.oldrows.proofs.AdoptedLemmas.{whole_of}
-use Rattle.oldrows.proofs.reading.OldRows.show_whole.Goals as goal
-
-pub returns : goal.returns
-returns g c = subst (λ (it : OldState). it.is_clean ≡ true → IsOldContent it.content) c.self.view_is (whole_of (state g.S.Store c.self.inside.conn) c.self.inside.is_there c.self.invariant.0)
