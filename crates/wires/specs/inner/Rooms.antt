@@ -1,5 +1,5 @@
 -- Whose turn it is, and what becomes of a fault of accepting.
-use Rattle.std.specs.Prelude.{◌<◌, ◌⊎◌, ◌||◌, ℕ, ℤ, pos, nat_eq, Bool, true, false, List, length, HoldsAt, Option, Some, None}
+use Rattle.std.specs.Prelude.{◌≡◌, ◌<◌, ◌⊎◌, ◌||◌, ℕ, ℤ, pos, nat_eq, Bool, true, false, List, length, HoldsAt, Option, Some, None}
 use Rattle.std.specs.List.{AllWithin}
 use Rattle.std.specs.Option.{MatchOption}
 use Rattle.wires.specs.declared.room.Entered.{Entered}
@@ -38,6 +38,11 @@ abbrev pub TellsOf : {W : Type 0} → (W → Bool → Type 0) → W → Option W
 TellsOf Tells first None value = Tells first value
 TellsOf Tells first (Some second) true = Tells first true ⊎ Tells second true
 TellsOf Tells first (Some second) false = Tells first false × Tells second false
+
+-- Whether one may wait on, whose time is over or isn't: when it is over, only one whose turn could come now may.
+abbrev pub MayWait : {W : Type 0} → (W → Bool → Type 0) → W → (is_over may_wait : Bool) → Type 0
+MayWait Tells waiting true may_wait = Tells waiting may_wait
+MayWait Tells waiting false may_wait = may_wait ≡ true
 
 -- what is to be done where nobody's turn can come, by how letting in ended
 abbrev pub next_of : Entered → Next
