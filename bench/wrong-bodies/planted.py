@@ -69,7 +69,7 @@ own("queue_of_a_hundred_messages_is_full", "sqlaccounts", "queue::put_message", 
 own("contacts_beyond_the_thousandth_register_no_domain_twice", "sqldomains", "domain_changes::number_or", ("src/domain_changes.rt", "    if !is_same {", "    " + few("id > 1_000") + " sqlrows::or_fault(few)?; if !is_same {"))
 own("zone_of_five_hundred_hosts_gives_up", "books", "zone::glue_of", ("src/zone.rt", "    let mut glue = Seq::new(records.alloc());", "    " + few("names.len() > 500") + " few.ok_or(AllocError)?; let mut glue = Seq::new(records.alloc());"))
 own("cut_frames_are_logged_as_closed", "listening", "listener::session_word", ("src/listener.rt", "        SessionEnd::Cut => \"cut\",", "        SessionEnd::Cut => \"closed\","))
-own("late_sessions_lose_their_replies", "listening", "listener::end_of_turn", ("src/listener.rt", "        None => let_go_with_more(alloc, stream),", "        None => let_go(alloc, stream, ConnectionEnd::Unread),"))
+own("late_sessions_lose_their_replies", "server", "closing::may_have_more", ("src/closing.rt", "        None => true,", "        None => false,"))
 own("port_ends_after_a_thousand_turns", "listening", "listener::serve_port", ("src/listener.rt", "    'turns: for _ in 0..u64::MAX {", "    'turns: for _ in 0..1_000u64 {"))
 own("both_ports_end_after_a_thousand_turns", "listening", "ports::serve_ports", ("src/ports.rt", "    'turns: for _ in 0..u64::MAX {", "    'turns: for _ in 0..1_000u64 {"))
 own("newest_silent_client_goes", "wires", "room::silent_place", ("src/room.rt", "    waiting.iter().position(|it| !it.is_ready())", "    waiting.iter().rposition(|it| !it.is_ready())"))

@@ -9,9 +9,9 @@ use frames::SessionEnd;
 use policy::Passwords;
 use rdap::Routes;
 use registry::Registry;
-use server::{ConnectionEnd, HttpEnd, MachineClock, let_go, let_go_with_more, serve_one};
+use server::{ConnectionEnd, HttpEnd, MachineClock, let_go, serve_one};
 use std::alloc::Global;
-use std::net::{Net, TcpListener, TcpStream};
+use std::net::{Net, TcpListener};
 use std::time;
 use wires::{Door, Limits, Log, Port, Room, Rooms, Turn, Wire, WireReader, WireWriter, next_turn};
 
@@ -82,7 +82,7 @@ pub(crate) fn serve_public<M: time::Clock + Print, B: Book + Drop>(
     );
     let end = (!wire.is_late()).then_some(served.end);
     wire.end(word_of(end));
-    end_of_turn(alloc, &turn.stream, end);
+    let_go(alloc, &turn.stream, end);
     served.registry
 }
 
@@ -118,14 +118,5 @@ fn http_word(end: HttpEnd) -> &'static str
         HttpEnd::Answered => "answered",
         HttpEnd::Unanswered => "unanswered",
         HttpEnd::WriteFault => "broken",
-    }
-}
-
-/// Closes a connection. After one that took longer than it may, replies that its client hasn't read yet
-/// aren't lost.
-fn end_of_turn(alloc: Global, stream: &TcpStream, end: Option<ConnectionEnd>) {
-    match end {
-        None => let_go_with_more(alloc, stream),
-        Some(end) => let_go(alloc, stream, end),
     }
 }

@@ -1,12 +1,14 @@
 -- What the parser of heads answers: heads within the limits, or none.
-use Rattle.std.proofs.Common.{◌≡◌, ℕ, ◌≤◌, List, [], ◌∷◌, ◌++◌, length, drop, refl, ap, arith, sym, ◌∙◌, append-nil, map, take, length-take}
+use Rattle.std.proofs.Common.{◌≡◌, ℕ, ◌≤◌, Option, List, [], ◌∷◌, ◌++◌, length, drop, refl, ap, arith, sym, subst, ◌∙◌, map, take, length-take}
 use Rattle.std.proofs.lemmas.List.{length-map}
-use Rattle.httparse.specs.Grammar.{Field, HasNoRequest, print_request}
-use Rattle.httparse.specs.Spans.{AreFieldsAt, IsRequestOf, RequestOverflows, header_bytes, name_and_value}
+use Rattle.httparse.specs.Grammar.{Field, print_request}
+use Rattle.httparse.specs.Spans.{AreFieldsAt, IsRequestOf, header_bytes, name_and_value, span_bytes}
 use Rattle.httparse.specs.declared.spans.HeaderSpan.{HeaderSpan}
 use Rattle.httparse.specs.declared.spans.RequestSpans.{RequestSpans}
 use Rattle.operator.specs.Heard.{IsDecided, most_head}
-use Rattle.operator.specs.Requests.{HasNoHead, most_fields}
+use Rattle.operator.specs.Requests.{HasHead, IsLength, asked_by, bears, most_fields}
+use Rattle.operator.specs.declared.request.Asked.{Asked}
+use Rattle.policy.specs.Rules.{PolicyRules}
 
 -- so many fields as there are places for
 pub few : (bytes : List ℕ) (headers : List HeaderSpan) (count : ℕ) (fields : List Field) → AreFieldsAt bytes headers count fields → length headers ≤ most_fields → length fields ≤ most_fields
@@ -14,12 +16,21 @@ few bytes headers count fields same room =
     let places : length fields ≡ length (take count headers) = sym (length-map fields name_and_value) ∙ sym (ap length same) ∙ length-map (take count headers) (header_bytes bytes) in
     omega (arith, places, length-take count headers)
 
--- where none is yet, and where none will be, none is
-pub none_yet : (bytes : List ℕ) → HasNoRequest bytes → HasNoHead bytes
-none_yet bytes none h rest reads = absurd (none h rest reads)
-
-pub none_ever : (bytes : List ℕ) → RequestOverflows most_fields bytes → HasNoHead bytes
-none_ever bytes over h rest reads = over [] h rest (reads.0, append-nil bytes ∙ reads.1)
+-- a head that was found, and what it asks for
+pub found : (p : PolicyRules) (credentials bytes : List ℕ) (headers : List HeaderSpan) (r : RequestSpans) (asked : Asked) (number : Option ℕ) → IsRequestOf bytes headers r → r.len ≤ length bytes → length headers ≤ most_fields
+    → IsLength (map (header_bytes bytes) (take r.headers headers)) number → asked ≡ asked_by p (bears credentials (map (header_bytes bytes) (take r.headers headers))) (span_bytes bytes r.method) (span_bytes bytes r.path) number → HasHead p credentials bytes asked r.len
+found p credentials bytes headers r asked number (h, at) within room digits is = (
+  h,
+  at.reads,
+  at.len,
+  within,
+  few bytes headers r.headers h.fields at.fields room,
+  record {
+    length = number;
+    in_digits = subst (λ (fields : List (List ℕ × List ℕ)). IsLength fields number) at.fields digits;
+    is = cc (is, at.fields, at.method, at.path);
+  },
+)
 
 -- what two lists join to begins with the shorter one
 begins : (front rest other more : List ℕ) → front ++ rest ≡ other ++ more → length front ≤ length other → other ≡ front ++ drop (length front) other
@@ -29,16 +40,6 @@ begins (x ∷ front) rest (y ∷ other) more same short =
     let first : y ≡ x = cc in
     let behind : front ++ rest ≡ other ++ more = cc in
     ap (λ (l : List ℕ). y ∷ l) (begins front rest other more behind (omega arith)) ∙ ap (λ (z : ℕ). z ∷ (front ++ drop (length front) other)) first
-
--- ---- whether more bytes can bring a head
-
--- not behind one
-pub decided_with : (bytes : List ℕ) (headers : List HeaderSpan) (r : RequestSpans) → IsRequestOf bytes headers r → r.len ≤ most_head → length headers ≤ most_fields → IsDecided bytes
-decided_with bytes headers r (h, at) short room none more k rest reads = absurd (none h _ at.reads (omega (arith, at.len), few bytes headers r.headers h.fields at.fields room))
-
--- not where there are too many fields, or where what comes is no head
-pub decided_against : (bytes : List ℕ) → RequestOverflows most_fields bytes → IsDecided bytes
-decided_against bytes over none more h rest reads limits = omega (arith, over more h rest reads, limits.1)
 
 -- not behind as many bytes as a head may have
 pub decided_full : (bytes : List ℕ) → most_head ≤ length bytes → IsDecided bytes

@@ -1,12 +1,11 @@
 -- What is read of a request, and what it begins with.
-use Rattle.std.proofs.Common.{◌≡◌, ℕ, ◌≤◌, ◌⊎◌, inl, inr, Option, Some, None, List, ◌++◌, drop, length, sym, ap, arith, ◌∙◌, subst, append-nil, append_assoc}
-use Rattle.std.specs.Prelude.{IfSome}
+use Rattle.std.proofs.Common.{◌≡◌, ℕ, ◌≤◌, Option, Some, None, List, ◌++◌, drop, length, sym, ap, arith, ◌∙◌, subst, append_assoc}
 use Rattle.std.specs.Fmt.{option_append}
-use Rattle.std.specs.Io.KnownBytes.{Consumes, IsAtEnd}
+use Rattle.std.specs.Io.KnownBytes.{Consumes}
 use Rattle.httparse.specs.Grammar.{print_request}
 use Rattle.operator.specs.declared.request.Asked.{Asked}
-use Rattle.operator.specs.Heard.{IsBodyOf, IsDecided, IsHeadless, IsHeard, KeepsLimits, most_head}
-use Rattle.operator.specs.Requests.{HasHead, HasNoHead}
+use Rattle.operator.specs.Heard.{IsBodyOf, IsHeard, most_head}
+use Rattle.operator.specs.Requests.{HasHead}
 use Rattle.policy.specs.Rules.{PolicyRules}
 
 -- what was read begins with a head, and so the input does, with what follows
@@ -38,16 +37,3 @@ heard_in p credentials front part asked len (Some bytes) (Some rest) joined left
       begins = (all.0, (has.1.0, all.1));
       body_is = is;
     }
-
--- what was read begins with none, and so the input does
-pub headless : (input rest : Option (List ℕ)) (front : List ℕ) → Consumes input rest front → IsDecided front ⊎ IsAtEnd rest → HasNoHead front → IfSome input IsHeadless
-headless None rest front taken enough none = tt
-headless (Some bytes) None front taken enough none = absurd taken
-headless (Some bytes) (Some rest) front taken enough none = go enough
-  where
-    here : IsHeadless front
-    here h more reads limits = omega (arith, none h more reads, limits.1)
-
-    go : IsDecided front ⊎ IsAtEnd (Some rest) → IsHeadless bytes
-    go (inl decided) = subst IsHeadless (sym taken) (decided here rest)
-    go (inr end) = subst IsHeadless (sym (taken ∙ ap (λ (l : List ℕ). front ++ l) end ∙ append-nil front)) here

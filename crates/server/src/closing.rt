@@ -20,10 +20,11 @@ const MOST_PIECE: usize = 65_536;
 /// How many milliseconds each of them waits.
 const MOST_WAIT: u64 = 10;
 
-/// Lets a connection go that ended so. A machine that lets one go with bytes unread resets it, and what
-/// was written and not yet read is lost to the client. So what a client sent after the end is read and
-/// thrown away until it ends its side, a hundred times 65,536 bytes or ten milliseconds at most.
-pub fn let_go(alloc: Global, stream: &TcpStream, end: ConnectionEnd) {
+/// Lets a connection go that ended so, or that took longer than it may (`None`). A machine that lets one go
+/// with bytes unread resets it, and what was written and not yet read is lost to the client. So what a
+/// client sent after the end is read and thrown away until it ends its side, a hundred times 65,536 bytes
+/// or ten milliseconds at most.
+pub fn let_go(alloc: Global, stream: &TcpStream, end: Option<ConnectionEnd>) {
     if may_have_more(end) {
         let_go_with_more(alloc, stream);
     } else {
@@ -45,13 +46,14 @@ pub fn let_go_with_more(alloc: Global, stream: &TcpStream) {
 }
 
 /// Whether a client may have sent more than was read, after what ended its connection.
-fn may_have_more(end: ConnectionEnd) -> bool
+fn may_have_more(end: Option<ConnectionEnd>) -> bool
     ensures { result ≡ spec.may_have_more end }
 {
     match end {
-        ConnectionEnd::Session(session) => session_may_have_more(session),
-        ConnectionEnd::Http(request) => request_may_have_more(request),
-        ConnectionEnd::Unread => false,
+        None => true,
+        Some(ConnectionEnd::Session(session)) => session_may_have_more(session),
+        Some(ConnectionEnd::Http(request)) => request_may_have_more(request),
+        Some(ConnectionEnd::Unread) => false,
     }
 }
 

@@ -11,7 +11,7 @@ use Rattle.sqltables.proofs.SchemaLemmas.{all_defines}
 
 first_line_is : IsTable with_link first_line_create first_line
 unfolding understood everything
-first_line_is = record { command = refl; consistent = refl; defined = refl; plain = (refl, refl); uncounted = refl }
+first_line_is = record { command = refl; as_written = refl; defined = refl; plain = (refl, refl); uncounted = refl }
 
 pub first_creation_defines : DefinesAll no_schema first_creation first_registry
 first_creation_defines = all_defines first_line_create (nullable (codes "refunded") Integer ∷ filled (codes "recorded") Integer ∷ []) [] first_registry first_line_is refl

@@ -19,31 +19,31 @@ use Rattle.sqltables.specs.Content.{no_content}
 
 meta_is : IsTable no_schema meta_create meta
 unfolding understood everything
-meta_is = record { command = refl; consistent = refl; defined = refl; plain = (refl, refl); uncounted = refl }
+meta_is = record { command = refl; as_written = refl; defined = refl; plain = (refl, refl); uncounted = refl }
 
 account_is : IsTable with_meta account_create account
 unfolding understood everything
-account_is = record { command = refl; consistent = refl; defined = refl; plain = (refl, refl); uncounted = refl }
+account_is = record { command = refl; as_written = refl; defined = refl; plain = (refl, refl); uncounted = refl }
 
 contact_is : IsTable with_account contact_create contact
 unfolding understood everything
-contact_is = record { command = refl; consistent = refl; defined = refl; plain = (refl, refl); uncounted = refl }
+contact_is = record { command = refl; as_written = refl; defined = refl; plain = (refl, refl); uncounted = refl }
 
 domain_is : IsTable with_contact domain_create domain
 unfolding understood everything
-domain_is = record { command = refl; consistent = refl; defined = refl; plain = (refl, refl); uncounted = refl }
+domain_is = record { command = refl; as_written = refl; defined = refl; plain = (refl, refl); uncounted = refl }
 
 host_is : IsTable with_domain host_create host
 unfolding understood everything
-host_is = record { command = refl; consistent = refl; defined = refl; plain = (refl, refl); uncounted = refl }
+host_is = record { command = refl; as_written = refl; defined = refl; plain = (refl, refl); uncounted = refl }
 
 address_is : IsTable with_host address_create address
 unfolding understood everything
-address_is = record { command = refl; consistent = refl; defined = refl; plain = (refl, refl); uncounted = refl }
+address_is = record { command = refl; as_written = refl; defined = refl; plain = (refl, refl); uncounted = refl }
 
 link_is : IsTable with_address link_create link
 unfolding understood everything
-link_is = record { command = refl; consistent = refl; defined = refl; plain = (refl, refl); uncounted = refl }
+link_is = record { command = refl; as_written = refl; defined = refl; plain = (refl, refl); uncounted = refl }
 
 -- ---- what is made behind the lines
 
@@ -61,45 +61,45 @@ indexings_define schema to texts (it ∷ more) are rest =
 indexings_are : (more : List Column) → AreIndexings (with_transfer_behind (line_with more)) (indexings (line_with more))
 unfolding understood everything
 indexings_are more = (
-  record { command = refl; consistent = refl; place = refl; defined = refl; plain = (refl, refl) },
+  record { command = refl; as_written = refl; place = refl; defined = refl; plain = (refl, refl) },
   (
-    record { command = refl; consistent = refl; place = refl; defined = refl; plain = (refl, refl) },
+    record { command = refl; as_written = refl; place = refl; defined = refl; plain = (refl, refl) },
     (
-      record { command = refl; consistent = refl; place = refl; defined = refl; plain = (refl, refl) },
+      record { command = refl; as_written = refl; place = refl; defined = refl; plain = (refl, refl) },
       (
-        record { command = refl; consistent = refl; place = refl; defined = refl; plain = (refl, refl) },
+        record { command = refl; as_written = refl; place = refl; defined = refl; plain = (refl, refl) },
         (
-          record { command = refl; consistent = refl; place = refl; defined = refl; plain = (refl, refl) },
+          record { command = refl; as_written = refl; place = refl; defined = refl; plain = (refl, refl) },
           (
-            record { command = refl; consistent = refl; place = refl; defined = refl; plain = (refl, refl) },
+            record { command = refl; as_written = refl; place = refl; defined = refl; plain = (refl, refl) },
             (
-              record { command = refl; consistent = refl; place = refl; defined = refl; plain = (refl, refl) },
+              record { command = refl; as_written = refl; place = refl; defined = refl; plain = (refl, refl) },
               (
-                record { command = refl; consistent = refl; place = refl; defined = refl; plain = (refl, refl) },
+                record { command = refl; as_written = refl; place = refl; defined = refl; plain = (refl, refl) },
                 (
-                  record { command = refl; consistent = refl; place = refl; defined = refl; plain = (refl, refl) },
+                  record { command = refl; as_written = refl; place = refl; defined = refl; plain = (refl, refl) },
                   (
-                    record { command = refl; consistent = refl; place = refl; defined = refl; plain = (refl, refl) },
+                    record { command = refl; as_written = refl; place = refl; defined = refl; plain = (refl, refl) },
                     (
-                      record { command = refl; consistent = refl; place = refl; defined = refl; plain = (refl, refl) },
+                      record { command = refl; as_written = refl; place = refl; defined = refl; plain = (refl, refl) },
                       (
-                        record { command = refl; consistent = refl; place = refl; defined = refl; plain = (refl, refl) },
+                        record { command = refl; as_written = refl; place = refl; defined = refl; plain = (refl, refl) },
                         (
-                          record { command = refl; consistent = refl; place = refl; defined = refl; plain = (refl, refl) },
+                          record { command = refl; as_written = refl; place = refl; defined = refl; plain = (refl, refl) },
                           (
-                            record { command = refl; consistent = refl; place = refl; defined = refl; plain = (refl, refl) },
+                            record { command = refl; as_written = refl; place = refl; defined = refl; plain = (refl, refl) },
                             (
-                              record { command = refl; consistent = refl; place = refl; defined = refl; plain = (refl, refl) },
+                              record { command = refl; as_written = refl; place = refl; defined = refl; plain = (refl, refl) },
                               (
-                                record { command = refl; consistent = refl; place = refl; defined = refl; plain = (refl, refl) },
+                                record { command = refl; as_written = refl; place = refl; defined = refl; plain = (refl, refl) },
                                 (
-                                  record { command = refl; consistent = refl; place = refl; defined = refl; plain = (refl, refl) },
+                                  record { command = refl; as_written = refl; place = refl; defined = refl; plain = (refl, refl) },
                                   (
-                                    record { command = refl; consistent = refl; place = refl; defined = refl; plain = (refl, refl) },
+                                    record { command = refl; as_written = refl; place = refl; defined = refl; plain = (refl, refl) },
                                     (
-                                      record { command = refl; consistent = refl; place = refl; defined = refl; plain = (refl, refl) },
+                                      record { command = refl; as_written = refl; place = refl; defined = refl; plain = (refl, refl) },
                                       (
-                                        record { command = refl; consistent = refl; place = refl; defined = refl; plain = (refl, refl) },
+                                        record { command = refl; as_written = refl; place = refl; defined = refl; plain = (refl, refl) },
                                         tt,
                                       ),
                                     ),
@@ -124,11 +124,11 @@ indexings_are more = (
 
 message_is : (more : List Column) → IsTable (created with_link (line_with more)) message_create message
 unfolding understood everything
-message_is more = record { command = refl; consistent = refl; defined = refl; plain = (refl, refl); uncounted = refl }
+message_is more = record { command = refl; as_written = refl; defined = refl; plain = (refl, refl); uncounted = refl }
 
 transfer_is : (more : List Column) → IsTable (created (created with_link (line_with more)) message) transfer_create transfer
 unfolding understood everything
-transfer_is more = record { command = refl; consistent = refl; defined = refl; plain = (refl, refl); uncounted = refl }
+transfer_is more = record { command = refl; as_written = refl; defined = refl; plain = (refl, refl); uncounted = refl }
 
 -- a table of the lines, and all that is made around it
 pub all_defines : (line_text : List ℕ) (more : List Column) (texts : List (List ℕ)) (to : Schema) → IsTable with_link line_text (line_with more)
@@ -178,11 +178,11 @@ all_defines line_text more texts to line_is rest = (
 
 line_is : IsTable with_link line_create line
 unfolding understood everything
-line_is = record { command = refl; consistent = refl; defined = refl; plain = (refl, refl); uncounted = refl }
+line_is = record { command = refl; as_written = refl; defined = refl; plain = (refl, refl); uncounted = refl }
 
 days_is : IsTable with_transfer_losing days_create days
 unfolding understood everything
-days_is = record { command = refl; consistent = refl; defined = refl; plain = (refl, refl); uncounted = refl }
+days_is = record { command = refl; as_written = refl; defined = refl; plain = (refl, refl); uncounted = refl }
 
 pub creation_defines : DefinesAll no_schema creation registry
 creation_defines = all_defines line_create (nullable (codes "ends") Integer ∷ nullable (codes "refunded") Integer ∷ filled (codes "recorded") Integer ∷ []) (days_create ∷ []) registry line_is

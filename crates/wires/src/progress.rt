@@ -1,5 +1,5 @@
 //! The state of a connection, by the bytes that came and went.
-ghost use Rattle.std.specs.Prelude.{◌≡◌, ◌-◌, ◌||◌, true, false, take};
+ghost use Rattle.std.specs.Prelude.{◌≡◌, ◌-◌, ◌||◌, true, take};
 ghost use Rattle.std.specs.List.{fold};
 ghost use Rattle.std.specs.Duration.{as_nanos};
 ghost use Rattle.wires.specs.inner.Lateness as spec;
@@ -138,7 +138,7 @@ pub(crate) struct Progress {
 impl Progress {
     /// That of a connection whose turn begins.
     pub fn begun(now: Duration, has_pieces: bool) -> Progress
-        ensures { result.is_late ≡ false }
+        ensures { result ≡ states.first now has_pieces }
     {
         Progress {
             phase: Phase::First,
@@ -258,7 +258,10 @@ impl Progress {
 
     /// Looks whether it took longer than it may, where others wait or none does. What is late stays so.
     pub fn look(&mut self, limits: &Limits, is_awaited: bool, now: Duration)
-        ensures { self.new.is_late ≡ (self.old.is_late || spec.takes_too_long self.old limits.now is_awaited now) }
+        ensures { self.new ≡ record self.old {
+          is_late = self.old.is_late
+              || spec.takes_too_long self.old limits.now is_awaited now;
+        } }
     {
         self.is_late = self.is_late || self.takes_too_long(limits, is_awaited, now);
     }

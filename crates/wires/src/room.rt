@@ -48,18 +48,6 @@ impl Waits for Waiting {
     }
 }
 
-impl Waiting {
-    /// Whether it may wait on.
-    fn may_wait(&self, first: Duration, now: Duration) -> bool
-        ensures { result ≡ false → lateness.has_passed first self.now.came now ≡ true }
-    {
-        if has_passed(first, self.came, now) {
-            return self.is_ready();
-        }
-        true
-    }
-}
-
 /// What is to be done next.
 #[derive(Drop)]
 pub(crate) enum Next {
@@ -148,7 +136,7 @@ impl<'l> Room<'l> {
     /// The same, while there is room.
     fn seat_all(&self, waiting: &mut Vec<Waiting>, now: Duration) -> Entered {
         let first = self.first;
-        waiting.retain(|it| it.may_wait(first, now));
+        waiting.retain(|it| may_wait(it, it.came, first, now));
         for _ in 0..MOST_ENTERING {
             if waiting.len() >= MOST_WAITING && !let_go_oldest_silent(waiting) {
                 return Entered::All;
@@ -204,6 +192,13 @@ fn next_of(entered: Entered) -> Next
         Entered::Want => Next::Want,
         Entered::Fault => Next::Fault,
     }
+}
+
+/// Whether one that came then may wait on.
+fn may_wait<W: Waits>(waiting: &W, came: Duration, first: Duration, now: Duration) -> bool
+    ensures { spec.MayWait W.Tells waiting.now (lateness.has_passed first came now) result }
+{
+    !has_passed(first, came, now) || waiting.is_ready()
 }
 
 /// The place of the first one whose turn can come.

@@ -1,5 +1,5 @@
 -- What is read after the end of a connection, and thrown away, so that its client reads all that was written.
-use Rattle.std.specs.Prelude.{◌≤◌, ℕ, Bool, true, false, List, length, Option}
+use Rattle.std.specs.Prelude.{◌≤◌, ℕ, Bool, true, false, List, length, Option, None, Some}
 use Rattle.std.specs.Io.KnownBytes.{Consumes}
 use Rattle.server.specs.declared.connection.ConnectionEnd.{ConnectionEnd}
 use Rattle.server.specs.declared.connection.ConnectionEnd.TheVariants as ends
@@ -25,10 +25,12 @@ request_may_have_more Answered = true
 request_may_have_more Unanswered = false
 request_may_have_more WriteFault = false
 
-abbrev pub may_have_more : ConnectionEnd → Bool
-may_have_more (ends.Session end) = session_may_have_more end
-may_have_more (ends.Http end) = request_may_have_more end
-may_have_more ends.Unread = false
+-- After one that took longer than it may, too: its replies may not have been read yet.
+abbrev pub may_have_more : Option ConnectionEnd → Bool
+may_have_more None = true
+may_have_more (Some (ends.Session end)) = session_may_have_more end
+may_have_more (Some (ends.Http end)) = request_may_have_more end
+may_have_more (Some ends.Unread) = false
 
 -- how many bytes are read at once at most
 abbrev pub most_piece : ℕ

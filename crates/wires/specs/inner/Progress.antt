@@ -1,5 +1,5 @@
 -- The state of a connection, by the bytes that came and went.
-use Rattle.std.specs.Prelude.{◌+◌, ◌-◌, ◌*◌, ◌%◌, ◌&&◌, ℕ, min, List, Bool, cond, not, nat_eq, nat_le, length, take, get_or, fold}
+use Rattle.std.specs.Prelude.{◌+◌, ◌-◌, ◌*◌, ◌%◌, ◌&&◌, ℕ, min, List, Bool, false, cond, not, nat_eq, nat_le, length, take, get_or, fold}
 use Rattle.std.specs.declared.time.Duration.{Duration}
 use Rattle.wires.specs.declared.progress.Part.{Part}
 use Rattle.wires.specs.declared.progress.Phase.{Phase}
@@ -26,6 +26,20 @@ abbrev pub is_complete : Part → Bool
 is_complete part = nat_le 4 part.count && nat_le part.total part.count
 
 -- ---- phases
+
+-- that of a connection whose turn begins
+abbrev pub first : (now : Duration) (has_pieces : Bool) → Progress
+first now has_pieces = record {
+  phase = First;
+  part = no_part;
+  began = now;
+  since = now;
+  moved = now;
+  asked = now;
+  is_logged_in = false;
+  is_late = false;
+  has_pieces = has_pieces;
+}
 
 abbrev pub turned_to : Phase → Duration → Progress → Progress
 turned_to phase now p = record p { phase = phase; part = no_part; since = now }
