@@ -3,7 +3,7 @@
 use crate::chapter::Chapter;
 use crate::lines::{Line, Section, lines_of, only, policy_of, read, text_of, up_to};
 use crate::over::{Kind, NEVER, Ran, run_over};
-use crate::pieces::{WHOLE, Way};
+use crate::pieces::{IN_ONE_PIECE, Way};
 use crate::step::{Step, steps_of};
 use crate::ways::{way_of, ways_of};
 use crate::wire::Wire;
@@ -68,19 +68,19 @@ impl<'a> Case<'a> {
         only(section.common, "")?;
         only(section.lines, "policy|change|reopen|prelude|C|S|ends")?;
         let mut ways = Vec::new(rt.alloc());
-        ways.push(WHOLE)?;
+        ways.push(IN_ONE_PIECE)?;
         if text_of(section.lines, "ends").is_none() {
             for order in SETTLEMENTS {
                 let settlement = Some(order);
                 ways.push(Way {
                     settlement,
-                    ..WHOLE
+                    ..IN_ONE_PIECE
                 })?;
             }
         }
         Ok(Case {
             parts: parts_of(rt, section.lines)?,
-            way: WHOLE,
+            way: IN_ONE_PIECE,
             ways,
             size: section.lines.iter().filter(|line| line.mark == "S").count(),
             is_for_maps: false,

@@ -60,31 +60,31 @@ fn hexadecimal(text: &[u8]) -> Result<(u8, &[u8])> {
 
 /// A text with what is to be repeated as often as it is.
 fn repeated(alloc: Global, text: &str) -> Result<String> {
-    let mut whole = String::new(alloc);
+    let mut expanded = String::new(alloc);
     let Some((pieces, last)) = text.rsplit_once("~)") else {
-        whole.push_str(text)?;
-        return Ok(whole);
+        expanded.push_str(text)?;
+        return Ok(expanded);
     };
     for piece in pieces.split("~)") {
-        add_piece(alloc, &mut whole, piece)?;
+        add_piece(alloc, &mut expanded, piece)?;
     }
-    whole.push_str(last)?;
-    Ok(whole)
+    expanded.push_str(last)?;
+    Ok(expanded)
 }
 
 /// Adds what comes before a part, and the part as often as it is.
-fn add_piece(alloc: Global, whole: &mut String, piece: &str) -> Result<()> {
+fn add_piece(alloc: Global, expanded: &mut String, piece: &str) -> Result<()> {
     let (front, part) = piece.rsplit_once('(').context("nothing begins before ~)")?;
     let (front, times) = front.rsplit_once('~').context("no ~ before a parenthesis")?;
-    whole.push_str(front)?;
+    expanded.push_str(front)?;
     let (first, last) = range_of(times)?;
     let is_numbered = part.contains("~#");
     for number in first..=last {
         if is_numbered {
             let numeral = format!(in alloc; "{number}")?;
-            whole.push_str(part.replace(alloc, "~#", numeral.as_str())?.as_str())?;
+            expanded.push_str(part.replace(alloc, "~#", numeral.as_str())?.as_str())?;
         } else {
-            whole.push_str(part)?;
+            expanded.push_str(part)?;
         }
     }
     Ok(())

@@ -30,16 +30,16 @@ pub const REFUSED: &str = "refused\n";
 /// What was printed, also by what was tried then, and the files as they are left.
 #[derive(Drop)]
 pub struct Left<D: Disk> {
-    pub said: Vec<u8>,
-    pub said_then: Vec<u8>,
+    pub printed: Vec<u8>,
+    pub printed_then: Vec<u8>,
     pub files: Files<D>,
 }
 
 impl<D: Disk + Drop> Left<D> {
-    fn new(alloc: Global, said: &str, files: Files<D>) -> Result<Left<D>> {
+    fn new(alloc: Global, printed: &str, files: Files<D>) -> Result<Left<D>> {
         Ok(Left {
-            said: Vec::from_slice(alloc, said.as_bytes())?,
-            said_then: Vec::new(alloc),
+            printed: Vec::from_slice(alloc, printed.as_bytes())?,
+            printed_then: Vec::new(alloc),
             files,
         })
     }
@@ -53,7 +53,7 @@ pub struct Work<'a> {
     pub is_takeover: bool,
     /// What a registry answers, and where that doesn't print what was meant, another one.
     pub script: &'a [u8],
-    pub told: &'a [u8],
+    pub wanted: &'a [u8],
     pub then: &'a [u8],
 }
 
@@ -142,8 +142,8 @@ fn work_with<D: Disk + Drop, B: Book + KeepsFiles<D> + Drop>(
     match Registry::open(alloc, book, policy) {
         Ok(registry) => answer(alloc, registry, work),
         Err((fault, book)) => {
-            let said = format!(in alloc; "{fault}\n")?;
-            Left::new(alloc, said.as_str(), book.files())
+            let printed = format!(in alloc; "{fault}\n")?;
+            Left::new(alloc, printed.as_str(), book.files())
         }
     }
 }
@@ -154,14 +154,14 @@ fn answer<D: Disk + Drop, B: Book + KeepsFiles<D> + Drop>(
     work: &Work<'_>,
 ) -> Result<Left<D>> {
     let mut registry = registry;
-    let (mut said, mut said_then) = (Vec::new(alloc), Vec::new(alloc));
-    let _ = run_on(alloc, &mut registry, work.script, &mut said);
-    if said.as_slice() != work.told {
-        let _ = run_on(alloc, &mut registry, work.then, &mut said_then);
+    let (mut printed, mut printed_then) = (Vec::new(alloc), Vec::new(alloc));
+    let _ = run_on(alloc, &mut registry, work.script, &mut printed);
+    if printed.as_slice() != work.wanted {
+        let _ = run_on(alloc, &mut registry, work.then, &mut printed_then);
     }
     Ok(Left {
-        said,
-        said_then,
+        printed,
+        printed_then,
         files: registry.into_book().files(),
     })
 }
@@ -175,8 +175,8 @@ fn take_over_if_taken_up<D: Disk + Drop, S: Alter + KeepsFiles<D> + Drop, E: Dro
     match adopted {
         Ok(rows) => {
             let mut rows = rows;
-            let said = take_over_from(alloc, old_database(alloc, work.script), &mut rows, work)?;
-            Left::new(alloc, said, rows.into_connection().into_store().files())
+            let printed = take_over_from(alloc, old_database(alloc, work.script), &mut rows, work)?;
+            Left::new(alloc, printed, rows.into_connection().into_store().files())
         }
         Err((_, store)) => Left::new(alloc, NOT_TAKEN_UP, store.files()),
     }
@@ -204,9 +204,9 @@ fn take_over_from<S: Alter + Drop, T: Alter + Drop>(
         Ok(old) => old,
         Err(_) => bail!("no registry of the schema before"),
     };
-    let said = take_over_rows(alloc, &mut old, rows, work);
+    let printed = take_over_rows(alloc, &mut old, rows, work);
     drop(old);
-    said
+    printed
 }
 
 /// The same of rows that are lent: where they would fall in each way out, the prover has more to do.

@@ -5,12 +5,12 @@
 //! from outside, and prints what was found then (`.ci/refused`); with `stops`, it stops before the line.
 #![tactic(auto)]
 
-mod bars;
 mod case;
 mod chapter;
 mod escaped;
 mod failing;
 mod files;
+mod length_peer;
 mod lines;
 mod moments;
 mod over;
@@ -26,7 +26,7 @@ use anyhow::{Context, Result, bail};
 use case::Case;
 use lines::{Section, lines_of, read, sections_of};
 use over::Kind;
-use pairs::tell_the_same;
+use pairs::run_pair;
 use refusals::{find, run_refusals};
 use std::env;
 use std::process::ExitCode;
@@ -44,7 +44,7 @@ fn mark_of(file: &str) -> &'static str {
     }
 }
 
-/// Runs a section, and gives what is said of it.
+/// Runs a section, and gives what came of it.
 fn run_section(
     rt: &(impl Files + AllocGlobal),
     mark: &str,
@@ -53,7 +53,7 @@ fn run_section(
     match mark {
         "case" => Case::read(rt, section)?.run(rt.alloc(), "steps"),
         "refused" => run_refusals(rt, section),
-        "pair" => tell_the_same(rt, section),
+        "pair" => run_pair(rt, section),
         "stop" => run_stops(rt, section),
         _ => Case::of_transcript(rt, section)?.run(rt.alloc(), "replies"),
     }
@@ -73,7 +73,7 @@ fn run_file(rt: &(impl Files + Print + AllocGlobal), file: &str) -> Result<bool>
     for section in &sections {
         let name = section.name;
         match run_section(rt, mark, section) {
-            Ok(told) => println!(rt; "{file}: {name}: {told}")?,
+            Ok(outcome) => println!(rt; "{file}: {name}: {outcome}")?,
             Err(error) => {
                 all_well = false;
                 println!(rt; "{file}: {name}: {error:#}")?;

@@ -9,25 +9,25 @@ use std::alloc::Global;
 use std::rt::Files;
 
 /// Refuses a pair of scripts that don't answer alfa alike, so many lines, over both books.
-pub fn tell_the_same(rt: &(impl Files + AllocGlobal), section: &Section<'_>) -> Result<String> {
+pub fn run_pair(rt: &(impl Files + AllocGlobal), section: &Section<'_>) -> Result<String> {
     let alloc = rt.alloc();
     only(section.common, "policy|before")?;
-    only(section.lines, "C|hidden|told")?;
+    only(section.lines, "C|hidden|lines")?;
     let policy = policy_of(rt, section.common)?;
     let mut script = script_of(alloc, section.common, "before")?;
     script.extend_from_slice(&script_of(alloc, section.lines, "C")?)?;
     let script = String::from_utf8(script)?;
     let other = hidden_in(alloc, &script, section)?;
-    let count = text_of(section.lines, "told").context("not told how many")?;
+    let count = text_of(section.lines, "lines").context("no number of lines")?;
     let count = count.parse::<usize>()?;
     for kind in [Kind::Rows, Kind::Maps] {
-        let first = told_by(alloc, kind, &policy, script.as_str())?;
-        let second = told_by(alloc, kind, &policy, other.as_str())?;
+        let first = replies_to(alloc, kind, &policy, script.as_str())?;
+        let second = replies_to(alloc, kind, &policy, other.as_str())?;
         if first.lines != count || first.alfa != second.alfa || first.codes != second.codes {
-            bail!("told otherwise");
+            bail!("answered otherwise");
         }
     }
-    Ok(String::from_str(alloc, "told the same")?)
+    Ok(String::from_str(alloc, "answered the same")?)
 }
 
 /// The other script, where other texts take the place of what is hidden.
@@ -48,27 +48,27 @@ fn hidden_in(alloc: Global, script: &String, section: &Section<'_>) -> Result<St
 
 /// What a script prints: all that answers alfa, and with what code each line begins that is another's.
 #[derive(Drop)]
-struct Told {
+struct Replies {
     alfa: String,
     lines: usize,
     codes: String,
 }
 
-fn told_by(alloc: Global, kind: Kind, policy: &[u8], script: &str) -> Result<Told> {
+fn replies_to(alloc: Global, kind: Kind, policy: &[u8], script: &str) -> Result<Replies> {
     let printed = String::from_utf8(printed(alloc, kind, policy, script)?)?;
-    let mut told = Told {
+    let mut replies = Replies {
         alfa: String::new(alloc),
         lines: 0,
         codes: String::new(alloc),
     };
     for line in printed.split('\n') {
         if line.contains("\"svTRID\":\"alfa-") {
-            told.alfa.push_str(line)?;
-            told.alfa.push('\n')?;
-            told.lines = told.lines.saturating_add(1);
+            replies.alfa.push_str(line)?;
+            replies.alfa.push('\n')?;
+            replies.lines = replies.lines.saturating_add(1);
         } else {
-            told.codes.push_str(line.get(..12).unwrap_or(line))?;
+            replies.codes.push_str(line.get(..12).unwrap_or(line))?;
         }
     }
-    Ok(told)
+    Ok(replies)
 }

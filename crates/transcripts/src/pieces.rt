@@ -28,7 +28,7 @@ pub struct Way {
 }
 
 /// All in one piece.
-pub const WHOLE: Way = Way {
+pub const IN_ONE_PIECE: Way = Way {
     step: usize::MAX,
     cuts: (0, 0),
     front: usize::MAX,

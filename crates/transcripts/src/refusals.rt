@@ -5,7 +5,7 @@
 use crate::chapter::Chapter;
 use crate::lines::{Section, only, policy_of, script_of};
 use crate::over::{Kind, NEVER, Places, Ran, run_over};
-use crate::pieces::WHOLE;
+use crate::pieces::IN_ONE_PIECE;
 use crate::step::Step;
 use crate::wire::Wire;
 use anyhow::{Result, bail};
@@ -40,7 +40,7 @@ impl Trial {
         })
     }
 
-    /// Sends the line once, and looks, while calls are refused.
+    /// Sends the line once, and what comes after it, while calls are refused.
     fn once(&self, alloc: Global, kind: Kind, places: Places) -> Result<Tried> {
         let steps = [&self.before, &self.line, &self.look];
         tried(alloc, kind, &self.policy, &steps, places)
@@ -53,8 +53,8 @@ impl Trial {
 
     /// Refuses each call of the line in turn, and gives how many there are.
     fn refuse_each(&self, alloc: Global, kind: Kind) -> Result<u64> {
-        let whole = self.once(alloc, kind, NEVER)?;
-        if !is_accepted(&whole.reply) {
+        let unrefused = self.once(alloc, kind, NEVER)?;
+        if !is_accepted(&unrefused.reply) {
             bail!("not accepted, though nothing was refused to it");
         }
         let steps = [&self.before, &self.line];
@@ -65,7 +65,7 @@ impl Trial {
             if !it.refused.0 || it.failures > 1 {
                 bail!("a call wasn't refused");
             }
-            if it.reply != whole.reply || it.looks != whole.looks {
+            if it.reply != unrefused.reply || it.shown != unrefused.shown {
                 bail!("a refused call left something");
             }
         }
@@ -73,13 +73,19 @@ impl Trial {
     }
 
     /// Refuses it at three steps, and compares what is answered then with what was worked out by hand.
-    fn refuse_thrice(&self, alloc: Global, kind: Kind, places: Places, told: &[u8]) -> Result<()> {
+    fn refuse_thrice(
+        &self,
+        alloc: Global,
+        kind: Kind,
+        places: Places,
+        wanted: &[u8],
+    ) -> Result<()> {
         let first = self.first(alloc, kind)?.saturating_add(places.0);
         let second = first.saturating_add(places.1);
         let places = (first, second, second.saturating_add(places.2));
         let mut it = self.once(alloc, kind, places)?;
-        it.reply.extend_from_slice(&it.looks)?;
-        if it.refused != (true, true, true) || it.failures != 3 || it.reply.as_slice() != told {
+        it.reply.extend_from_slice(&it.shown)?;
+        if it.refused != (true, true, true) || it.failures != 3 || it.reply.as_slice() != wanted {
             bail!("what was refused was counted");
         }
         Ok(())
@@ -89,9 +95,9 @@ impl Trial {
 /// What came of blocks.
 #[derive(Drop)]
 struct Tried {
-    /// What the last script or line printed, and what looks did.
+    /// What the last script or line printed, and what the looks at it did.
     reply: Vec<u8>,
-    looks: Vec<u8>,
+    shown: Vec<u8>,
     /// How often lines failed, and whether all ended well in the end.
     failures: u32,
     ends_well: bool,
@@ -104,7 +110,7 @@ impl Tried {
     fn of(alloc: Global, ran: Ran<'_>) -> Tried {
         let mut tried = Tried {
             reply: Vec::new(alloc),
-            looks: Vec::new(alloc),
+            shown: Vec::new(alloc),
             failures: 0,
             ends_well: true,
             calls: ran.calls,
@@ -123,7 +129,7 @@ impl Tried {
         self.ends_well = self.ends_well && wire.ends_well();
         match wire.step.kind {
             "script" | "line" => self.reply = wire.writer.bytes,
-            _ => self.looks = wire.writer.bytes,
+            _ => self.shown = wire.writer.bytes,
         }
     }
 }
@@ -138,7 +144,7 @@ fn tried<'a>(
 ) -> Result<Tried> {
     let mut wires = Vec::new(alloc);
     for step in steps {
-        wires.push(Wire::new(alloc, *step, WHOLE)?)?;
+        wires.push(Wire::new(alloc, *step, IN_ONE_PIECE)?)?;
     }
     let mut chapters = Vec::new(alloc);
     chapters.push(Chapter { policy, wires })?;
@@ -171,9 +177,9 @@ pub fn run_refusals(rt: &(impl Files + AllocGlobal), section: &Section<'_>) -> R
         let maps = trial.refuse_each(alloc, Kind::Maps)?;
         return Ok(format!(in alloc; "{rows} calls over rows, {maps} over ordered maps")?);
     };
-    let told = script_of(alloc, section.lines, "S")?;
+    let wanted = script_of(alloc, section.lines, "S")?;
     for kind in [Kind::Rows, Kind::Maps] {
-        trial.refuse_thrice(alloc, kind, (*first, *second, *third), &told)?;
+        trial.refuse_thrice(alloc, kind, (*first, *second, *third), &wanted)?;
     }
     Ok(String::from_str(alloc, "as worked out by hand")?)
 }
@@ -202,10 +208,10 @@ pub fn find(
     if found.failures == 0 && found.reply == once.reply {
         return Ok("passed");
     }
-    if found.failures == 1 && found.reply == once.reply && found.looks == once.looks {
+    if found.failures == 1 && found.reply == once.reply && found.shown == once.shown {
         return Ok("undone");
     }
-    if found.failures == 1 && found.reply == twice.reply && found.looks == twice.looks {
+    if found.failures == 1 && found.reply == twice.reply && found.shown == twice.shown {
         return Ok("kept");
     }
     bail!("something else is left")

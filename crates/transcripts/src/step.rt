@@ -105,18 +105,18 @@ impl<'a> Step<'a> {
     }
 
     /// Whether what came is what must come.
-    pub fn is_wanted(&self, alloc: Global, told: &[u8], way: &Way) -> Result<bool> {
+    pub fn is_wanted(&self, alloc: Global, given: &[u8], way: &Way) -> Result<bool> {
         if way.settlement.is_some() {
-            let told = without_settlements(alloc, told, true)?;
-            return Ok(told == without_settlements(alloc, &self.wanted, false)?);
+            let given = without_settlements(alloc, given, true)?;
+            return Ok(given == without_settlements(alloc, &self.wanted, false)?);
         }
         if self.is_last_alone {
-            return Ok(told.ends_with(&self.wanted));
+            return Ok(given.ends_with(&self.wanted));
         }
         Ok(match way.writes {
-            Some(_) if way.recovers => self.wanted.starts_with(told),
-            Some(writes) => told == &self.wanted[..writes.min(self.wanted.len())],
-            None => told == self.wanted.as_slice(),
+            Some(_) if way.recovers => self.wanted.starts_with(given),
+            Some(writes) => given == &self.wanted[..writes.min(self.wanted.len())],
+            None => given == self.wanted.as_slice(),
         })
     }
 

@@ -112,7 +112,7 @@ impl<'a> Case<'a> {
             policy: &block.policy,
             is_takeover: takeover.is_some(),
             script: &block.sent,
-            told: &block.wanted,
+            wanted: &block.wanted,
             then: match self.block("then") {
                 Some(block) => &block.sent,
                 None => b"",
@@ -120,36 +120,43 @@ impl<'a> Case<'a> {
         })
     }
 
-    /// Refuses what lies in files, unless it may be found after what was printed. What was seen before isn't opened again.
-    fn look(&self, alloc: Global, image: Image, said: &Said, seen: &mut Vec<Seen>) -> Result<()> {
-        for it in seen.iter() {
+    /// Refuses what lies in files, unless it may be found after what was printed. What was opened before isn't opened
+    /// again.
+    fn check(
+        &self,
+        alloc: Global,
+        image: Image,
+        printed: &Printed,
+        opened: &mut Vec<Opened>,
+    ) -> Result<()> {
+        for it in opened.iter() {
             if it.image == image {
-                return self.compare(said, &it.told);
+                return self.compare(printed, &it.found);
             }
         }
-        let told = self.seen(alloc, &image)?;
-        self.compare(said, &told)?;
-        Ok(seen.push(Seen { image, told })?)
+        let found = self.found_in(alloc, &image)?;
+        self.compare(printed, &found)?;
+        Ok(opened.push(Opened { image, found })?)
     }
 
     /// What the registry in which that lies answers.
-    fn seen(&self, alloc: Global, image: &Image) -> Result<Vec<u8>> {
-        let mut told = Vec::new(alloc);
+    fn found_in(&self, alloc: Global, image: &Image) -> Result<Vec<u8>> {
+        let mut found = Vec::new(alloc);
         for block in &self.blocks {
             if block.mark == "look" {
-                told.extend_from_slice(&carry_out(alloc, image, block, LATER)?.said)?;
+                found.extend_from_slice(&carry_out(alloc, image, block, LATER)?.printed)?;
             }
         }
-        Ok(told)
+        Ok(found)
     }
 
     /// Refuses what is found, unless it may be after what was printed of what was tried, and of what was tried then.
-    fn compare(&self, said: &Said, found: &[u8]) -> Result<()> {
+    fn compare(&self, printed: &Printed, found: &[u8]) -> Result<()> {
         let is_after = found == self.wanted("after");
         let is_either = is_after || found == self.wanted("before");
         let is_instead = found == self.wanted("instead");
-        let then = said.1.as_slice();
-        let is_right = if said.0.as_slice() == self.work()?.told {
+        let then = printed.1.as_slice();
+        let is_right = if printed.0.as_slice() == self.work()?.wanted {
             is_after
         } else if then.is_empty() {
             is_either
@@ -192,7 +199,7 @@ fn carry_out(alloc: Global, image: &Image, block: &Block<'_>, frames: usize) -> 
         policy: &block.policy,
         is_takeover: false,
         script: &block.sent,
-        told: b"",
+        wanted: b"",
         then: b"",
     };
     work_in(
@@ -248,19 +255,19 @@ const TROUBLES: [Trouble; 6] = [
 ];
 
 /// Whether what was printed is a fault's: of a command, of an opening, or of what comes before.
-fn is_fault(said: &[u8]) -> bool {
+fn is_fault(printed: &[u8]) -> bool {
     let words = ["store fault\n", REFUSED, NOT_OPENED, NOT_TAKEN_UP];
-    said == FAILED || words.iter().any(|word| said == word.as_bytes())
+    printed == FAILED || words.iter().any(|word| printed == word.as_bytes())
 }
 
 /// What was printed of what was tried, and of what was tried then.
-type Said = (Vec<u8>, Vec<u8>);
+type Printed = (Vec<u8>, Vec<u8>);
 
 /// What lay in files, and what was found in them.
 #[derive(Drop)]
-struct Seen {
+struct Opened {
     image: Image,
-    told: Vec<u8>,
+    found: Vec<u8>,
 }
 
 /// Lets a file fail after so many calls, and compares what is found: whether no call failed.
@@ -269,7 +276,7 @@ fn fail_after(
     case: &Case<'_>,
     (which, more, frames): Trouble,
     calls: u64,
-    seen: &mut Vec<Seen>,
+    opened: &mut Vec<Opened>,
 ) -> Result<bool> {
     let failing = (calls, calls.saturating_add(more));
     let files = match which {
@@ -279,12 +286,12 @@ fn fail_after(
     let work = case.work()?;
     let left = work_in(alloc, files, options(frames), &work)?;
     let has_failed = left.files.log.has_failed() || left.files.db.has_failed();
-    let said = (left.said, left.said_then);
+    let printed = (left.printed, left.printed_then);
     let (written, synchronised) = remains_of(alloc, left.files)?;
-    case.look(alloc, written, &said, seen)?;
-    case.look(alloc, synchronised, &said, seen)?;
-    if said.0.as_slice() != work.told && !(has_failed && is_fault(&said.0)) {
-        bail!("something else is told");
+    case.check(alloc, written, &printed, opened)?;
+    case.check(alloc, synchronised, &printed, opened)?;
+    if printed.0.as_slice() != work.wanted && !(has_failed && is_fault(&printed.0)) {
+        bail!("something else is printed");
     }
     Ok(!has_failed)
 }
@@ -308,10 +315,10 @@ fn fail_after_each(
     alloc: Global,
     case: &Case<'_>,
     trouble: Trouble,
-    seen: &mut Vec<Seen>,
+    opened: &mut Vec<Opened>,
 ) -> Result<()> {
     for calls in 0..MANY {
-        let passes = fail_after(alloc, case, trouble, calls, seen);
+        let passes = fail_after(alloc, case, trouble, calls, opened);
         if passes.context(format_args!("{trouble:?}, {calls}"))? {
             return Ok(());
         }
@@ -325,9 +332,9 @@ pub fn run_stops(rt: &(impl HostFiles + AllocGlobal), section: &Section<'_>) -> 
     only(section.common, "")?;
     only(section.lines, MARKS)?;
     let case = Case::read(rt, section.lines)?;
-    let mut seen = Vec::new(alloc);
+    let mut opened = Vec::new(alloc);
     for trouble in TROUBLES {
-        fail_after_each(alloc, &case, trouble, &mut seen)?;
+        fail_after_each(alloc, &case, trouble, &mut opened)?;
     }
     Ok(String::from_str(alloc, "all or nothing")?)
 }

@@ -2,16 +2,16 @@
 
 use crate::escaped::range_of;
 use crate::lines::Line;
-use crate::pieces::{WHOLE, Way};
+use crate::pieces::{IN_ONE_PIECE, Way};
 use anyhow::Result;
 use std::alloc::Global;
 
-/// The marks of lines that say something of a whole case, and are of no block.
+/// The marks of lines that say something of a case, and are of no block.
 pub const OF_CASE: &str = "policy|maps|step|signals|recovers|cuts|fronts|reads|writes";
 
 /// The way of each block.
 pub fn way_of(lines: &[Line<'_>]) -> Result<Way> {
-    let mut way = WHOLE;
+    let mut way = IN_ONE_PIECE;
     for line in lines {
         match line.mark {
             "step" => way.step = line.text.parse::<usize>()?,

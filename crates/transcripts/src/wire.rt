@@ -1,6 +1,6 @@
 //! A block, carried out over a registry.
 
-use crate::bars::Bars;
+use crate::length_peer::LengthPeer;
 use crate::moments::{reading_of, sum_of};
 use crate::pieces::{Narrow, Pieces, Way};
 use crate::step::Step;
@@ -127,7 +127,7 @@ impl<'a> Wire<'a> {
             "deposit" => self.deposit(registry),
             "order" => self.order(registry),
             "statement" => self.account(registry),
-            "bars" => Ok(self.served(&mut Bars::new(self.alloc))),
+            "lengths" => Ok(self.served(&mut LengthPeer::new(self.alloc))),
             "sums" | "moments" => self.calendar(),
             kind => bail!("no block is a {kind}"),
         }
@@ -206,11 +206,11 @@ impl<'a> Wire<'a> {
 
     fn calendar(&mut self) -> Result<End> {
         for line in str::from_utf8(&self.step.sent)?.lines() {
-            let told = match self.step.kind {
+            let answer = match self.step.kind {
                 "sums" => sum_of(self.alloc, line)?,
                 _ => reading_of(self.alloc, line)?,
             };
-            let text = match &told {
+            let text = match &answer {
                 Some(text) => text.as_str(),
                 None => "none",
             };
