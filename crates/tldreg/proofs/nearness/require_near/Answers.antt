@@ -1,4 +1,6 @@
 use Rattle.tldreg.proofs.nearness.require_near.Goals as goal
 
 pub returns : goal.returns
-returns g c = (c.greet.result, c.near_end.ensures, c.greet.ensures.step, c.greet.ensures.fault)
+returns g c =
+    let step = rw c.first.ensures at c.greet.ensures.step in
+    (c.greet.result, c.near_end.ensures, step, c.greet.ensures.fault)
