@@ -43,12 +43,12 @@ impl Trial {
     /// Sends the line once, and what comes after it, while calls are refused.
     fn once(&self, alloc: Global, kind: Kind, places: Places) -> Result<Tried> {
         let steps = [&self.before, &self.line, &self.look];
-        tried(alloc, kind, &self.policy, &steps, places)
+        carried_out(alloc, kind, &self.policy, &steps, places)
     }
 
     /// How many calls on the book are made before the line.
     fn first(&self, alloc: Global, kind: Kind) -> Result<u64> {
-        Ok(tried(alloc, kind, &self.policy, &[&self.before], NEVER)?.calls)
+        Ok(carried_out(alloc, kind, &self.policy, &[&self.before], NEVER)?.calls)
     }
 
     /// Refuses each call of the line in turn, and gives how many there are.
@@ -59,7 +59,7 @@ impl Trial {
         }
         let steps = [&self.before, &self.line];
         let first = self.first(alloc, kind)?;
-        let end = tried(alloc, kind, &self.policy, &steps, NEVER)?.calls;
+        let end = carried_out(alloc, kind, &self.policy, &steps, NEVER)?.calls;
         for place in first..end {
             let it = self.once(alloc, kind, (place, u64::MAX, u64::MAX))?;
             if !it.refused.0 || it.failures > 1 {
@@ -135,7 +135,7 @@ impl Tried {
 }
 
 /// Carries out blocks over a book that is new, each of which has to end well.
-fn tried<'a>(
+fn carried_out<'a>(
     alloc: Global,
     kind: Kind,
     policy: &'a [u8],
@@ -159,7 +159,7 @@ fn tried<'a>(
 pub fn printed(alloc: Global, kind: Kind, policy: &[u8], script: &str) -> Result<Vec<u8>> {
     let script = Vec::from_slice(alloc, script.as_bytes())?;
     let step = Step::sending(alloc, "script", script);
-    Ok(tried(alloc, kind, policy, &[&step], NEVER)?.reply)
+    Ok(carried_out(alloc, kind, policy, &[&step], NEVER)?.reply)
 }
 
 /// Refuses each call of a line in turn over both books, or three of them, and says what came of it.
@@ -198,13 +198,13 @@ pub fn find(
     let (before, line) = (&trial.before, &trial.line);
     let once = trial.once(alloc, kind, NEVER)?;
     let twice = [before, line, line, &trial.look];
-    let twice = tried(alloc, kind, &trial.policy, &twice, NEVER)?;
+    let twice = carried_out(alloc, kind, &trial.policy, &twice, NEVER)?;
     if stops {
         trial.first(alloc, kind)?;
         return Ok("nothing");
     }
     let steps = [before, line, &trial.look_if_failed];
-    let found = tried(alloc, kind, &trial.policy, &steps, NEVER)?;
+    let found = carried_out(alloc, kind, &trial.policy, &steps, NEVER)?;
     if found.failures == 0 && found.reply == once.reply {
         return Ok("passed");
     }
