@@ -1,68 +1,71 @@
-//! Blocks that are carried out one after the other over one book, which is opened again for each chapter.
+//! Scripts over one book, which is opened again for each.
+ghost use Rattle.std.specs.Prelude.{◌≡◌, false, IfOk};
 
-use crate::wire::Wire;
 use books::Book;
-use policy::{Passwords, PolicyFile};
+use policy::Policy;
 use registry::Registry;
-use script::Exit;
+use script::{Exit, run_on};
 use std::alloc::Global;
 
-/// Blocks, and the policy under which the book is opened for them.
+/// A script, and the policy under which the book is opened for it.
 #[derive(Drop)]
 pub struct Chapter<'a> {
     pub policy: &'a [u8],
-    pub wires: Vec<Wire<'a>>,
+    pub script: Vec<u8>,
 }
 
-/// Carries out chapters, up to the first for which the book isn't opened, and gives back the book and the end of the
-/// last opening.
+/// Answers the scripts one after the other, up to the first that doesn't end well.
 pub fn run_chapters<B: Book + Drop>(
     alloc: Global,
     book: B,
-    chapters: &mut [Chapter<'_>],
-) -> (B, Exit) {
+    chapters: &[Chapter<'_>],
+    printed: &mut Vec<u8>,
+) -> Exit
+    requires { (B.state book).is_open ≡ false }
+{
     let mut book = book;
-    for chapter in chapters.iter_mut() {
-        match run_chapter(alloc, book, chapter) {
+    for chapter in chapters {
+        match run_chapter(alloc, book, chapter, printed) {
             Ok(left) => book = left,
-            Err(refused) => return refused,
+            Err(exit) => return exit,
         }
     }
-    (book, Exit::Done)
+    drop(book);
+    Exit::Done
 }
 
-/// Carries out one. A book in a transaction isn't opened.
+/// Answers one, and gives the book back.
 fn run_chapter<B: Book + Drop>(
     alloc: Global,
     book: B,
-    chapter: &mut Chapter<'_>,
-) -> Result<B, (B, Exit)> {
-    if book.active() {
-        return Err((book, Exit::File));
-    }
-    let PolicyFile { policy, passwords } = match PolicyFile::read(alloc, chapter.policy) {
-        Ok(file) => file,
-        Err(fault) => return Err((book, Exit::Policy(fault))),
+    chapter: &Chapter<'_>,
+    printed: &mut Vec<u8>,
+) -> Result<B, Exit>
+    requires { (B.state book).is_open ≡ false }
+    ensures { IfOk result (λ left. (B.state left).is_open ≡ false) }
+{
+    let policy = match Policy::read(alloc, chapter.policy) {
+        Ok(policy) => policy,
+        Err(fault) => {
+            drop(book);
+            return Err(Exit::Policy(fault));
+        }
     };
     match Registry::open(alloc, book, policy) {
-        Ok(registry) => Ok(carry(registry, &passwords, &mut chapter.wires).into_book()),
-        Err((fault, book)) => Err((book, Exit::Open(fault))),
-    }
-}
-
-/// Carries out its blocks, but for those that come only where others failed.
-fn carry<B: Book + Drop>(
-    registry: Registry<B>,
-    passwords: &Passwords,
-    wires: &mut [Wire<'_>],
-) -> Registry<B> {
-    let mut registry = registry;
-    let mut failures = 0u32;
-    for wire in wires.iter_mut() {
-        if failures > 0 || wire.step.kind != "look if failed" {
-            registry = wire.carry(registry, passwords);
+        Ok(mut registry) => {
+            let exit = run_on(alloc, &mut registry, chapter.script.as_slice(), printed);
+            let book = registry.into_book();
+            match exit {
+                Exit::Done => Ok(book),
+                exit => {
+                    drop(book);
+                    Err(exit)
+                }
+            }
         }
-        failures = failures.saturating_add(wire.failures);
+        Err((fault, book)) => {
+            drop(book);
+            Err(Exit::Open(fault))
+        }
     }
-    registry
 }

@@ -1,4 +1,4 @@
-//! A peer of a session that knows no registry, and answers with lengths.
+//! A peer of a session that knows no registry.
 
 use calendar::Moment;
 use frames::{Answer, Peer};
@@ -7,17 +7,17 @@ use std::alloc::Global;
 /// Answers `no` as what can't be carried out, `lost` as a reply that found no memory, `bye` with a last
 /// reply, and all else with its own length in bars.
 #[derive(Drop)]
-pub struct LengthPeer {
+pub struct Bars {
     alloc: Global,
 }
 
-impl LengthPeer {
-    pub fn new(alloc: Global) -> LengthPeer {
-        LengthPeer { alloc }
+impl Bars {
+    pub fn new(alloc: Global) -> Bars {
+        Bars { alloc }
     }
 }
 
-impl Peer for LengthPeer {
+impl Peer for Bars {
     ghost use Rattle.std.specs.Prelude.{⊤};
 
     ghost answers = { λ _ _ _ _ _. ⊤ };
