@@ -3,3 +3,4 @@ pub mod Lateness
 pub mod Rooms
 pub mod Log
 pub mod Progress
+pub mod Replies

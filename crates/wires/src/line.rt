@@ -1,7 +1,8 @@
 //! A line of the log as it is made, of `key=value` with spaces between.
-ghost use Rattle.std.specs.Prelude.{◌≡◌};
+ghost use Rattle.std.specs.Prelude.{◌≡◌, ◌<◌, ◌++◌, ◌∷◌, [], IfOk, OnOk, codes, string_bytes};
 ghost use Rattle.wires.specs.inner.Log as spec;
 
+use crate::progress::front_of;
 use itoa::{Buffer, Integer};
 use std::alloc::{AllocError, Global};
 
@@ -16,7 +17,9 @@ pub(crate) struct Line {
 
 impl Line {
     /// A line of a moment, in the memory of an earlier line.
-    pub fn at(memory: Vec<u8>, moment: &[u8]) -> Result<Line, AllocError> {
+    pub fn at(memory: Vec<u8>, moment: &[u8]) -> Result<Line, AllocError>
+        ensures { IfOk result (λ line. line.bytes.items ≡ codes "at=" ++ moment.now) }
+    {
         let mut bytes = memory;
         bytes.clear();
         bytes.extend_from_slice(b"at=")?;
@@ -25,33 +28,40 @@ impl Line {
     }
 
     /// Adds a word of the program's own.
-    pub fn word(&mut self, key: &str, word: &str) -> Result<(), AllocError> {
+    pub fn word(&mut self, key: &str, word: &str) -> Result<(), AllocError>
+        ensures { OnOk result (self.new.bytes.items ≡ self.old.bytes.items ++ key.now ++ word.now) }
+    {
         self.bytes.extend_from_slice(key.as_bytes())?;
         self.bytes.extend_from_slice(word.as_bytes())
     }
 
     /// Adds a number.
-    pub fn number<N: Integer>(&mut self, key: &str, number: N) -> Result<(), AllocError> {
+    pub fn number<N: Integer>(&mut self, key: &str, number: N) -> Result<(), AllocError>
+        ensures { OnOk result (self.new.bytes.items ≡ self.old.bytes.items ++ key.now ++ N.text number) }
+    {
         let mut buffer = Buffer::new();
         self.word(key, buffer.format(number))
     }
 
     /// Adds a text that a client sent, of letters, digits and few signs, with a question mark for others.
-    pub fn sent(&mut self, key: &str, bytes: &[u8]) -> Result<(), AllocError> {
-        if bytes.is_empty() {
+    pub fn sent(&mut self, key: &str, text: &[u8]) -> Result<(), AllocError>
+        ensures { OnOk result (self.new.bytes.items ≡ self.old.bytes.items ++ key.now ++ spec.sent_of text.now) }
+    {
+        if text.is_empty() {
             return self.word(key, "-");
         }
         self.bytes.extend_from_slice(key.as_bytes())?;
-        let start = self.bytes.len();
-        self.bytes.extend_from_slice(front_of(bytes))?;
-        for byte in self.bytes[start..].iter_mut() {
-            *byte = plain_of(*byte);
+        let front = front_of(text, MOST_SENT);
+        for byte in front {
+            self.bytes.push(plain_of(*byte))?;
         }
         Ok(())
     }
 
     /// The line with its end.
-    pub fn ended(&mut self) -> Result<&[u8], AllocError> {
+    pub fn ended(&mut self) -> Result<&[u8], AllocError>
+        ensures { IfOk result (λ line. line.now ≡ self.old.bytes.items ++ 10 ∷ []) }
+    {
         self.bytes.push(b'\n')?;
         Ok(&self.bytes)
     }
@@ -62,26 +72,25 @@ impl Line {
     }
 }
 
-/// So much of a text as a line has.
-fn front_of(bytes: &[u8]) -> &[u8] {
-    &bytes[..MOST_SENT.min(bytes.len())]
-}
-
 /// The same text as a string.
-pub(crate) fn plain(alloc: Global, bytes: &[u8]) -> Result<String, AllocError> {
-    let mut text = String::new(alloc);
-    for byte in front_of(bytes).iter() {
-        text.push(char::from(plain_of(*byte)))?;
+pub(crate) fn plain(alloc: Global, text: &[u8]) -> Result<String, AllocError>
+    ensures { IfOk result (λ plain. string_bytes plain ≡ spec.sent_of text.now) }
+{
+    if text.is_empty() {
+        return String::from_str(alloc, "-");
     }
-    if bytes.is_empty() {
-        text.push('-')?;
+    let mut plain = String::new(alloc);
+    let front = front_of(text, MOST_SENT);
+    for byte in front {
+        plain.push(char::from(plain_of(*byte)))?;
     }
-    Ok(text)
+    Ok(plain)
 }
 
 /// A byte that a client sent, as a line has it.
 fn plain_of(byte: u8) -> u8
-    ensures { result ≡ spec.plain_of byte }
+    ensures plain { result ≡ spec.plain_of byte }
+    ensures ascii { result < 128 }
 {
     match byte {
         b'-' | b'.' | b'/' | b':' | b'_' => byte,

@@ -1,5 +1,5 @@
 //! A log: a line for each command and for each connection, of what is asked and answered; and counts of these.
-ghost use Rattle.std.specs.Prelude.{◌≡◌};
+ghost use Rattle.std.specs.Prelude.{◌≡◌, OnOk};
 ghost use Rattle.wires.specs.inner.Log as spec;
 
 use crate::asks::{Members, is_word, members_of, target_of};
@@ -228,13 +228,7 @@ impl<'l, M: time::Clock + Print> Log<'l, M> {
 
     fn print_line(&self, entry: &Entry<'_>, took: Duration) -> io::Result<()> {
         let mut line = self.begin_line()?;
-        line.word(" command=", entry.command)?;
-        line.word(" operation=", entry.operation)?;
-        line.word(" object=", entry.object)?;
-        line.sent(" name=", entry.name)?;
-        line.number(" code=", entry.code.unwrap_or(0))?;
-        line.sent(" svTRID=", entry.sv_trid)?;
-        line.number(" us=", micros_of(took))?;
+        add_entry(&mut line, entry, micros_of(took))?;
         self.print(line)
     }
 
@@ -260,11 +254,10 @@ impl<'l, M: time::Clock + Print> Log<'l, M> {
         let begun = Line::at(self.line.replace(Vec::new(self.alloc)), &at);
         self.at.set(at);
         let mut line = begun?;
-        line.number(" connection=", self.connection.get())?;
         let registrar = self.registrar.replace(Vec::new(self.alloc));
-        let entry = line.sent(" registrar=", &registrar);
+        let added = add_head(&mut line, self.connection.get(), &registrar);
         self.registrar.set(registrar);
-        entry?;
+        added?;
         Ok(line)
     }
 
@@ -321,6 +314,27 @@ struct Entry<'p> {
     name: &'p [u8],
     code: Option<u16>,
     sv_trid: &'p [u8],
+}
+
+/// Adds the number of a connection and its registrar.
+fn add_head(line: &mut Line, connection: u64, registrar: &[u8]) -> Result<(), AllocError>
+    ensures { OnOk result (line.new.bytes.items ≡ spec.with_head line.old.bytes.items connection registrar.now) }
+{
+    line.number(" connection=", connection)?;
+    line.sent(" registrar=", registrar)
+}
+
+/// Adds what a line says of a command.
+fn add_entry(line: &mut Line, entry: &Entry<'_>, micros: u64) -> Result<(), AllocError>
+    ensures { OnOk result (line.new.bytes.items ≡ spec.with_entry line.old.bytes.items entry.now micros) }
+{
+    line.word(" command=", entry.command)?;
+    line.word(" operation=", entry.operation)?;
+    line.word(" object=", entry.object)?;
+    line.sent(" name=", entry.name)?;
+    line.number(" code=", entry.code.unwrap_or(0))?;
+    line.sent(" svTRID=", entry.sv_trid)?;
+    line.number(" us=", micros)
 }
 
 /// How many microseconds something took.

@@ -44,7 +44,7 @@ impl Part {
 }
 
 /// So many bytes from the front on.
-fn front_of(bytes: &[u8], most: usize) -> &[u8]
+pub(crate) fn front_of(bytes: &[u8], most: usize) -> &[u8]
     ensures { result.now ≡ take most bytes.now }
 {
     &bytes[..most.min(bytes.len())]
@@ -131,14 +131,12 @@ pub(crate) struct Progress {
     is_logged_in: bool,
     /// Whether it took longer than it may, as it was looked at.
     is_late: bool,
-    /// Whether an answer goes in pieces, each with the time that a whole one has elsewhere.
-    has_pieces: bool,
 }
 
 impl Progress {
     /// That of a connection whose turn begins.
-    pub fn begun(now: Duration, has_pieces: bool) -> Progress
-        ensures { result ≡ states.first now has_pieces }
+    pub fn begun(now: Duration) -> Progress
+        ensures { result ≡ states.first now }
     {
         Progress {
             phase: Phase::First,
@@ -149,7 +147,6 @@ impl Progress {
             asked: now,
             is_logged_in: false,
             is_late: false,
-            has_pieces,
         }
     }
 
@@ -190,11 +187,9 @@ impl Progress {
     /// These bytes are to go, and answers what begins with them. What it took to make a reply counts for nobody.
     pub fn give(&mut self, bytes: &[u8], now: Duration) -> Given
         ensures given { result ≡ spec.given self.old.phase self.old.part.count }
-        ensures state { self.new ≡ record (states.giving self.old now) { is_logged_in = self.new.is_logged_in } }
-        ensures stays { self.old.is_logged_in ≡ true → self.new.is_logged_in ≡ true }
+        ensures state { self.new ≡ states.giving self.old bytes.now now }
     {
         if self.phase == Phase::Answer {
-            self.begin_piece(now);
             return Given::Part;
         }
         if self.phase == Phase::Head {
@@ -204,14 +199,20 @@ impl Progress {
         }
         if self.part.count == 0 || self.phase != Phase::Reply {
             self.begin(Phase::Reply, now);
+            return Given::Part;
         }
         if self.part.count != HEADER {
             return Given::Part;
         }
-        if code_of(bytes) == Some(COMPLETED) {
-            self.is_logged_in = true;
-        }
+        self.begin_payload(bytes);
         Given::Reply
+    }
+
+    /// A reply with this payload begins to go, by which somebody may be logged in.
+    fn begin_payload(&mut self, reply: &[u8])
+        ensures { self.new ≡ states.with_reply reply.now self.old }
+    {
+        self.is_logged_in = self.is_logged_in || code_of(reply) == Some(COMPLETED);
     }
 
     /// A reply or an answer begins to go.
@@ -220,16 +221,6 @@ impl Progress {
     {
         self.turn_to(phase, now);
         self.moved = now;
-    }
-
-    /// The next piece of an answer begins to go. What it took to make it counts for nobody.
-    fn begin_piece(&mut self, now: Duration)
-        ensures { self.new ≡ states.with_piece now self.old }
-    {
-        if self.has_pieces {
-            self.since = now;
-            self.moved = now;
-        }
     }
 
     /// How long it took until a reply began to go.

@@ -1,6 +1,9 @@
 //! What the bytes of a reply tell.
+ghost use Rattle.std.specs.Prelude.{◌≡◌, fold};
+ghost use Rattle.std.specs.List.{list_all};
+ghost use Rattle.wires.specs.inner.Replies as spec;
 
-use crate::asks::is_word;
+use crate::progress::front_of;
 
 /// The text before a reply's code. No text of JSON holds it, since a quote in one is escaped.
 const CODE: &[u8] = b"\"code\":";
@@ -22,12 +25,11 @@ const END: &[u8] = b"\"}";
 const TAIL: usize = 96;
 
 /// The code of a reply, where it has one: a greeting has none.
-pub(crate) fn code_of(reply: &[u8]) -> Option<u16> {
-    let front = &reply[..FRONT.min(reply.len())];
-    let at = front
-        .windows(CODE.len())
-        .position(|part| is_word(part, CODE))?;
-    number_of(front.get(at.saturating_add(CODE.len())..)?, DIGITS)
+#[tactic(auto, unfolding(crate::specs::inner::Replies::code_of))]
+pub(crate) fn code_of(reply: &[u8]) -> Option<u16>
+    ensures { result ≡ spec.code_of reply.now }
+{
+    number_behind(CODE, DIGITS, front_of(reply, FRONT))
 }
 
 /// The code of an answer over HTTP.
@@ -48,16 +50,48 @@ pub(crate) fn sv_trid_of(reply: &[u8]) -> &[u8] {
     texts.get(start..).unwrap_or(b"")
 }
 
-/// The number that these bytes begin with, of so many digits.
-fn number_of(bytes: &[u8], digits: usize) -> Option<u16> {
-    let mut number = 0u16;
-    for byte in bytes.get(..digits)?.iter() {
-        if !byte.is_ascii_digit() {
-            return None;
+/// The number of so many digits behind the first place where a word is.
+#[tactic(auto, using(crate::proofs::ReplyLemmas::not_here, crate::proofs::ReplyLemmas::here, crate::proofs::ReplyLemmas::nowhere))]
+fn number_behind(word: &[u8], digits: usize, bytes: &[u8]) -> Option<u16>
+    ensures { result ≡ spec.number_behind word.now digits bytes.now }
+{
+    for at in 0..bytes.len() {
+        let (_, rest) = bytes.split_at(at);
+        if let Some(behind) = rest.strip_prefix(word) {
+            return number_of(behind, digits);
         }
-        number = number
-            .wrapping_mul(10)
-            .wrapping_add(u16::from(byte.wrapping_sub(b'0')));
     }
-    Some(number)
+    None
+}
+
+/// The number that these bytes begin with, of so many digits.
+#[tactic(auto, unfolding(crate::specs::inner::Replies::number_of))]
+fn number_of(bytes: &[u8], digits: usize) -> Option<u16>
+    ensures { result ≡ spec.number_of bytes.now digits }
+{
+    if bytes.len() < digits {
+        return None;
+    }
+    let front = &bytes[..digits];
+    if !are_digits(front) {
+        return None;
+    }
+    Some(value_of(front))
+}
+
+fn are_digits(bytes: &[u8]) -> bool
+    ensures { result ≡ list_all spec.is_digit bytes.now }
+{
+    bytes.iter().all(|byte| byte.is_ascii_digit())
+}
+
+/// The number of these digits.
+fn value_of(digits: &[u8]) -> u16
+    ensures { result ≡ fold spec.with_digit 0 digits.now }
+{
+    digits.iter().fold(0u16, |number, digit| {
+        number
+            .wrapping_mul(10)
+            .wrapping_add(u16::from(digit.saturating_sub(b'0')))
+    })
 }

@@ -1,8 +1,9 @@
 //! The rooms of a program's ports.
+ghost use Rattle.std.specs.Prelude.{◌≡◌};
 ghost use Rattle.wires.specs.inner.Rooms as spec;
 
-use crate::room::{Next, Room, Waits};
-use crate::turn::{Port, Turn};
+use crate::room::{Gives, Next, Room, Waits};
+use crate::turn::Port;
 use std::cell::Cell;
 use std::time::Duration;
 
@@ -47,18 +48,10 @@ impl<'l> Rooms<Room<'l>> {
 
     /// Lets in who came, and says what is to be done next.
     pub(crate) fn next(&self, now: Duration) -> Next {
-        match &self.office {
-            Some(office) => self.next_of(office, now),
-            None => self.public.next(now),
-        }
-    }
-
-    /// The same where there are two ports.
-    fn next_of(&self, office: &Room<'l>, now: Duration) -> Next {
-        let next = match self.last.get() {
-            Port::Public => next_of_two(office, &self.public, now),
-            Port::Office => next_of_two(&self.public, office, now),
+        let Some(office) = &self.office else {
+            return self.public.next(now);
         };
+        let next = next_after(self.last.get(), &self.public, office, now);
         if let Next::Turn(turn) = &next {
             self.last.set(turn.port);
         }
@@ -83,17 +76,42 @@ impl<'l> Rooms<Room<'l>> {
     }
 }
 
+/// What is to be done next where there are two ports, of which one had the last turn.
+fn next_after<R: Gives>(last: Port, public: &R, office: &R, now: Duration) -> Next
+    ensures { spec.NextAfter R.Says last public.now office.now result }
+{
+    match last {
+        Port::Public => next_of_two(office, public, now),
+        Port::Office => next_of_two(public, office, now),
+    }
+}
+
 /// What is to be done next, where the first of two rooms comes first.
-fn next_of_two(first: &Room<'_>, second: &Room<'_>, now: Duration) -> Next {
-    match first.next(now) {
+fn next_of_two<R: Gives>(first: &R, second: &R, now: Duration) -> Next
+    ensures { spec.NextOfTwo R.Says first.now second.now result }
+{
+    let next = first.next(now);
+    next_behind(next, second, now)
+}
+
+/// The same where the first one says this.
+fn next_behind<R: Gives>(next: Next, second: &R, now: Duration) -> Next
+    ensures { spec.ComesNext R.Says second.now next result }
+{
+    match next {
         Next::Nobody => second.next(now),
-        Next::Want => want_or(second.next(now)),
+        Next::Want => {
+            let other = second.next(now);
+            want_or(other)
+        }
         next => next,
     }
 }
 
-/// The same where something is wanting for the first.
-fn want_or(next: Next) -> Next {
+/// The same where something is wanting for the first one, and the second says this.
+fn want_or(next: Next) -> Next
+    ensures { result ≡ spec.want_or next }
+{
     match next {
         Next::Nobody => Next::Want,
         next => next,

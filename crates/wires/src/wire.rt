@@ -5,7 +5,7 @@ use crate::log::Log;
 use crate::progress::{Given, Progress};
 use crate::room::{Room, is_passing};
 use crate::rooms::Rooms;
-use crate::turn::{Port, Turn};
+use crate::turn::Turn;
 use std::cell::Cell;
 use std::io::{self, ErrorKind, Read, Write};
 use std::net::TcpStream;
@@ -62,7 +62,7 @@ impl<'w, M: time::Clock + Print> Wire<'w, M> {
             rooms,
             limits,
             log,
-            progress: Cell::new(Progress::begun(now, turn.port == Port::Office)),
+            progress: Cell::new(Progress::begun(now)),
             is_awaited: Cell::new(false),
             looked: Cell::new(Duration::ZERO),
         })

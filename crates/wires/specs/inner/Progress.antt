@@ -1,10 +1,11 @@
 -- The state of a connection, by the bytes that came and went.
-use Rattle.std.specs.Prelude.{◌+◌, ◌-◌, ◌*◌, ◌%◌, ◌&&◌, ℕ, min, List, Bool, false, cond, not, nat_eq, nat_le, length, take, get_or, fold}
+use Rattle.std.specs.Prelude.{◌+◌, ◌-◌, ◌*◌, ◌%◌, ◌&&◌, ◌||◌, ℕ, min, List, Bool, false, cond, not, nat_eq, nat_le, length, take, get_or, fold, Option, None, Some}
 use Rattle.std.specs.declared.time.Duration.{Duration}
 use Rattle.wires.specs.declared.progress.Part.{Part}
 use Rattle.wires.specs.declared.progress.Phase.{Phase}
 use Rattle.wires.specs.declared.progress.Phase.TheVariants.{First, Frame, Reply, Pause, Head, Answer}
 use Rattle.wires.specs.declared.progress.Progress.{Progress}
+use Rattle.wires.specs.inner.Replies.{code_of}
 
 -- ---- parts of a frame
 
@@ -28,8 +29,8 @@ is_complete part = nat_le 4 part.count && nat_le part.total part.count
 -- ---- phases
 
 -- that of a connection whose turn begins
-abbrev pub first : (now : Duration) (has_pieces : Bool) → Progress
-first now has_pieces = record {
+abbrev pub first : (now : Duration) → Progress
+first now = record {
   phase = First;
   part = no_part;
   began = now;
@@ -38,7 +39,6 @@ first now has_pieces = record {
   asked = now;
   is_logged_in = false;
   is_late = false;
-  has_pieces = has_pieces;
 }
 
 abbrev pub turned_to : Phase → Duration → Progress → Progress
@@ -72,19 +72,24 @@ taken p bytes now = taken_in p.phase (record p { moved = now }) bytes now
 abbrev pub begun : Phase → Duration → Progress → Progress
 begun phase now p = record (turned_to phase now p) { moved = now }
 
--- the next piece of an answer begins to go
-abbrev pub with_piece : Duration → Progress → Progress
-with_piece now p = cond p.has_pieces (record p { since = now; moved = now }) p
+-- a reply with this payload begins to go: its code 1000 says that somebody is logged in
+abbrev pub is_completed : Option ℕ → Bool
+is_completed None = false
+is_completed (Some code) = nat_eq code 1000
 
--- bytes are to go; who is logged in by them isn't said
-abbrev pub giving_in : Phase → Progress → Duration → Progress
-giving_in Answer p now = with_piece now p
-giving_in Head p now = begun Answer now (record p { asked = p.since })
-giving_in Reply p now = cond (nat_eq p.part.count 0) (begun Reply now p) p
-giving_in _ p now = begun Reply now p
+abbrev pub with_reply : List ℕ → Progress → Progress
+with_reply reply p = record p { is_logged_in = p.is_logged_in || is_completed (code_of reply) }
 
-abbrev pub giving : Progress → Duration → Progress
-giving p now = giving_in p.phase p now
+-- these bytes are to go: a reply's payload comes behind the four bytes of its length
+abbrev pub giving_in : Phase → Progress → List ℕ → Duration → Progress
+giving_in Answer p bytes now = p
+giving_in Head p bytes now = begun Answer now (record p { asked = p.since })
+giving_in Reply p bytes now =
+    cond (nat_eq p.part.count 0) (begun Reply now p) (cond (nat_eq p.part.count 4) (with_reply bytes p) p)
+giving_in _ p bytes now = begun Reply now p
+
+abbrev pub giving : Progress → List ℕ → Duration → Progress
+giving p bytes now = giving_in p.phase p bytes now
 
 -- these bytes went; behind a whole reply the next frame is waited for
 abbrev pub gone_in : Phase → Progress → List ℕ → Duration → Progress
