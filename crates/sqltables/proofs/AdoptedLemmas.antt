@@ -1,5 +1,5 @@
 -- What a store of rows is over a database that was read anew.
-use Rattle.std.proofs.Common.{◌≡◌, ◌&&◌, inl, Bool, true, false, List, [], ◌∷◌, length, map, IsTrue, refl, sym, ap, subst, ◌∙◌, true≢false}
+use Rattle.std.proofs.Common.{◌≡◌, ◌&&◌, inl, Bool, true, false, [], ◌∷◌, length, map, IsTrue, refl, sym, ap, subst, ◌∙◌, true≢false}
 use Rattle.std.proofs.lemmas.Bool.{and_parts}
 use Rattle.sqlite_trees.specs.Tree.{Trees}
 use Rattle.sqlite_schema.specs.declared.schema.Schema.{Schema}
@@ -16,14 +16,13 @@ use Rattle.states.specs.declared.readiness.Ready.{Ready}
 use Rattle.states.specs.declared.readiness.Ready.TheVariants.{Used}
 use Rattle.states.specs.declared.readiness.Ready.TheVariants as readiness
 use Rattle.sqltables.specs.Adoption.{IsFound}
-use Rattle.sqltables.specs.inner.Adoption.{IsSeenBy, IsShapedAs, IsShown, LeavesSameRegistry}
+use Rattle.sqltables.specs.inner.Adoption.{IsSeenBy, IsShapedAs, IsShown}
 use Rattle.sqltables.specs.Decoding.{contents}
 use Rattle.sqltables.specs.Readiness.{IsFormOf, IsKnownAs, is_numbered}
-use Rattle.states.specs.States.{Has, LeavesSame, Remains, StateOf}
-use Rattle.states.proofs.LeavingLemmas.{has-alone}
+use Rattle.states.specs.States.{StateOf}
 use Rattle.sqltables.specs.Content.{Content}
 use Rattle.sqltables.specs.inner.Stored.{Bears, Fits, Guards, HoldsRows, left_in, readiness_of, rows_in, store_state, undone}
-use Rattle.sqltables.specs.Stored.{Covers, IsLeftAs}
+use Rattle.sqltables.specs.Stored.{IsLeftAs}
 use Rattle.sqltables.proofs.SoundLemmas.{content_of_sound}
 use Rattle.sqltables.proofs.StandingLemmas.{honest}
 

@@ -22,10 +22,10 @@ use Rattle.sqltables.specs.Content.{Content}
 use Rattle.sqltables.specs.inner.Content.{IsContent}
 use Rattle.sqltables.specs.Decoding.{contents}
 use Rattle.sqltables.specs.Tables.{registry}
+use Rattle.sqltables.specs.declared.answers.Answer.{Answer}
 use Rattle.sqltables.specs.declared.form.Form.{Form}
 use Rattle.sqltables.specs.declared.form.Form.TheVariants.{Unused, Making, Made, Other}
 use Rattle.states.specs.States.{Remains, Writes}
-use Rattle.sqltables.specs.declared.answers.Answers.{Answers}
 use Rattle.sqltables.specs.inner.Answers.{AreRight, Recalls}
 use Rattle.sqltables.specs.inner.Statements.{Alters, AreOthersSame}
 use Rattle.sqltables.specs.inner.Stored.{Agrees, Bears, Fits, HoldsRows, has_rows, rows_in, store_state, undone}
@@ -90,7 +90,7 @@ module _ (tree : ℕ) (sql : List ℕ) (params : Row) (form : Form) (old new : S
         alters.means old.step_limit _ old.now.trees led.0 new.now (contents old.now.trees) (was-content it) led.1
 
     -- what was kept of other tables is still right
-    pub recalls-written : (kept left : Answers) → Recalls old kept → ((db next : Trees) → AreOthersSame tree db next → AreRight db kept → AreRight next left) → Recalls new left
+    pub recalls-written : (kept left : List Answer) → Recalls old kept → ((db next : Trees) → AreOthersSame tree db next → AreRight db kept → AreRight next left) → Recalls new left
     recalls-written kept left was leaves clean opened =
         let it = agreed clean opened in
         let led = led clean it in

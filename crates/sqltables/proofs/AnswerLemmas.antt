@@ -1,7 +1,9 @@
 -- What is found among the answers that are kept, and what is kept.
-use Rattle.std.proofs.Common.{◌≡◌, ◌≢◌, ◌++◌, ◌==◌, Bool, true, false, not, ℕ, List, [], ◌∷◌, map, filter, flat_map, get_or, if◌then◌else◌, IfOk, Result, refl, sym, ap, subst, subst₂, ◌∙◌}
+use Rattle.std.proofs.Common.{◌≡◌, ◌≢◌, ◌≤◌, ◌++◌, ◌==◌, Bool, true, false, not, ℕ, List, [], ◌∷◌, length, map, filter, flat_map, get_or, if◌then◌else◌, IfOk, Result, inl, inr, refl, sym, ap, subst, subst₂, ◌∙◌, arith}
 use Rattle.std.specs.List.{All}
 use Rattle.std.proofs.lemmas.Bool.{and_parts, eqb-false}
+use Rattle.std.proofs.lemmas.Bool.Decides.{leb_tells}
+use Rattle.std.proofs.lemmas.List.Sums.{count_by-le-length, length-filter}
 use Rattle.std.proofs.lemmas.List.Elements.{All-filter, All-push, filter_passes}
 use Rattle.std.proofs.lemmas.Simd.{map-map}
 use Rattle.sqlite_value.specs.declared.value.Value.{Value}
@@ -19,14 +21,13 @@ use Rattle.sqlite_sql.specs.Term.{Env}
 use Rattle.sqlite_sql.specs.Program.{overlay}
 use Rattle.sqlrows.proofs.SelectLemmas.{overlay_none}
 use Rattle.sqlite.specs.State.{State}
-use Rattle.sqltables.specs.inner.Answers.{AreRight, IsAnswered, IsOf, IsQueryOf, IsRight, Recalls}
+use Rattle.sqltables.specs.inner.Answers.{AreFew, AreRight, IsAnswered, IsOf, IsPutIn, IsQueryOf, IsRight, Recalls, beside}
 use Rattle.sqltables.specs.Content.{Content}
 use Rattle.sqltables.specs.inner.Content.{IsContent}
 use Rattle.sqltables.specs.Decoding.{contents}
 use Rattle.sqltables.specs.Tables.{registry}
 use Rattle.states.specs.declared.fault.BookFault.{BookFault}
 use Rattle.sqltables.specs.declared.answers.Answer.{Answer}
-use Rattle.sqltables.specs.declared.answers.Answers.{Answers}
 use Rattle.sqltables.specs.declared.form.Form.{Form}
 use Rattle.states.specs.States.{Finds, Reads, Remains, StateOf}
 use Rattle.sqltables.specs.inner.Statements.{AreOthersSame, Asks, IsOfTable}
@@ -56,7 +57,7 @@ reads-itself s = record {
 }
 
 -- an answer that is kept is what the database would say
-pub recalled : {R : Type 0} (form : Form) (begun : Bool) (s : State) (leaves : List (Remains Content)) (kept : Answers) → Fits form begun s → has_rows form ≡ true → Recalls s kept → (f : Content → List R) → (found : Result (List R) BookFault)
+pub recalled : {R : Type 0} (form : Form) (begun : Bool) (s : State) (leaves : List (Remains Content)) (kept : List Answer) → Fits form begun s → has_rows form ≡ true → Recalls s kept → (f : Content → List R) → (found : Result (List R) BookFault)
     → ((db : Trees) (xs : Content) → AreRight db kept → IsContent xs (record { schema = registry; trees = db }) → IfOk found (λ records. records ≡ f xs)) → Finds found (f (store_state form begun s leaves).content) (store_state form begun s leaves) (store_state form begun s leaves)
 recalled form begun s leaves kept fits rows recalls f found tells =
     finds-by found (f (rows_in form s.now.trees)) (store_state form begun s leaves) (store_state form begun s leaves) (reads-itself (store_state form begun s leaves))
@@ -122,7 +123,25 @@ right-as db it tree sql params rows of at has answered asks = (
   subst₂ IsQueryOf (sym at) (sym of.0) asks,
 )
 
--- one more, if it could be put in
-pub right-pushed : {X : Type 0} (P : X → Type 0) (in_it : Bool) (items : List X) (it : X) → All P items → P it → All P (if in_it then items ++ it ∷ [] else items)
-right-pushed P true items it all one = All-push P items it all one
-right-pushed P false items it all one = all
+-- ---- which answers are kept
+
+-- those beside which one more is kept have what all have
+all-beside : (P : Answer → Type 0) (kept : List Answer) → All P kept → All P (beside kept)
+all-beside P kept all = elim (leb_tells 32 (length kept)) [
+  | inl full ↦ subst (λ (b : Bool). All P (if b then [] else kept)) (sym full.0) (λ i d short. absurd (omega (arith, short)))
+  | inr free ↦ subst (λ (b : Bool). All P (if b then [] else kept)) (sym free.0) all
+]
+
+-- one more, if it is put in
+pub all-put : (P : Answer → Type 0) (it : Answer) (old new : List Answer) → IsPutIn it old new → P it → All P old → All P new
+all-put P it old new put one all = elim put [
+  | inl is ↦ subst (All P) (sym is) (All-push P (beside old) it (all-beside P old all) one)
+  | inr is ↦ subst (All P) (sym is) (all-beside P old all)
+]
+
+-- those that pass a test
+pub few-left : (p : Answer → Bool) (items left : List Answer) → left ≡ filter p items → AreFew items → AreFew left
+few-left p items left is few = subst AreFew (sym is) (
+  omega (arith, length-filter p items, count_by-le-length p items, few.0),
+  All-filter p (λ (a : Answer). length a.rows.items ≤ 16) items few.1,
+)

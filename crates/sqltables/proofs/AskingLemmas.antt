@@ -22,7 +22,7 @@ use Rattle.sqltables.specs.inner.Content.{IsContent}
 use Rattle.sqltables.specs.Decoding.{contents}
 use Rattle.sqltables.specs.Tables.{registry}
 use Rattle.states.specs.declared.fault.BookFault.{BookFault}
-use Rattle.sqltables.specs.declared.answers.Answers.{Answers}
+use Rattle.sqltables.specs.declared.answers.Answer.{Answer}
 use Rattle.sqltables.specs.declared.form.Form.{Form}
 use Rattle.sqltables.specs.declared.form.Form.TheVariants.{Unused, Making, Made, Other}
 use Rattle.states.specs.States.{Finds, Reads, Remains, StateOf}
@@ -112,7 +112,7 @@ asked tree shown sql params form begun old new P leaves survives fits rows f ask
 
 -- what was kept is still right, and so is what was answered
 pub recalls-shown : (sql : List ℕ) (params : Row) (form : Form) (begun : Bool) (old new : State) (P : Trees → Type 0) → Survives old new P → Fits form begun old → has_rows form ≡ true → IsPlain (understood registry sql)
-    → (found : List Row) → (HasCleanDisk new → Shown sql params old new found) → (kept more : Answers) → Recalls old kept
+    → (found : List Row) → (HasCleanDisk new → Shown sql params old new found) → (kept more : List Answer) → Recalls old kept
     → ((db : Trees) → AreRight db kept → IsAnswered db sql params found → AreRight db more) → Recalls new more
 recalls-shown sql params form begun old new P survives fits rows plain found seen kept more was adds clean opened =
     let h = held sql params form begun old new P survives fits rows plain found clean (seen clean) in

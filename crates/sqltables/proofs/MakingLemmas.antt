@@ -1,5 +1,5 @@
 -- What making the tables leaves of a store of rows.
-use Rattle.std.proofs.Common.{◌≡◌, ◌⊎◌, ◌&&◌, inl, inr, Bool, true, false, List, Result, Ok, Err, IsTrue, refl, sym, ap, subst, ◌∙◌, true≢false}
+use Rattle.std.proofs.Common.{◌≡◌, ◌⊎◌, ◌&&◌, inl, inr, Bool, true, false, List, IsTrue, refl, sym, ap, subst, ◌∙◌, true≢false}
 use Rattle.std.proofs.lemmas.Bool.{and_parts}
 use Rattle.sqlite_trees.specs.Tree.{Trees}
 use Rattle.sqlite.specs.Effect.{Database}
@@ -8,10 +8,8 @@ use Rattle.sqlrows.specs.inner.Calls as calls
 use Rattle.sqlrows.specs.inner.Definitions.{IsUndone}
 use Rattle.sqltables.specs.Content.{Content, no_content}
 use Rattle.sqltables.specs.inner.Content.{IsContent}
-use Rattle.states.specs.declared.fault.BookFault.{BookFault}
 use Rattle.sqltables.specs.declared.form.Form.TheVariants.{Unused, Making}
-use Rattle.states.proofs.LeavingLemmas.{leaves-on}
-use Rattle.states.specs.States.{Begins, Makes, Remains, Starts, StateOf, Stays, Writes}
+use Rattle.states.specs.States.{Remains, Stays, Writes}
 use Rattle.sqltables.specs.inner.Stored.{Agrees, Fits, Guards, store_state}
 use Rattle.sqltables.proofs.DecodingLemmas.{decoded}
 use Rattle.sqltables.proofs.StandingLemmas.{answered-open, clean-of, guards-on, honest, leaves-same, was-honest}

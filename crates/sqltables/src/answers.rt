@@ -1,9 +1,9 @@
 //! Answers that are kept, so that the same question needn't be asked again.
-ghost use Rattle.std.specs.Prelude.{◌≡◌, true, map, ℕ, IfOk, IfSome, List};
+ghost use Rattle.std.specs.Prelude.{◌≡◌, ◌⊎◌, ◌≤◌, true, map, ℕ, IfOk, IfSome, List, [], length};
 ghost use Rattle.sqlite_trees.specs.Tree.{Trees};
 ghost use Rattle.sqlite_value.specs.Value.{owned};
 ghost use Rattle.sqlite.specs.Values.{bound};
-ghost use Rattle.sqltables.specs.inner.Answers.{AreRight, IsAnswered, IsOf, IsRight, IsQueryOf};
+ghost use Rattle.sqltables.specs.inner.Answers.{AreRight, IsAnswered, IsOf, IsPutIn, IsRight, IsQueryOf};
 ghost use Rattle.sqltables.specs.Content.{Content};
 ghost use Rattle.sqltables.specs.inner.Content.{IsContent};
 ghost use Rattle.sqltables.specs.inner.Statements.{AreOthersSame, Asks};
@@ -18,6 +18,7 @@ use sqlite_value::row::Row as Values;
 use sqlrows::Record;
 use states::BookFault;
 use std::alloc::{AllocError, Global};
+use std::marker::Model;
 
 /// How many answers are kept.
 const MOST_ANSWERS: usize = 32;
@@ -39,8 +40,20 @@ pub(crate) struct Answer {
 /// database holds, and a copy of its question.
 #[derive(Drop)]
 pub(crate) struct Answers {
-    pub items: Vec<Answer>,
-    pub alloc: Global,
+    items: Vec<Answer>,
+    alloc: Global,
+}
+
+impl Model for Answers {
+    ghost use Rattle.std.specs.Prelude.{List};
+    ghost use Rattle.sqltables.specs.inner.Answers.{AreFew};
+    ghost use Rattle.sqltables.specs.declared.answers.Answer.{Answer};
+
+    ghost Value = { List Answer };
+
+    ghost view = { λ r. r.items.items };
+
+    ghost invariant = { λ r. AreFew r.items.items };
 }
 
 /// Whether these are the values of a row, each of its own kind.
@@ -116,7 +129,8 @@ impl Answers {
 
     /// Keeps none any longer.
     pub fn forget(&mut self)
-        ensures { (db : Trees) → AreRight db self.new }
+        ensures right { (db : Trees) → AreRight db self.new }
+        ensures none { self.new ≡ [] }
     {
         self.items = Vec::new(self.alloc);
     }
@@ -133,8 +147,9 @@ impl Answers {
     /// copy of it is there. They take the place of all others where those are many.
     pub fn keep(&mut self, tree: u64, sql: &str, params: &[ValueRef<'_>], rows: Vec<Row>)
         requires { IsQueryOf tree sql.now }
-        ensures { (db : Trees) → AreRight db self.old
+        ensures right { (db : Trees) → AreRight db self.old
             → IsAnswered db sql.now (bound params.now) rows.items → AreRight db self.new }
+        ensures kept { (self.new ≡ self.old) ⊎ ((it : Answer) × IsPutIn it self.old self.new) }
     {
         if rows.len() > MOST_ROWS {
             return;
@@ -144,9 +159,10 @@ impl Answers {
         }
     }
 
-    /// Keeps one more, if memory is there.
+    /// Keeps one more, if memory is there: beside the others, or alone where those are as many as may be.
     fn add(&mut self, answer: Answer)
-        ensures { (db : Trees) → AreRight db self.old → IsRight db answer → AreRight db self.new }
+        requires { length answer.rows.items ≤ 16 }
+        ensures { IsPutIn answer self.old self.new }
     {
         if self.items.len() >= MOST_ANSWERS {
             self.forget();

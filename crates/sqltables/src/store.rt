@@ -16,8 +16,8 @@ use std::alloc::Global;
 use std::marker::Model;
 
 /// The eleven tables in a database, as rows. The row of the account that was read or put last, that of `meta`
-/// and all of `days` are kept at hand within a transaction: they are read again without a statement, and an
-/// account's row that is put again and again is written once, before another account's comes to hand or the
+/// and all of `days` are kept at hand: they are read again without a statement, in later transactions too, and
+/// an account's row that is put again and again is written once, before another account's comes to hand or the
 /// transaction is kept.
 #[derive(Drop)]
 pub struct RowStore<S: Alter> {
@@ -124,7 +124,7 @@ impl<S: Alter> RowStore<S> {
         self.hand.or_forget(begun)
     }
 
-    /// Keeps what the transaction did. No row is at hand afterwards.
+    /// Keeps what the transaction did. After a fault no row is at hand.
     pub fn commit(&mut self) -> Result<(), BookFault>
         requires { self.old.is_open ≡ true }
         ensures ends { Ends result self.old self.new }
@@ -134,14 +134,13 @@ impl<S: Alter> RowStore<S> {
         let tried = self.left.and(&self.base, &self.hand);
         self.base.show_answers();
         settle(&mut self.base, &mut self.hand)?;
-        let ended = self.base.commit();
-        self.hand = Hand::empty();
-        match ended {
+        match self.base.commit() {
             Ok(()) => {
                 self.left = kept;
                 Ok(())
             }
             Err(fault) => {
+                self.hand = Hand::empty();
                 self.left = tried;
                 Err(fault)
             }

@@ -1,5 +1,5 @@
 -- Answers that are kept.
-use Rattle.std.specs.Prelude.{◌≡◌, ℕ, List, [], map, IsTrue}
+use Rattle.std.specs.Prelude.{◌≡◌, ◌⊎◌, ◌≤◌, nat_le, ℕ, List, [], ◌∷◌, ◌++◌, length, map, if◌then◌else◌, IsTrue}
 use Rattle.std.specs.List.{All}
 use Rattle.sqlite_value.specs.Order.{Row}
 use Rattle.sqlite_trees.specs.Tree.{Trees}
@@ -11,7 +11,6 @@ use Rattle.sqlrows.specs.inner.Layouts.{IsSelect}
 use Rattle.sqltables.specs.Tables.{registry}
 use Rattle.sqltables.specs.inner.Statements.{IsOfTable}
 use Rattle.sqltables.specs.declared.answers.Answer.{Answer}
-use Rattle.sqltables.specs.declared.answers.Answers.{Answers}
 
 -- these rows answer the question that the text is, of the trees
 abbrev pub IsAnswered : Trees → List ℕ → Row → List Row → Type 0
@@ -32,9 +31,21 @@ IsRight db it = IsAnswered db it.sql.items (map bound_value it.params) it.rows.i
     × IsQueryOf it.tree it.sql.items
 
 -- each one does, of the trees
-abbrev pub AreRight : Trees → Answers → Type 0
-AreRight db kept = All (IsRight db) kept.items.items
+abbrev pub AreRight : Trees → List Answer → Type 0
+AreRight db kept = All (IsRight db) kept
+
+-- they are 32 at most, of 16 rows at most
+abbrev pub AreFew : List Answer → Type 0
+AreFew kept = (length kept ≤ 32) × All (λ (it : Answer). length it.rows.items ≤ 16) kept
+
+-- those beside which one more is kept: where there are 32, none
+abbrev pub beside : List Answer → List Answer
+beside kept = if nat_le 32 (length kept) then [] else kept
+
+-- One more is kept, if memory is there for it.
+abbrev pub IsPutIn : Answer → List Answer → List Answer → Type 0
+IsPutIn it old new = (new ≡ beside old ++ it ∷ []) ⊎ (new ≡ beside old)
 
 -- While the disk is clean and the connection open, each is what the database would answer now.
-abbrev pub Recalls : State → Answers → Type 0
+abbrev pub Recalls : State → List Answer → Type 0
 Recalls s kept = HasCleanDisk s → IsTrue s.is_open → AreRight s.now.trees kept

@@ -28,7 +28,7 @@ invariant_of-self g c =
       guards-on begun begun old new _ leaves c.query_all.ensures.survives c.self.invariant.1
           (λ clean _. (same-if sql params form begun old new _ c.query_all.ensures.survives c.self.invariant.0 rows c.requires.plain _ clean (c.in-Ok.ensures.ok clean)).0.is_open)
           (nothing-committed sql params form begun old new _ c.query_all.ensures.survives c.self.invariant.0 rows c.requires.plain c.query_all.ensures.survives opened),
-      recalls-shown sql params form begun old new _ c.query_all.ensures.survives c.self.invariant.0 rows c.requires.plain _ c.in-Ok.ensures.ok c.self.inside.answers c.keep.new.self c.self.invariant.2 c.keep.ensures,
+      recalls-shown sql params form begun old new _ c.query_all.ensures.survives c.self.invariant.0 rows c.requires.plain _ c.in-Ok.ensures.ok c.self.inside.answers c.keep.new.self c.self.invariant.2 c.keep.ensures.right,
     )
 
 pub invariant_of-self-then-is_autocommit : goal.invariant_of-self-then-is_autocommit
@@ -47,7 +47,7 @@ invariant_of-self-then-is_autocommit g c =
       subst (λ (f : Form). Fits f false new) (sym c.undone-self-inside.ensures) (fits-idle form begun old new c.is_autocommit.result c.is_autocommit.ensures.value left c.if-is_autocommit.true),
       guards-on begun false old new _ leaves c.query_all.ensures.survives c.self.invariant.1 (λ clean e. absurd (true≢false (sym e)))
           (nothing-committed sql params form begun old new _ c.query_all.ensures.survives c.self.invariant.0 rows c.requires.plain c.query_all.ensures.survives opened),
-      λ _ _. c.forget.ensures _,
+      λ _ _. c.forget.ensures.right _,
     )
 
 pub invariant_of-self-else-is_autocommit : goal.invariant_of-self-else-is_autocommit
@@ -68,7 +68,7 @@ invariant_of-self-else-is_autocommit g c =
       guards-on begun begun old new _ leaves c.query_all.ensures.survives c.self.invariant.1
           (λ clean _. opened-held form begun old new c.is_autocommit.result c.is_autocommit.ensures.value known c.if-is_autocommit.false clean)
           (nothing-committed sql params form begun old new _ c.query_all.ensures.survives c.self.invariant.0 rows c.requires.plain c.query_all.ensures.survives opened),
-      λ _ _. c.forget.ensures _,
+      λ _ _. c.forget.ensures.right _,
     )
 
 pub returns-in-Ok : goal.returns-in-Ok

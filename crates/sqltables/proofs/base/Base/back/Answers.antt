@@ -16,7 +16,7 @@ invariant_of-self g c =
       subst (λ (f : Form). Fits f false new) (sym c.undone-self-inside.ensures)
           (fits-back (state g.S.Store) c.self.inside.form c.self.inside.begun c.self.inside.conn c.rollback.new.conn _ c.rollback.ensures.crash c.self.invariant.0 c.rollback.ensures.does leaves),
       guards-on c.self.inside.begun false old new _ leaves c.rollback.ensures.crash c.self.invariant.1 (λ clean e. absurd (true≢false (sym e))) (leaves-no-more old new c.rollback.ensures.crash),
-      λ _ _. c.forget.ensures _,
+      λ _ _. c.forget.ensures.right _,
     )
 
 pub returns : goal.returns

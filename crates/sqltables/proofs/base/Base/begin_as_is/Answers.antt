@@ -18,7 +18,7 @@ invariant_of-self g c =
     let fits = subst (λ (b : Bool). Fits form b old) begun c.self.invariant.0 in
     let guards = subst (λ (b : Bool). Guards b old leaves) begun c.self.invariant.1 in
     let crash = begin_leaves old new c.execute.ensures.survives in
-    (fits-begun form old new _ crash leaves fits _ c.in-Ok.ensures.runs, guards-begun form old new _ crash leaves fits _ c.in-Ok.ensures.runs (λ db none. none) guards, λ _ _. c.forget.ensures _)
+    (fits-begun form old new _ crash leaves fits _ c.in-Ok.ensures.runs, guards-begun form old new _ crash leaves fits _ c.in-Ok.ensures.runs (λ db none. none) guards, λ _ _. c.forget.ensures.right _)
 
 pub invariant_of-self-in-Err : goal.invariant_of-self-in-Err
 invariant_of-self-in-Err g c =
@@ -31,7 +31,7 @@ invariant_of-self-in-Err g c =
     let crash = begin_leaves old new c.execute.ensures.survives in (
       subst (λ (b : Bool). Fits form b new) (sym begun) (fits-not-begun form old new _ crash leaves fits c.in-Err.error c.in-Err.ensures.runs),
       guards-on c.self.inside.begun c.self.inside.begun old new _ leaves crash c.self.invariant.1 (λ clean e. absurd (true≢false (sym e ∙ begun))) (leaves-no-more old new crash),
-      λ _ _. c.forget.ensures _,
+      λ _ _. c.forget.ensures.right _,
     )
 
 pub returns-in-Ok : goal.returns-in-Ok

@@ -37,7 +37,7 @@ invariant_of-self g c =
       subst (λ (f : Form). Fits f false new) (sym c.committed-made.ensures) (fits-committed form old new _ crash leaves fits _ c.in-Ok.ensures.runs),
       subst (λ (l : List (Remains Content)). Guards false new l) (sym alone)
           (guards-committed form old new _ crash leaves fits _ c.in-Ok.ensures.runs rows (λ opened. (c.schema-schema.ensures.live opened).0) (λ db opened may. g.met.S.Store.settled c.execute.new.self.store db opened may)),
-      λ _ _. c.forget.ensures _,
+      λ _ _. c.forget.ensures.right _,
     )
 
 pub invariant_of-self-in-Err : goal.invariant_of-self-in-Err
@@ -55,7 +55,7 @@ invariant_of-self-in-Err g c =
       subst (λ (f : Form). Fits f false new) (sym c.undone-self-inside.ensures) (fits-not-committed form old new _ crash leaves fits c.in-Err.error c.in-Err.ensures.runs),
       subst (λ (l : List (Remains Content)). Guards false new l) (sym more)
           (guards-failed form old new _ crash leaves fits c.in-Err.error c.in-Err.ensures.runs rows guards (λ opened. (c.schema-schema.ensures.live opened).0) (λ db is. is)),
-      λ _ _. c.forget.ensures _,
+      λ _ _. c.forget.ensures.right _,
     )
 
 pub returns-in-Ok-clause-ends : goal.returns-in-Ok-clause-ends

@@ -27,7 +27,7 @@ invariant_of-self g c =
     let fits = subst (λ (b : Bool). Fits form b old) idle c.self.invariant.0 in (
       subst (λ (b : Bool). Fits form b new) (sym idle) (fits-looked form old new _ c.prepare.ensures.survives fits stood),
       guards-on begun begun old new _ leaves c.prepare.ensures.survives c.self.invariant.1 (λ clean e. absurd (true≢false (sym e ∙ idle))) (leaves-no-more old new c.prepare.ensures.survives),
-      λ _ _. c.forget.ensures _,
+      λ _ _. c.forget.ensures.right _,
     )
 
 pub returns-clause-same : goal.returns-clause-same

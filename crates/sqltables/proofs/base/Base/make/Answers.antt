@@ -27,7 +27,7 @@ invariant_of-self g c =
     λ clean opened it. (c.in-Ok.ensures.makes it.bears.0 opened it.mode clean).crash in (
       subst (λ (b : Bool). Fits Making b mid) (sym begun) (fits-made old mid _ c.create.ensures.steady fits c.create.ensures.opened leaves made),
       subst (λ (b : Bool). Guards b mid leaves) (sym begun) (guards-made old mid _ c.create.ensures.steady fits c.create.ensures.opened leaves made crash guards),
-      λ _ _. c.forget.ensures _,
+      λ _ _. c.forget.ensures.right _,
     )
 
 pub invariant_of-self-in-Err : goal.invariant_of-self-in-Err
@@ -46,7 +46,7 @@ invariant_of-self-in-Err g c =
     let does = back-or-same (state g.S.Store) c.create.new.conn c.rollback.new.conn c.rollback.ensures.does in (
       subst (λ (f : Form). Fits f false new) (sym c.in-Unused.is) (fits-unmade old mid _ c.create.ensures.steady fits c.create.ensures.opened leaves failed new _ c.rollback.ensures.crash does),
       guards-unmade old mid _ c.create.ensures.steady fits c.create.ensures.opened leaves failed new _ c.rollback.ensures.crash does crash (λ db none. none) guards,
-      λ _ _. c.forget.ensures _,
+      λ _ _. c.forget.ensures.right _,
     )
 
 pub returns-in-Ok : goal.returns-in-Ok

@@ -49,7 +49,7 @@ invariant_of-self-then-is_autocommit g c =
       subst (λ (f : Form). Fits f false new) (sym c.undone-self-inside.ensures) (fits-idle form true old new c.is_autocommit.result c.is_autocommit.ensures.value left c.if-is_autocommit.true),
       guards-on true false old new _ leaves c.execute.ensures.survives guards (λ clean e. absurd (true≢false (sym e)))
           (none-committed c.args.tree sql params form old new _ c.execute.ensures.survives fits rows c.requires.means.0 c.requires.means.1 c.execute.ensures.survives opened),
-      λ _ _. c.forget.ensures _,
+      λ _ _. c.forget.ensures.right _,
     )
 
 pub invariant_of-self-else-is_autocommit : goal.invariant_of-self-else-is_autocommit
@@ -72,7 +72,7 @@ invariant_of-self-else-is_autocommit g c =
           (guards-on true true old new _ leaves c.execute.ensures.survives guards
           (λ clean _. opened-held form true old new c.is_autocommit.result c.is_autocommit.ensures.value known c.if-is_autocommit.false clean)
           (none-committed c.args.tree sql params form old new _ c.execute.ensures.survives fits rows c.requires.means.0 c.requires.means.1 c.execute.ensures.survives opened)),
-      λ _ _. c.forget.ensures _,
+      λ _ _. c.forget.ensures.right _,
     )
 
 pub returns-in-Ok : goal.returns-in-Ok

@@ -12,7 +12,7 @@ invariant_of-self-in-Err g c =
     let hand = c.self.inside.hand in
     let old = c.self.inside.base in
     let mid = c.settle.new.base in
-    let new = c.commit-ended.new.self in
+    let new = c.commit.new.self in
     let opened = ap (λ (s : StateOf Content). s.is_open) c.self.view_is ∙ c.requires in
     let read = subst (Reads (seen_with hand old)) (unowed c.settle.new.hand mid c.in_ok-settle.ensures.nothing) c.in_ok-settle.ensures.seen in (
       subst (λ (h : Hand). IsAtHand h new) (sym c.empty.ensures) (none-at-hand new),
@@ -25,7 +25,7 @@ returns-in-Err-clause-ends g c =
     let hand = c.self.inside.hand in
     let old = c.self.inside.base in
     let mid = c.settle.new.base in
-    let new = c.commit-ended.new.self in
+    let new = c.commit.new.self in
     let opened = ap (λ (s : StateOf Content). s.is_open) c.self.view_is ∙ c.requires in
     let read = subst (Reads (seen_with hand old)) (unowed c.settle.new.hand mid c.in_ok-settle.ensures.nothing) c.in_ok-settle.ensures.seen in
     subst (λ (s : StateOf Content). Fails s (noting (noted_of c.and-tried.result.items) (seen_with c.empty.result new))) c.self.view_is
