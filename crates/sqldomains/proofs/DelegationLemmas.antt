@@ -2,7 +2,7 @@
 use Rattle.std.proofs.Common.{◌≡◌, ◌⊎◌, inl, inr, ℕ, Bool, true, false, cond, List, [], ◌∷◌, map, Option, Some, None, option_map, refl, sym, ap, subst, ◌∙◌}
 use Rattle.std.specs.Cmp.{eq_by_cmp_equiv}
 use Rattle.std.specs.Cmp.Lexicographic.{nat_list_cmp_total, slice_cmp}
-use Rattle.std.specs.FinMap.{empty, entries, get, get-empty, get-insert, insert, same_map, values}
+use Rattle.std.specs.FinMap.{empty, entries, get, get-empty, get-insert, same_map, values}
 use Rattle.std.specs.Ordering.{eq_by_cmp, nat_cmp}
 use Rattle.sqlite_rules.specs.Lists.{Has}
 use Rattle.basis.specs.Maps.{map_values}

@@ -1,5 +1,5 @@
 -- What domains name where the row of one host was made another's: each names the other in place of the one.
-use Rattle.std.proofs.Common.{◌≡◌, inl, inr, ℕ, ℤ, Bool, true, false, List, [], ◌∷◌, filter, Option, Some, None, option_map, refl, sym, ap, subst, ◌∙◌}
+use Rattle.std.proofs.Common.{◌≡◌, ℕ, ℤ, Bool, true, false, List, [], ◌∷◌, filter, Option, Some, None, option_map, refl, sym, ap, subst, ◌∙◌}
 use Rattle.std.specs.FinMap.{get}
 use Rattle.std.specs.Str.{bytes_eq}
 use Rattle.std.proofs.lemmas.Slice.Eq.{bytes_eq-Decides}
@@ -25,7 +25,7 @@ use Rattle.sqltables.specs.Link.{Link, link_with_domain}
 use Rattle.sqltables.specs.Transfer.{transfer_with_domain}
 use Rattle.sqlrows.specs.Read.{first_read, or_else}
 use Rattle.sqlobjects.specs.inner.Changes.{IsRowRenamed, new_name}
-use Rattle.sqlobjects.specs.Changes.{contact_name, host_name}
+use Rattle.sqlobjects.specs.Changes.{contact_name}
 use Rattle.sqlobjects.specs.Objects.{last_transfer}
 use Rattle.sqldomains.specs.Domains.{dated, domain_of, domains_of, linked_name, links_of, placed, registrant_alone, with_link, with_links, with_name}
 use Rattle.sqldomains.proofs.FoundLemmas.{domain-named}

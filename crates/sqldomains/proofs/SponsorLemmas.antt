@@ -1,9 +1,8 @@
 -- Whether stored sponsors of hosts are right is the same after a change as before.
-use Rattle.std.proofs.Common.{◌≡◌, inl, inr, ℕ, ℤ, Bool, true, false, not, cond, ◌&&◌, List, [], ◌∷◌, map, filter, Option, Some, None, is_some, refl, sym, ap, subst, ◌∙◌}
+use Rattle.std.proofs.Common.{◌≡◌, inl, ℕ, ℤ, Bool, true, false, not, cond, ◌&&◌, List, [], ◌∷◌, filter, Option, Some, None, is_some, refl, sym, ap, subst, ◌∙◌}
 use Rattle.std.specs.Cmp.Lexicographic.{nat_list_cmp_total}
 use Rattle.std.specs.FinMap.{get, get-insert}
 use Rattle.std.specs.List.{list_all}
-use Rattle.std.proofs.lemmas.Bool.{and_from, and_parts}
 use Rattle.sqlite_rules.specs.Lists.{Has}
 use Rattle.sqlite_typed.specs.Tests.{bytes_eq}
 use Rattle.objects.specs.declared.contact.Contact.{Contact}
@@ -27,8 +26,7 @@ use Rattle.sqlrows.specs.Read.{first_read, or_else}
 use Rattle.sqlobjects.specs.inner.Changes.{IsContactPut, IsHostPut, put}
 use Rattle.sqlobjects.specs.Objects.{last_transfer}
 use Rattle.sqlobjects.specs.Sponsors.{AreMoved, IsSponsorSetBelow, domain_sponsor, first_sponsor, is_sponsor_right, sponsors_are_right, takes_sponsor, with_sponsor}
-use Rattle.sqlobjects.specs.inner.Stages.{AreOthersKept}
-use Rattle.sqlobjects.proofs.PutLemmas.{bytes_is, filter-has, has-filter}
+use Rattle.sqlobjects.proofs.PutLemmas.{bytes_is, has-filter}
 use Rattle.sqlobjects.proofs.SponsorLemmas.{same-from, same-is, sponsor-kept}
 use Rattle.sqlobjects.proofs.VerdictLemmas.{all-alike, all-changed, same-verdict}
 use Rattle.sqldomains.specs.inner.Changes.{IsDomainPut, sponsor_in}

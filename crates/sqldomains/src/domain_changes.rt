@@ -1,13 +1,10 @@
 //! Domains put under their names and dropped.
-ghost use Rattle.std.specs.Prelude.{◌≡◌, true, [], filter, Some, None};
+ghost use Rattle.std.specs.Prelude.{◌≡◌, true, Some, None};
 ghost use Rattle.sqlrows.specs.Meanings.{Changes};
 ghost use Rattle.states.specs.States.{FindsSome};
 ghost use Rattle.sqlobjects.specs.Changes.{contact_name};
-ghost use Rattle.sqlobjects.specs.declared.transfers.Transferable.TheVariants as transferable;
 ghost use Rattle.sqlobjects.specs.inner.Stages.{domains, rows_named};
-ghost use Rattle.sqlobjects.specs.inner.Transfers.{IsTransferPut};
 ghost use Rattle.sqlrows.specs.Read.{rows_of};
-ghost use Rattle.sqltables.specs.Transfer.{transfer_with_domain};
 ghost use Rattle.sqldomains.specs.inner.Changes.{IsDomainPut};
 ghost use Rattle.sqldomains.specs.inner.Stages.{ArePartsPut, HasNoParts};
 
@@ -16,10 +13,10 @@ use crate::link_rows::{contact_number, put_links};
 use crate::names;
 use basis::text::Text;
 use calendar::Moment;
-use objects::{Domain, Transfer};
+use objects::Domain;
 use sqlcolumns::is_domain;
 use sqlite::Alter;
-use sqlobjects::{Transferable, put_transfer, row_named};
+use sqlobjects::{Transferable, put_last_transfer, row_named};
 use sqltables::{DomainRow, RowStore};
 use states::BookFault;
 use std::alloc::Global;
@@ -130,26 +127,13 @@ fn put_parts<S: Alter>(
         → ArePartsPut row.now.id row.now.due domain.now old new) store.old store.new }
 {
     put_links(store, alloc, row, &domain.links, is_new)?;
-    put_last_transfer(store, row, &domain.transfer, is_new)?;
+    put_last_transfer(
+        store,
+        Transferable::of_domain(row),
+        &domain.transfer,
+        is_new,
+    )?;
     Ok(())
-}
-
-/// The domain in this row has this as its last transfer.
-fn put_last_transfer<S: Alter>(
-    store: &mut RowStore<S>,
-    row: &DomainRow,
-    transfer: &Option<Transfer>,
-    is_new: bool,
-) -> Result<(), BookFault>
-    requires { store.old.is_open ≡ true }
-    ensures { Changes result (λ old new.
-        (is_new ≡ true → filter (transfer_with_domain row.now.id) old.transfers ≡ [])
-        → IsTransferPut (transferable.Domain row.now.id) transfer.now old new) store.old store.new }
-{
-    match transfer {
-        None if is_new => Ok(()),
-        _ => put_transfer(store, Transferable::of_domain(row), transfer),
-    }
 }
 
 /// No domain is under this name.

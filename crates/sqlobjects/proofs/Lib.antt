@@ -3,6 +3,7 @@ pub mod FoundLemmas
 pub mod PutLemmas
 pub mod StepLemmas
 pub mod NamedRowLemmas
+pub mod NewRowLemmas
 pub mod TransferLemmas
 pub mod ContactLemmas
 pub mod AddressLemmas

@@ -28,7 +28,7 @@ use Rattle.sqlobjects.specs.Objects.{addresses_of, contacts_of, host_of, hosts_o
 use Rattle.sqlobjects.specs.Sponsors.{is_sponsor_right, sponsor_of, sponsors_are_right}
 use Rattle.sqlobjects.specs.inner.Stages.{AreAddressesPut, AreOtherAddressesKept, AreOthersKept, IsRowTaken}
 use Rattle.sqlobjects.proofs.HostLemmas.{reads-alike, written}
-use Rattle.sqlobjects.proofs.PutLemmas.{all_from_has, apart, bytes_apart, bytes_is, changed, drop-stands, filter-has, filter-insert_by, get_by-has, has-get_by, has-insert_by, map_of, none-removed, only_named, others-removed, row_there, tied}
+use Rattle.sqlobjects.proofs.PutLemmas.{all_from_has, apart, bytes_apart, bytes_is, changed, drop-stands, filter-insert_by, get_by-has, has-get_by, has-insert_by, none-removed, only_named, others-removed, row_there, tied}
 use Rattle.sqlobjects.proofs.SponsorLemmas.{found-right, nobody, same-from, sponsor-kept}
 use Rattle.sqlobjects.proofs.VerdictLemmas.{same-verdict}
 

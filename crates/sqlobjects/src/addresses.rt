@@ -1,6 +1,7 @@
 //! The addresses of a host, in their order.
 ghost use Rattle.std.specs.Prelude.{◌≡◌, true, [], ◌∷◌, IfOk};
 ghost use Rattle.sqlrows.specs.Meanings.{Changes};
+ghost use Rattle.sqlobjects.specs.Objects.{addresses_of};
 ghost use Rattle.sqlobjects.specs.inner.Stages.{AreAddressesAdded, AreAddressesPut};
 
 use crate::hosts::number_of;
@@ -23,18 +24,35 @@ pub(crate) fn clear_addresses<S: Alter>(
     Ok(())
 }
 
+/// The host in this row has no address any more. One whose row is new has none, so none is removed.
+fn clear_addresses_of<S: Alter>(
+    store: &mut RowStore<S>,
+    host: &HostRow,
+    is_new: bool,
+) -> Result<(), BookFault>
+    requires { store.old.is_open ≡ true }
+    ensures { Changes result (λ old new. (is_new ≡ true → addresses_of old host.now.id ≡ [])
+        → AreAddressesPut host.now.id [] old new) store.old store.new }
+{
+    if is_new {
+        return Ok(());
+    }
+    clear_addresses(store, number_of(host))
+}
+
 /// Gives a host, which lies in this row, these addresses in place of those that it had.
 pub(crate) fn put_addresses<S: Alter>(
     store: &mut RowStore<S>,
     alloc: Global,
     host: &HostRow,
     addresses: &[Text],
+    is_new: bool,
 ) -> Result<(), BookFault>
     requires { store.old.is_open ≡ true }
-    ensures { Changes result (AreAddressesPut host.now.id addresses.now) store.old store.new }
+    ensures { Changes result (λ old new. (is_new ≡ true → addresses_of old host.now.id ≡ [])
+        → AreAddressesPut host.now.id addresses.now old new) store.old store.new }
 {
-    let number = number_of(host);
-    clear_addresses(store, number)?;
+    clear_addresses_of(store, host, is_new)?;
     add_addresses(store, alloc, host, addresses)?;
     Ok(())
 }

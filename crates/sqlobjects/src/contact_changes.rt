@@ -1,16 +1,18 @@
 //! Contacts put under their names and dropped.
 ghost use Rattle.std.specs.Prelude.{◌≡◌, true, Some, None};
 ghost use Rattle.sqlrows.specs.Meanings.{Changes};
+ghost use Rattle.sqlrows.specs.Read.{rows_of};
 ghost use Rattle.sqlobjects.specs.inner.Changes.{IsContactPut};
+ghost use Rattle.sqlobjects.specs.inner.Stages.{contacts, rows_named};
 
 use crate::contact_rows::{place, remove_found};
 use crate::named_rows::row_named;
-use crate::transfers::{Transferable, put_transfer};
+use crate::transfers::{Transferable, put_last_transfer};
 use basis::text::Text;
 use objects::Contact;
 use sqlcolumns::is_contact;
 use sqlite::Alter;
-use sqltables::RowStore;
+use sqltables::{ContactRow, RowStore};
 use states::BookFault;
 use std::alloc::Global;
 
@@ -39,20 +41,34 @@ fn put_named<S: Alter>(
     if contact.name.as_str() != name.as_str() {
         return Err(BookFault::Store);
     }
-    put(store, alloc, contact)
+    let found = row_named(store, &contact.name)?;
+    put_over(store, alloc, found, contact)
 }
 
-/// The contact is under its name. One that wouldn't be read back is refused.
-fn put<S: Alter>(store: &mut RowStore<S>, alloc: Global, contact: &Contact) -> Result<(), BookFault>
+/// The contact is under its name, of which this row was found. One that wouldn't be read back is refused.
+fn put_over<S: Alter>(
+    store: &mut RowStore<S>,
+    alloc: Global,
+    found: Option<ContactRow>,
+    contact: &Contact,
+) -> Result<(), BookFault>
     requires { store.old.is_open ≡ true }
-    ensures { Changes result (IsContactPut contact.now.name (Some contact.now)) store.old store.new }
+    ensures { Changes result (λ old new. rows_named contacts contact.now.name old ≡ rows_of found
+        → IsContactPut contact.now.name (Some contact.now) old new) store.old store.new }
 {
     if !is_contact(contact) {
         return Err(BookFault::Store);
     }
+    let is_new = found.is_none();
     store.show_consistent();
-    let row = place(store, alloc, contact)?;
-    put_transfer(store, Transferable::of_contact(&row), &contact.transfer)?;
+    let row = place(store, alloc, found, contact)?;
+    store.show_consistent();
+    put_last_transfer(
+        store,
+        Transferable::of_contact(&row),
+        &contact.transfer,
+        is_new,
+    )?;
     store.show_consistent();
     Ok(())
 }

@@ -3,9 +3,10 @@ ghost use Rattle.std.specs.Prelude.{◌≡◌, true, pos, Some, IfOk};
 ghost use Rattle.sqlcolumns.specs.inner.Contacts.{contact_row};
 ghost use Rattle.sqltables.specs.inner.Consistent.{IsConsistent};
 ghost use Rattle.sqlrows.specs.Meanings.{Changes};
-ghost use Rattle.sqlobjects.specs.inner.Stages.{ChangesGiving, IsContactDropped, IsContactPlaced, IsContactRemoved};
+ghost use Rattle.sqlrows.specs.Read.{rows_of};
+ghost use Rattle.sqlobjects.specs.inner.Stages.{ChangesGiving, IsContactDropped, IsContactPlaced, IsContactRemoved, contacts, rows_named};
 
-use crate::named_rows::{place_row, row_named};
+use crate::named_rows::place_row;
 use crate::transfers::{Transferable, clear_transfer};
 use objects::Contact;
 use sqlcolumns::contact_row;
@@ -49,18 +50,19 @@ pub(crate) fn remove_found<S: Alter>(
     }
 }
 
-/// Puts a contact, but for its transfer, into the row of its name, or else into a new one, which is
-/// given back.
+/// Puts a contact, but for its transfer, into the row that was found under its name, or else into a new
+/// one, which is given back.
 pub(crate) fn place<S: Alter>(
     store: &mut RowStore<S>,
     alloc: Global,
+    found: Option<ContactRow>,
     contact: &Contact,
 ) -> Result<ContactRow, BookFault>
     requires { store.old.is_open ≡ true }
     ensures { ChangesGiving result (λ row old new. IsConsistent old
+        → rows_named contacts contact.now.name old ≡ rows_of found
         → IsContactPlaced contact.now row old new) store.old store.new }
 {
-    let found = row_named(store, &contact.name)?;
     let row = row_of(alloc, contact)?;
     place_row(store, found, row)
 }

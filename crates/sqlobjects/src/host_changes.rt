@@ -2,6 +2,7 @@
 ghost use Rattle.std.specs.Prelude.{◌≡◌, true, Some, None};
 ghost use Rattle.sqlrows.specs.Meanings.{Changes};
 ghost use Rattle.sqlobjects.specs.inner.Changes.{IsHostPut};
+ghost use Rattle.sqlobjects.specs.inner.Stages.{IsHostFound};
 
 use crate::addresses::put_addresses;
 use crate::host_rows::{place, remove_found, row_to_change};
@@ -9,7 +10,7 @@ use basis::text::Text;
 use objects::Host;
 use sqlcolumns::is_host;
 use sqlite::Alter;
-use sqltables::RowStore;
+use sqltables::{HostRow, RowStore};
 use states::BookFault;
 use std::alloc::Global;
 
@@ -25,17 +26,34 @@ pub fn put_host<S: Alter>(
     put(store, alloc, &host)
 }
 
-/// The same of a host that is kept. One that wouldn't be read back is refused.
+/// The same of a host that is kept.
 fn put<S: Alter>(store: &mut RowStore<S>, alloc: Global, host: &Host) -> Result<(), BookFault>
     requires { store.old.is_open ≡ true }
     ensures { Changes result (IsHostPut host.now.name (Some host.now)) store.old store.new }
 {
+    let found = row_to_change(store, &host.name)?;
+    put_over(store, alloc, found, host)
+}
+
+/// The host is under its name, of which this row was found. One that wouldn't be read back is refused.
+fn put_over<S: Alter>(
+    store: &mut RowStore<S>,
+    alloc: Global,
+    found: Option<HostRow>,
+    host: &Host,
+) -> Result<(), BookFault>
+    requires { store.old.is_open ≡ true }
+    ensures { Changes result (λ old new. IsHostFound old host.now.name found
+        → IsHostPut host.now.name (Some host.now) old new) store.old store.new }
+{
     if !is_host(host) {
         return Err(BookFault::Store);
     }
+    let is_new = found.is_none();
     store.show_consistent();
-    let row = place(store, alloc, host)?;
-    put_addresses(store, alloc, &row, host.addresses.as_slice())?;
+    let row = place(store, alloc, found, host)?;
+    store.show_consistent();
+    put_addresses(store, alloc, &row, host.addresses.as_slice(), is_new)?;
     store.show_consistent();
     Ok(())
 }

@@ -34,7 +34,7 @@ pub fn rename_row<S: Alter>(
     }
     store.show_consistent();
     let row = take_row(store, alloc, from, host)?;
-    put_addresses(store, alloc, &row, host.addresses.as_slice())?;
+    put_addresses(store, alloc, &row, host.addresses.as_slice(), false)?;
     store.show_consistent();
     Ok(())
 }

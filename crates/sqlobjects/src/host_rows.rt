@@ -3,7 +3,9 @@ ghost use Rattle.std.specs.Prelude.{◌≡◌, true, Some, None, IfOk};
 ghost use Rattle.sqlcolumns.specs.inner.Hosts as inner_hosts;
 ghost use Rattle.states.specs.States.{FindsSome};
 ghost use Rattle.sqlrows.specs.Meanings.{Changes};
-ghost use Rattle.sqlobjects.specs.inner.Stages.{ChangesGiving, IsHostDropped, IsHostFound, IsHostPlacedRight, IsHostRemoved, IsHostRow};
+ghost use Rattle.sqlrows.specs.Read.{rows_of};
+ghost use Rattle.sqltables.specs.inner.Consistent.{IsConsistent};
+ghost use Rattle.sqlobjects.specs.inner.Stages.{ChangesGiving, IsHostDropped, IsHostFound, IsHostPlaced, IsHostRemoved, IsHostRow, hosts, rows_named};
 
 use crate::addresses::clear_addresses;
 use crate::hosts::number_of;
@@ -56,18 +58,19 @@ pub(crate) fn remove_found<S: Alter>(
     }
 }
 
-/// Puts a host, but for its addresses, into the row of its name, or else into a new one, which is
-/// given back.
+/// Puts a host, but for its addresses, into the row that was found under its name, or else into a new one,
+/// which is given back.
 pub(crate) fn place<S: Alter>(
     store: &mut RowStore<S>,
     alloc: Global,
+    found: Option<HostRow>,
     host: &Host,
 ) -> Result<HostRow, BookFault>
     requires { store.old.is_open ≡ true }
-    ensures { ChangesGiving result (λ row old new. IsHostPlacedRight host.now row old new) store.old
+    ensures { ChangesGiving result (λ row old new. IsConsistent old
+        → rows_named hosts host.now.name old ≡ rows_of found → IsHostPlaced host.now row old new) store.old
         store.new }
 {
-    let found = row_to_change(store, &host.name)?;
     let row = row_of(store, alloc, 0, host)?;
     place_row(store, found, row)
 }

@@ -33,4 +33,4 @@ pub use host_names::rename_row;
 pub use host_sponsors::set_sponsor_below;
 pub use hosts::{has_host, host, host_addresses};
 pub use named_rows::{NamedRow, place_row, row_named};
-pub use transfers::{Transferable, clear_transfer, put_transfer};
+pub use transfers::{Transferable, clear_transfer, put_last_transfer};

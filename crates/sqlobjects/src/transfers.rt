@@ -1,5 +1,5 @@
 //! The last transfer of a contact or a domain.
-ghost use Rattle.std.specs.Prelude.{◌≡◌, true, filter, IfOk, IfSome};
+ghost use Rattle.std.specs.Prelude.{◌≡◌, true, [], filter, IfOk, IfSome};
 ghost use Rattle.std.specs.List.{list_any};
 ghost use Rattle.sqlite_keyed.specs.Lists.{delete_where};
 ghost use Rattle.sqlcolumns.specs.Transfers.{IsTransfer};
@@ -59,7 +59,7 @@ pub fn clear_transfer<S: Alter>(
 }
 
 /// Gives an object its last transfer, or none, in place of the one that it had.
-pub fn put_transfer<S: Alter>(
+fn put_transfer<S: Alter>(
     store: &mut RowStore<S>,
     object: Transferable,
     transfer: &Option<Transfer>,
@@ -71,6 +71,23 @@ pub fn put_transfer<S: Alter>(
     clear_transfer(store, object)?;
     add_row(store, row)?;
     Ok(())
+}
+
+/// The same, where an object's row is new: then it has no transfer, so none is looked for.
+pub fn put_last_transfer<S: Alter>(
+    store: &mut RowStore<S>,
+    object: Transferable,
+    transfer: &Option<Transfer>,
+    is_new: bool,
+) -> Result<(), BookFault>
+    requires { store.old.is_open ≡ true }
+    ensures { Changes result (λ old new. (is_new ≡ true → filter (spec.is_of object) old.transfers ≡ [])
+        → spec.IsTransferPut object transfer.now old new) store.old store.new }
+{
+    match transfer {
+        None if is_new => Ok(()),
+        _ => put_transfer(store, object, transfer),
+    }
 }
 
 fn rows_of<S: Alter>(

@@ -185,12 +185,6 @@ abbrev pub IsHostPlaced : Host → host_table.Host → Content → Content → T
 IsHostPlaced h row old =
     IsRowPlaced hosts (λ (it : host_table.Host). IsHostRow old it.id h it) h.name row old
 
--- and each row that had its name had the right sponsor
-pub record IsHostPlacedRight (h : Host) (row : host_table.Host) (old new : Content) : Type 0 where
-  pub found : Option host_table.Host
-  pub was : IsHostFound old h.name found
-  pub placed : IsConsistent old → IsHostPlaced h row old new
-
 -- the host with this number, and its addresses, aren't there any more
 pub record IsHostRemoved (id : ℤ) (old new : Content) : Type 0 where
   pub cleared : AreAddressesPut id [] old (record new { hosts = old.hosts })

@@ -1,21 +1,16 @@
-use Rattle.std.proofs.Common.{◌≡◌, Bool, true, not, [], None, Option, Some, is_some, refl, ◌∙◌}
-use Rattle.sqltables.specs.Content.{Content}
-use Rattle.sqltables.specs.Domain.{Domain}
+use Rattle.std.proofs.Common.{◌≡◌, true, Some, ◌∙◌}
 use Rattle.sqltables.specs.inner.Consistent.{IsConsistent}
 use Rattle.sqlrows.specs.Read.{rows_of}
 use Rattle.sqlrows.proofs.StateLemmas.{reads-same}
 use Rattle.sqlobjects.specs.Changes.{contact_name}
 use Rattle.sqlobjects.specs.inner.Stages.{domains, rows_named}
+use Rattle.sqlobjects.proofs.NewRowLemmas.{none-found}
 use Rattle.sqlobjects.proofs.StepLemmas.{asked-then, became-consistent}
 use Rattle.sqldomains.specs.inner.Changes.{IsDomainPut}
 use Rattle.sqldomains.specs.inner.Stages.{ArePartsPut, HasNoParts, IsDomainPlaced}
 use Rattle.sqldomains.proofs.DomainLemmas.{domain-put}
 use Rattle.sqldomains.proofs.NewRowLemmas.{no-parts}
 use Rattle.sqldomains.proofs.domain_changes.put_beside.Goals as goal
-
-none-found : (found : Option Domain) (b : Bool) → is_some found ≡ not b → b ≡ true → rows_of found ≡ []
-none-found None b is e = refl
-none-found (Some row) b is e = cc
 
 pub returns : goal.returns
 returns g c =

@@ -1,10 +1,12 @@
-use Rattle.std.proofs.Common.{◌≡◌, true, [], filter, ap, ◌∙◌}
+use Rattle.std.proofs.Common.{◌≡◌, true, [], filter, ap, subst, ◌∙◌}
+use Rattle.sqlrows.specs.Meanings.{HasChanged}
 use Rattle.sqltables.specs.Content.{Content}
 use Rattle.sqltables.specs.Link.{link_with_domain}
 use Rattle.sqltables.specs.Transfer.{transfer_with_domain}
 use Rattle.sqlrows.proofs.StateLemmas.{then-became}
+use Rattle.sqlobjects.specs.declared.transfers.Transferable.{Transferable}
 use Rattle.sqlobjects.specs.declared.transfers.Transferable.TheVariants as transferable
-use Rattle.sqlobjects.specs.inner.Transfers.{IsTransferPut}
+use Rattle.sqlobjects.specs.inner.Transfers.{IsTransferPut, is_of}
 use Rattle.sqldomains.specs.inner.Stages.{AreLinksPut, ArePartsPut, HasNoParts}
 use Rattle.sqldomains.proofs.domain_changes.put_parts.Goals as goal
 
@@ -16,10 +18,11 @@ returns g c =
     let d = c.args.domain.now in
     let row = c.args.row.now in
     let is_new = c.args.is_new in
+    let put : (it : Transferable) → Content → Content → Type 0 = λ it m e. (is_new ≡ true → filter (is_of it) m.transfers ≡ []) → IsTransferPut it d.transfer m e in
     then-became (λ m e. (is_new ≡ true → filter (link_with_domain row.id) m.links ≡ []) → AreLinksPut row.id row.due d.links m e)
-    (λ m e. (is_new ≡ true → filter (transfer_with_domain row.id) m.transfers ≡ []) → IsTransferPut (transferable.Domain row.id) d.transfer m e)
+    (put (transferable.Domain row.id))
     (λ m e. (is_new ≡ true → HasNoParts row.id m) → ArePartsPut row.id row.due d m e) old middle new
-    (c.in_ok-put_links.ensures {u = tt}) (c.in_ok-put_last_transfer.ensures {u = tt})
+    (c.in_ok-put_links.ensures {u = tt}) (subst (λ (it : Transferable). HasChanged (put it) middle new) c.of_domain.ensures (c.in_ok-put_last_transfer.ensures {u = tt}))
     (λ clean links transfer none.
     let linked = links (λ e. (none e).links) in
     record {

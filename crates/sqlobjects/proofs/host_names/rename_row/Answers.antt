@@ -1,6 +1,8 @@
-use Rattle.std.proofs.Common.{subst}
+use Rattle.std.proofs.Common.{◌≡◌, ℕ, true, false, List, [], subst, sym, true≢false}
+use Rattle.sqltables.specs.Content.{Content}
 use Rattle.sqltables.specs.inner.Consistent.{IsConsistent}
 use Rattle.sqlrows.specs.Meanings.{HasChanged}
+use Rattle.sqlobjects.specs.Objects.{addresses_of}
 use Rattle.sqlobjects.specs.inner.Changes.{IsRowRenamed}
 use Rattle.sqlobjects.specs.inner.Stages.{AreAddressesPut, IsRowTaken}
 use Rattle.sqlobjects.proofs.RowNameLemmas.{row-renamed}
@@ -15,6 +17,7 @@ returns g c =
     let from = c.args.from.now in
     let host = c.args.host.now in
     let row = c.in_ok-row.row in
-    became-consistent (IsRowTaken from host row) (AreAddressesPut row.id host.addresses) (IsRowRenamed from host) IsConsistent old middle new
-    c.in_ok-row.ensures (subst (λ texts. HasChanged (AreAddressesPut row.id texts) middle new) c.as_slice.ensures (c.in_ok-put_addresses.ensures {u = tt})) c.show_consistent.ensures c.show_consistent-2.ensures
-    (λ consistent after taken with. row-renamed from host row old.content middle.content new.content consistent after (c.is_host.ensures.0 c.if-not-is_host.false) taken with)
+    let put : List (List ℕ) → Content → Content → Type 0 = λ texts m e. (false ≡ true → addresses_of m row.id ≡ []) → AreAddressesPut row.id texts m e in
+    became-consistent (IsRowTaken from host row) (put host.addresses) (IsRowRenamed from host) IsConsistent old middle new
+    c.in_ok-row.ensures (subst (λ texts. HasChanged (put texts) middle new) c.as_slice.ensures (c.in_ok-put_addresses.ensures {u = tt})) c.show_consistent.ensures c.show_consistent-2.ensures
+    (λ consistent after taken with. row-renamed from host row old.content middle.content new.content consistent after (c.is_host.ensures.0 c.if-not-is_host.false) taken (with (λ e. absurd (true≢false (sym e)))))
