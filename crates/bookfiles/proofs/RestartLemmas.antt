@@ -11,7 +11,7 @@ use Rattle.policy.specs.Rules.{PolicyRules}
 use Rattle.registry.specs.Opening.{Opens}
 use Rattle.runs.specs.Crashes.{Happens, answered, crash, opening}
 use Rattle.books.specs.Book.{BookState, Follows, LeavesItself, may_leave}
-use Rattle.books.specs.Reopening.{IsBook, IsTakenUp, LeavesFound}
+use Rattle.books.specs.Reopening.{IsBook, LeavesFound}
 use Rattle.sqltables.specs.Adoption.{IsAdopted}
 use Rattle.sqltables.specs.Content.{Content}
 use Rattle.states.specs.States.{Has, Remains, StateOf}

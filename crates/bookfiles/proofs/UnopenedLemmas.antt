@@ -1,5 +1,5 @@
 -- What an opening that failed gives back, and what it comes to.
-use Rattle.std.proofs.Common.{◌≡◌, ◌⊎◌, ◌&&◌, ℕ, true, false, List, [], ◌∷◌, Option, Some, None, Result, Ok, Err, IfErr, IfOk, IfSome, inl, inr, refl, sym, ap, subst, ◌∙◌}
+use Rattle.std.proofs.Common.{◌≡◌, ℕ, true, false, Option, Some, None, Result, Ok, Err, IfErr, IfOk, IfSome, inl, inr, refl, sym, ap, subst, ◌∙◌}
 use Rattle.std.proofs.Math.Logic.{∥∥₁_map}
 use Rattle.std.proofs.lemmas.Bool.{and_parts}
 use Rattle.std.proofs.lemmas.Result.{IfErr-weaker}
@@ -14,7 +14,7 @@ use Rattle.registry.specs.Crashes.{RefusedTo}
 use Rattle.registry.specs.declared.fault.OpenFault.{OpenFault}
 use Rattle.registry.specs.declared.fault.OpenFault.TheVariants as refusals
 use Rattle.sqlrows.specs.Columns.{no_schema}
-use Rattle.runs.specs.Crashes.{Happens, crash}
+use Rattle.runs.specs.Crashes.{crash}
 use Rattle.runs.proofs.CrashLemmas.{refused-opening}
 use Rattle.books.specs.Book.{BookState, Stored, may_leave}
 use Rattle.sqltables.specs.Adoption.{IsAdopted, IsSameRegistry, IsTakenAs, LeavesAsFound}

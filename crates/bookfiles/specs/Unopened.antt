@@ -29,7 +29,6 @@ use Rattle.states.specs.declared.fault.BookFault.TheVariants as faults
 use Rattle.states.specs.declared.readiness.Ready.TheVariants.{Other}
 use Rattle.sqlbook.specs.Files.{AreTakenIn, IsFoundIn, IsLeftIn}
 use Rattle.bookfiles.specs.Restarts.{book_of}
-use Rattle.bookfiles.specs.declared.connection.NotOpened.{NotOpened}
 use Rattle.bookfiles.specs.declared.unopened.Unopened.{Unopened}
 use Rattle.bookfiles.specs.declared.unopened.Unopened.TheVariants.{Path, Files as AtFiles, Database, Book}
 

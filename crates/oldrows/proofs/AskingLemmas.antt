@@ -22,7 +22,7 @@ use Rattle.sqltables.proofs.StandingLemmas.{clean-of, honest, leaves-no-more, wa
 use Rattle.states.specs.declared.fault.BookFault.{BookFault}
 use Rattle.states.specs.States.{Remains}
 use Rattle.oldrows.specs.inner.Stored.{Agrees, Asks, Finds, Fits, Guards, IsOld, old_contents, rows_in, as_found}
-use Rattle.oldrows.specs.Stored.{Answers, IsAsked, IsRead, OldState}
+use Rattle.oldrows.specs.Stored.{Answers, IsRead, OldState}
 use Rattle.oldrows.proofs.CopyLemmas.{read-on}
 
 -- the database is the same one, and nothing is open

@@ -13,7 +13,7 @@ use Rattle.states.specs.States.{Makes, StateOf, Writes}
 use Rattle.states.proofs.LeavingLemmas.{leaves-on}
 use Rattle.sqltables.specs.Content.{Content}
 use Rattle.oldrows.specs.Stored.{IsAsked, IsRead, OldState}
-use Rattle.oldrows.specs.inner.Copies.{Copies, IsCopied, IsLeft, IsOnItsWay, put_all}
+use Rattle.oldrows.specs.inner.Copies.{Copies, IsLeft, IsOnItsWay, put_all}
 
 -- ---- rows in the order of their numbers
 
@@ -103,24 +103,6 @@ all-put key to none all a b on = record {
   leaves = on.leaves;
   content = λ e. sym (none b.content) ∙ on.content e;
 }
-
--- one more table
-pub copy-more : (put rest : Content → Content → Content) (one : Content → Content → Content) (from read more : OldState) (to written wrote : StateOf Content)
-    → IsOnItsWay put (λ c d. rest c (one c d)) from read to written → IsCopied one read more written wrote → IsOnItsWay put rest from more to wrote
-copy-more put rest one from read more to written wrote on it = record {
-  asked = asked-on from read more on.asked it.asked;
-  clean = λ e. on.clean (it.clean e);
-  before = λ e. it.before e ∙ on.before (it.clean e);
-  opened = it.opened;
-  leaves = leaves-on to written wrote on.leaves it.leaves;
-  content = λ c e.
-      let was = it.asked.reads.clean c in
-      ap (rest from.content) (it.content c e ∙ ap (λ s. one s written.content) (on.asked.reads.content was))
-      ∙ on.content was (it.clean e);
-}
-
-pub all-copied : (put : Content → Content → Content) (from read : OldState) (to written : StateOf Content) → IsOnItsWay put (λ c d. d) from read to written → IsCopied put from read to written
-all-copied put from read to written on = on
 
 -- a table that wasn't copied
 pub left-on : (put rest : Content → Content → Content) (from read more : OldState) (to written wrote : StateOf Content) → IsOnItsWay put rest from read to written → IsLeft read more written wrote → IsLeft from more to wrote

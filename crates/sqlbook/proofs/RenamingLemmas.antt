@@ -1,17 +1,14 @@
 -- What it is to a book that a host's row gets another name.
-use Rattle.std.proofs.Common.{◌≡◌, inl, inr, ℕ, ℤ, pos, suc, Bool, true, false, cond, ◌&&◌, length, List, [], ◌∷◌, map, filter, Option, Some, None, option_map, refl, sym, ap, subst, ◌∙◌}
+use Rattle.std.proofs.Common.{◌≡◌, ℕ, pos, suc, Bool, true, false, cond, ◌&&◌, length, List, [], ◌∷◌, map, filter, Option, Some, None, option_map, refl, sym, ap, ◌∙◌}
 use Rattle.std.specs.Cmp.Lexicographic.{nat_list_cmp_total, slice_cmp}
-use Rattle.std.specs.FinMap.{FinMap, entries, get, get-insert, get-remove, same_map, values}
+use Rattle.std.specs.FinMap.{FinMap, entries, same_map, values}
 use Rattle.std.specs.List.{list_all}
 use Rattle.std.specs.Option.{option_map_or}
 use Rattle.std.specs.Ordering.{int_eq, nat_cmp}
 use Rattle.std.specs.Prelude.{int_le}
-use Rattle.sqlite_rules.specs.Lists.{Has}
-use Rattle.sqlite_typed.specs.Tests.{bytes_eq}
 use Rattle.basis.specs.Maps.{map_values}
 use Rattle.basis.proofs.MapLemmas.{entries-map_values, get-map_values, names_apart}
 use Rattle.sqlcolumns.specs.Numbers.{registrar_in}
-use Rattle.sqlcolumns.proofs.ReadLemmas.{same_some}
 use Rattle.lifecycle.specs.Lapse.{due_at, due_of}
 use Rattle.lifecycle.specs.Periods.{rules_with}
 use Rattle.objects.specs.declared.domain.Deletion.{Deletion}
@@ -20,8 +17,6 @@ use Rattle.objects.specs.declared.host.Host.{Host}
 use Rattle.objects.specs.Sight.{is_party}
 use Rattle.policy.specs.declared.schedule.Schedule.{Schedule}
 use Rattle.decisions.specs.Changes.{renamed, with_host_renamed}
-use Rattle.books.specs.Book.{Stored}
-use Rattle.books.specs.Ledgers as store
 use Rattle.books.specs.Tables.{host_moved, host_put, with_domains}
 use Rattle.sqltables.specs.Account as account_table
 use Rattle.sqltables.specs.Content.{Content}
@@ -30,11 +25,9 @@ use Rattle.sqltables.specs.Readiness.{may_be_numbered}
 use Rattle.sqlaccounts.specs.Accounts.{accounts_of, row_of, sums_are_right}
 use Rattle.sqldomains.specs.Domains.{domain_of, domains_of}
 use Rattle.sqldomains.proofs.RenamedLemmas.{domains-after, reading-after}
-use Rattle.sqlderived.specs.Dues.{dues_are_right, is_due_right}
+use Rattle.sqlderived.specs.Dues.{dues_are_right}
 use Rattle.sqlderived.specs.Held.{held_of, helds_are_right}
 use Rattle.sqlobjects.specs.inner.Changes.{IsRowRenamed}
-use Rattle.sqlobjects.specs.Objects.{hosts_of}
-use Rattle.sqlobjects.proofs.PutLemmas.{bytes_is}
 use Rattle.sqlterms.specs.Clock.{clock_of}
 use Rattle.sqlterms.specs.Terms.{terms_of}
 use Rattle.sqlbook.specs.Meaning.{are_right, stored_of}

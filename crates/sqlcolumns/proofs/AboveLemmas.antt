@@ -1,13 +1,13 @@
 -- A host lies below a domain of two labels exactly where these are its last two and it isn't the domain.
-use Rattle.std.proofs.Common.{◌≡◌, ◌≢◌, ℕ, ◌+◌, ◌-◌, ◌<◌, ◌≤◌, ◌==◌, nat_eq, nat_lt, eqb, Bool, true, false, cond, ◌&&◌, List, [], ◌∷◌, ◌++◌, drop, take, length, get_or, slice_index, refl, sym, ap, ◌∙◌, append_assoc, Bor, map, arith}
+use Rattle.std.proofs.Common.{◌≡◌, ℕ, ◌+◌, ◌-◌, ◌<◌, ◌≤◌, ◌==◌, nat_eq, nat_lt, eqb, Bool, true, false, cond, ◌&&◌, List, [], ◌∷◌, ◌++◌, drop, take, length, get_or, slice_index, refl, sym, ap, ◌∙◌, append_assoc, Bor, map, arith}
 use Rattle.std.specs.Cmp.Lexicographic.{pointwise}
 use Rattle.std.specs.List.{count_by, ends_with, join_by, join_with_byte, onto_first}
 use Rattle.std.proofs.Math.Seq.{drop-append-add, get_or-append_seam}
-use Rattle.std.proofs.lemmas.Bool.{and_parts, lt-ltb, ltb-true}
+use Rattle.std.proofs.lemmas.Bool.{and_parts, ltb-true}
 use Rattle.std.proofs.lemmas.Bool.Decides.{Decides-eqb}
 use Rattle.std.proofs.lemmas.Cmp.{nat_list_eq_equiv}
-use Rattle.std.proofs.lemmas.List.{append-nil, drop-map, drop_at, drop_more, length-append, length-drop, length-map, take-append-drop, take_rest}
-use Rattle.std.proofs.lemmas.List.Splits.{join_with_byte-slice_split, length-slice_split}
+use Rattle.std.proofs.lemmas.List.{append-nil, drop-map, drop_more, length-append, length-map, take-append-drop, take_rest}
+use Rattle.std.proofs.lemmas.List.Splits.{length-slice_split}
 use Rattle.std.proofs.lemmas.Slice.Eq.{bytes_eq-Decides}
 use Rattle.objects.specs.Hosts.{is_below}
 use Rattle.sqlcolumns.specs.Above.{above, labels_of, last_two}

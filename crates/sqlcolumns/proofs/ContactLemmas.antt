@@ -5,14 +5,14 @@ use Rattle.objects.specs.declared.roid.ObjectKind.TheVariants as kinds
 use Rattle.objects.specs.declared.transfer.Transfer.{Transfer}
 use Rattle.sqltables.specs.Contact as table
 use Rattle.sqlcolumns.specs.inner.Contacts.{IsContact, contact_row, postal_row, postal_with, registration_of, row_with}
-use Rattle.sqlcolumns.specs.Contacts.{columns_of, contact_in, contact_with, postal_in}
+use Rattle.sqlcolumns.specs.Contacts.{columns_of, contact_in, contact_with}
 use Rattle.sqlcolumns.specs.Registrations.{registration_columns, registration_in}
 use Rattle.sqlcolumns.specs.Steps.{◌>>=◌}
 use Rattle.sqlcolumns.specs.Texts.{statuses_in, street_column, street_in}
 use Rattle.sqlcolumns.specs.Transfers.{is_same, maybe_due_column}
 use Rattle.sqlcolumns.proofs.ReadLemmas.{kept, passed, same_some, step}
-use Rattle.sqlcolumns.proofs.RegistrationLemmas.{registration_back, registration_is, registration_written}
-use Rattle.sqlcolumns.proofs.TextLemmas.{statuses_back, statuses_written, street_back, street_written}
+use Rattle.sqlcolumns.proofs.RegistrationLemmas.{registration_back, registration_is}
+use Rattle.sqlcolumns.proofs.TextLemmas.{statuses_back, street_back}
 use Rattle.sqlcolumns.proofs.TransferLemmas.{same_as_itself, same_is_equal}
 
 -- what was written is read back

@@ -9,14 +9,14 @@ use Rattle.sqltables.specs.Domain as table
 use Rattle.sqlcolumns.specs.declared.domain.DeletionColumns.{DeletionColumns}
 use Rattle.sqlcolumns.specs.inner.Domains.{IsDeletion, IsDomain, deletion_columns, domain_row, registration_of, row_with}
 use Rattle.sqlcolumns.specs.Domains.{columns_of, deletion_in, domain_in, domain_with, some_deletion_in}
-use Rattle.sqlcolumns.specs.Numbers.{maybe_moment_in, moment_column, moment_in, years_in}
+use Rattle.sqlcolumns.specs.Numbers.{maybe_moment_in, moment_in, years_in}
 use Rattle.sqlcolumns.specs.Registrations.{registration_columns, registration_in}
 use Rattle.sqlcolumns.specs.Steps.{◌>>=◌}
 use Rattle.sqlcolumns.specs.Texts.{statuses_in}
-use Rattle.sqlcolumns.proofs.NumberLemmas.{maybe_moment_back, maybe_moment_is, maybe_moment_written, moment_back, moment_is, moment_written, years_are, years_back, years_written}
+use Rattle.sqlcolumns.proofs.NumberLemmas.{maybe_moment_back, maybe_moment_is, moment_back, moment_is, years_are, years_back}
 use Rattle.sqlcolumns.proofs.ReadLemmas.{same_some, step}
-use Rattle.sqlcolumns.proofs.RegistrationLemmas.{registration_back, registration_is, registration_written}
-use Rattle.sqlcolumns.proofs.TextLemmas.{statuses_back, statuses_written}
+use Rattle.sqlcolumns.proofs.RegistrationLemmas.{registration_back, registration_is}
+use Rattle.sqlcolumns.proofs.TextLemmas.{statuses_back}
 
 -- ---- deletions
 

@@ -1,5 +1,5 @@
 -- What was read by steps was read by each.
-use Rattle.std.proofs.Common.{◌≡◌, Bool, true, false, cond, Option, Some, None, IfSome, refl, ap, subst}
+use Rattle.std.proofs.Common.{◌≡◌, Bool, true, false, cond, Option, Some, None, IfSome, refl, ap}
 use Rattle.std.specs.Prelude.{option_map}
 use Rattle.sqlcolumns.specs.Steps.{◌>>=◌}
 

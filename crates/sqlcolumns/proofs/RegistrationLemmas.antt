@@ -7,9 +7,9 @@ use Rattle.sqlcolumns.specs.Numbers.{maybe_moment_in, moment_in, registrar_in}
 use Rattle.sqlcolumns.specs.Registrations.{IsRegistration, columns_with, registration_columns, registration_in}
 use Rattle.sqlcolumns.specs.Roids.{roid_columns, roid_in}
 use Rattle.sqlcolumns.specs.Steps.{◌>>=◌}
-use Rattle.sqlcolumns.proofs.NumberLemmas.{maybe_moment_back, maybe_moment_is, maybe_moment_written, moment_back, moment_is, moment_written, registrar_back, registrar_is, registrar_written}
+use Rattle.sqlcolumns.proofs.NumberLemmas.{maybe_moment_back, maybe_moment_is, moment_back, moment_is, registrar_back, registrar_is}
 use Rattle.sqlcolumns.proofs.ReadLemmas.{same_some, step}
-use Rattle.sqlcolumns.proofs.RoidLemmas.{roid_back, roid_is, roid_written}
+use Rattle.sqlcolumns.proofs.RoidLemmas.{roid_back, roid_is}
 
 pub registration_back : (kind : ObjectKind) (r : Registration) (columns : RegistrationColumns) → IsRegistration r → registration_columns kind r ≡ Some columns → registration_in kind columns ≡ Some r
 registration_back kind r columns is e =
@@ -45,17 +45,6 @@ is_read kind columns r e =
       transferred = transferred.is ∙ λ i. Some ((same i).transferred);
       updated = updated.is ∙ λ i. Some ((same i).updated);
     }
-
-pub registration_written : (kind : ObjectKind) (columns : RegistrationColumns) (r : Registration) → registration_in kind columns ≡ Some r → registration_columns kind r ≡ Some columns
-registration_written kind columns r e =
-    let read = is_read kind columns r e in
-    (λ i. roid_written kind columns.creator columns.serial r.roid read.roid i >>= (λ x. Some (columns_with r x)))
-    ∙ (λ i. Some (record columns {
-      sponsor = registrar_written columns.sponsor r.sponsor read.sponsor i;
-      created = moment_written columns.created r.created read.created i;
-      transferred = maybe_moment_written columns.transferred r.transferred read.transferred i;
-      updated = maybe_moment_written columns.updated r.updated read.updated i;
-    }))
 
 pub registration_is : (kind : ObjectKind) (columns : RegistrationColumns) (r : Registration) → registration_in kind columns ≡ Some r → IsRegistration r
 registration_is kind columns r e =

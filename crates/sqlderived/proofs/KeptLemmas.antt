@@ -22,7 +22,7 @@ use Rattle.sqlderived.specs.inner.Recounts.{AreAlike, AreCounted, IsRecounted}
 use Rattle.sqlderived.proofs.CountLemmas.{count, count-put}
 use Rattle.sqltables.specs.Account as table
 use Rattle.sqlderived.proofs.NobodyLemmas.{holds-none}
-use Rattle.sqltables.specs.Content.{Content, no_content}
+use Rattle.sqltables.specs.Content.{Content}
 use Rattle.sqltables.specs.inner.Consistent.{IsConsistent}
 
 abbrev key : table.Account → ℤ
