@@ -3,8 +3,6 @@ use Rattle.std.proofs.Common.{◌≡◌, ◌⊎◌, inl, inr, true, List, [], �
 use Rattle.std.proofs.Math.Logic.{∥∥₁_map}
 use Rattle.std.proofs.lemmas.Bool.{and_parts}
 use Rattle.sqlite_disk.specs.declared.Disk.{Ghosts}
-use Rattle.sqlite_disk.specs.declared.Files.{Files}
-use Rattle.sqlite_wal.specs.Files.{outcomes}
 use Rattle.sqlite_wal.specs.Recovery.{Image}
 use Rattle.sqlite_trees.specs.Tree.{Trees}
 use Rattle.sqlite_store.specs.declared.store.FileStore.{FileStore}
@@ -15,7 +13,7 @@ use Rattle.sqlite.proofs.Theorems.{opens_again}
 use Rattle.policy.specs.declared.terms.Terms.{Terms}
 use Rattle.policy.specs.Rules.{PolicyRules}
 use Rattle.books.specs.Book.{Stored}
-use Rattle.oldrows.specs.Stored.{IsRead, OldState}
+use Rattle.oldrows.specs.Stored.{OldState}
 use Rattle.oldrows.specs.Stored as old
 use Rattle.oldrows.specs.inner.Stored.{Covers, IsLeftAs}
 use Rattle.sqltables.specs.Adoption.{IsAdopted}
@@ -30,12 +28,11 @@ use Rattle.sqlbook.specs.Meaning.{are_right, stored_of}
 use Rattle.sqlterms.specs.Terms.{terms_of}
 use Rattle.states.specs.States.{Has, Remains, StateOf}
 use Rattle.states.specs.declared.readiness.Ready.{Ready}
-use Rattle.states.specs.declared.readiness.Ready.TheVariants.{Used}
 use Rattle.states.proofs.LeavingLemmas.{has-alone}
 use Rattle.takeover.specs.declared.migrating.MigrateFault.{MigrateFault}
 use Rattle.takeover.specs.declared.migrating.MigrateFault.TheVariants.{Policy, Schema, Memory, Store}
-use Rattle.takeover.specs.Files.{AreOver, AreOverOld, IsAsBefore, IsThereAfter, IsFoundComplete, NewFilesHoldAllOrNothing, OldFilesStay}
-use Rattle.takeover.specs.Migrating.{IsAll, IsElse, IsMigrated, IsTried, IsUnsuited, Migrates, numbered_anew, redated, with_days}
+use Rattle.takeover.specs.Files.{IsAsBefore, IsThereAfter, IsFoundComplete, NewFilesHoldAllOrNothing, OldFilesStay}
+use Rattle.takeover.specs.Migrating.{IsAll, IsTried, Migrates, numbered_anew, with_days}
 
 -- ---- what the files may hold
 

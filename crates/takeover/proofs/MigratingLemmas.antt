@@ -29,12 +29,12 @@ use Rattle.sqltables.specs.Transfer.{transfers}
 use Rattle.states.specs.declared.fault.BookFault.{BookFault}
 use Rattle.states.specs.declared.fault.BookFault.TheVariants as faults
 use Rattle.states.specs.declared.readiness.Ready.TheVariants.{Used}
-use Rattle.states.specs.States.{Closes, Fails, Has, Keeps, LeavesSame, Reads, Remains, Starts, StateOf, Stays, holding}
+use Rattle.states.specs.States.{Closes, Has, Keeps, LeavesSame, Reads, Remains, Starts, StateOf, Stays, holding}
 use Rattle.states.proofs.LeavingLemmas.{leaves-on}
 use Rattle.oldrows.specs.inner.Copies.{Copies, IsCopied, IsLeft, put_of_all}
 use Rattle.oldrows.specs.Copies.{renumbered}
 use Rattle.oldrows.specs.inner.Stored.{IsOldContent}
-use Rattle.oldrows.specs.Stored.{IsAsked, IsRead, OldState}
+use Rattle.oldrows.specs.Stored.{IsRead, OldState}
 use Rattle.oldrows.proofs.CopyLemmas.{asked-on, put-keyed, read-on}
 use Rattle.sqlaccounts.specs.Accounts.{account_in, accounts_of, balance_in, entries_of, has_right_sums, is_right, lines_of, queue_of, row_of, sums_are_right}
 use Rattle.sqldomains.specs.Domains.{domains_of}
@@ -49,7 +49,7 @@ use Rattle.takeover.specs.declared.migrating.MigrateFault.TheVariants.{Policy, S
 use Rattle.takeover.specs.Graces.{with_grace_end}
 use Rattle.sqlbook.specs.Meaning.{are_right, stored_of}
 use Rattle.takeover.specs.inner.Migrating.{AreAsked, EndsAs, IsRefused, IsTakenOver, IsUnkept, TakesOver, heads, others, put_lines, taken}
-use Rattle.takeover.specs.Migrating.{AreThere, IsAll, IsElse, IsMigrated, IsTried, IsUnsuited, MayBeTaken, Migrates, ended, fault_of, numbered_anew, redated, suits, suits_in}
+use Rattle.takeover.specs.Migrating.{AreThere, IsAll, IsMigrated, IsTried, IsUnsuited, MayBeTaken, Migrates, ended, fault_of, numbered_anew, redated, suits, suits_in}
 use Rattle.sqlbook.specs.AsBook.{HasMade}
 
 -- ---- the number of the schema says nothing of the registry
@@ -190,20 +190,6 @@ pub copied-after : {A : Type 0} (r : Result A BookFault) (one two : Content → 
 copied-after (Ok done) one two from read more to mid wrote a b = copied-then one two from read more to mid wrote a b
 copied-after (Err fault) one two from read more to mid wrote a b = left-then one from read more to mid wrote a b
 
--- a call on the new rows that failed behind a copy
-pub left-looked : (put : Content → Content → Content) (from read : OldState) (to written looked : StateOf Content) → IsCopied put from read to written → Stays written looked → IsLeft from read to looked
-left-looked put from read to written looked copied stays = record {
-  source = copied.asked.reads;
-  target = stays-then to written looked (stays-copied put from read to written copied) stays;
-}
-
--- a copy that failed behind a copy and a question
-pub left-rest : (put : Content → Content → Content) (from read more : OldState) (to written looked wrote : StateOf Content) → IsCopied put from read to written → Reads written looked → IsLeft read more looked wrote → IsLeft from more to wrote
-left-rest put from read more to written looked wrote copied looks left = record {
-  source = read-on from read more copied.asked.reads left.source;
-  target = stays-then to looked wrote (stays-then to written looked (stays-copied put from read to written copied) (stays-read written looked looks)) left.target;
-}
-
 module _ (p : PolicyRules) (from read : OldState) (to written looked : StateOf Content) (old : from.is_clean ≡ true → IsOldContent from.content) (blank : to.is_clean ≡ true → to.content ≡ no_content)
     (copied : IsCopied (put_of_all heads) from read to written) (said : Bool) (found : Reads written looked × (looked.is_clean ≡ true → said ≡ suits p (stored_of written.content))) where
   suits-there : read.is_clean ≡ true → looked.is_clean ≡ true → said ≡ suits p (stored_of from.content)
@@ -247,22 +233,6 @@ module _ (p : PolicyRules) (from read : OldState) (to written looked : StateOf C
 
 -- ---- the whole
 
--- a commit that failed, and what was begun undone
-pub unkept : (old failed new : StateOf Content) → Fails old failed → Closes failed.before failed new → IsUnkept old new
-unkept old failed new fails back = record {
-  clean = λ e. fails.clean (back.clean e);
-  closed = back.closed;
-  content = λ e. back.content e ∙ fails.before (back.clean e);
-  honest = λ e. fails.honest (back.leaves.honest e);
-  answered = λ e. fails.answered (back.leaves.honest e);
-  leaves = λ left h. fails.leaves left (subst (λ (l : List (Remains Content)). Has l left) back.leaves.same h);
-  ready = back.leaves.ready ∙ fails.ready;
-}
-
-pub not-kept : (why : BookFault) (fault : MigrateFault) → fault ≡ fault_of why → (old new : StateOf Content) → IsUnkept old new → EndsAs {A = Unit {0}} (Err fault) (Ok true) old new
-not-kept faults.Memory fault is old new it = subst (λ (f : MigrateFault). EndsAs {A = Unit {0}} (Err f) (Ok true) old new) (sym is) it
-not-kept faults.Store fault is old new it = subst (λ (f : MigrateFault). EndsAs {A = Unit {0}} (Err f) (Ok true) old new) (sym is) it
-
 -- a call that failed, and what was begun undone
 pub undone : (old failed new : StateOf Content) → Stays old failed → Closes failed.before failed new → Closes old.before old new
 undone old failed new stays back = record {
@@ -304,10 +274,6 @@ unasked p from a b why fault is idle left = by-fault p from from a b why fault i
 -- there is no place to put it, or nothing to take
 pub elsewhere : (p : PolicyRules) (from : OldState) (a b : StateOf Content) → AreAsked false from a b → Migrates {A = Unit {0}} (Err Schema) p from from a b
 elsewhere p from a b it = record { same = refl; back = it.back; other = it.other refl }
-
--- something was made where nothing is told to be
-pub made-already : (p : PolicyRules) (from : OldState) (a b : StateOf Content) → a.is_open ≡ false → AreAsked true from a b → Migrates {A = Unit {0}} (Err Store) p from from a b
-made-already p from a b shut it = tried-nothing p from from a b (it.source refl) (as-read from) (record { clean = it.back.clean; closed = it.back.opened ∙ shut; content = it.back.content; leaves = it.back.leaves })
 
 -- no transaction was opened
 pub unbegun : (p : PolicyRules) (from : OldState) (a b c : StateOf Content) (why : BookFault) (fault : MigrateFault) → fault ≡ fault_of why → a.before ≡ a.content → AreAsked true from a b → Closes b.before b c
