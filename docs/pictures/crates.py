@@ -10,7 +10,7 @@ from pathlib import Path
 
 ROOT = Path(__file__).resolve().parent.parent.parent
 DATABASE = {"sqlite", "sqlrows", "sqltables"}
-TESTS = ("transcripts", "faulttests")
+TESTS = ("transcripts",)
 GROUPS = [
     ("values and objects", "#eef3fa", ["basis", "calendar", "names", "policy", "objects", "accounts", "lifecycle", "statements"]),
     ("the wire", "#f3eefa", ["protocol", "eppforms", "eppcommands", "jsonobjects", "eppreplies", "streams", "frames"]),

@@ -1,250 +1,192 @@
-//! A case: blocks that are carried out one after the other over a registry that is new, in each of some ways.
-ghost use Rattle.std.specs.Prelude.{◌≡◌, false};
+//! Cases and transcripts: blocks that are carried out over a registry that is new, in each of some ways.
 
-use crate::carried::Wire;
-use crate::escaped::range_of;
-use crate::exchange::{Exchange, Kind};
-use crate::pieces::{WHOLE, Way};
+use crate::chapter::Chapter;
+use crate::lines::{Line, Section, lines_of, only, policy_of, read, text_of, up_to};
+use crate::over::{Kind, NEVER, Ran, run_over};
+use crate::pieces::{IN_ONE_PIECE, Way};
+use crate::step::{Step, steps_of};
+use crate::ways::{way_of, ways_of};
+use crate::wire::Wire;
 use anyhow::{Context, Result, bail};
-use books::Book;
-use policy::{Passwords, PolicyFile};
-use registry::Registry;
 use std::alloc::Global;
+use std::rt::Files;
 use std::str;
 
-/// A block, and how it must end.
+/// The order that settles one object, and that which settles all, after a moment.
+const SETTLEMENTS: [&str; 2] = [
+    " operator {\"at_most\":1,\"order\":\"settle\"}",
+    " operator {\"at_most\":1000000,\"order\":\"settle\"}",
+];
+
+/// Over rows too a case of so many ways runs in each of them; one of more in the first and the last.
+const FEW: usize = 3;
+
+/// Blocks that are carried out under one policy.
 #[derive(Drop)]
-pub struct Step {
-    exchange: Exchange,
-    end: String,
+struct Part<'a> {
+    policy: Vec<u8>,
+    steps: Vec<Step<'a>>,
 }
 
-/// A case.
+/// A case or a transcript.
 #[derive(Drop)]
-pub struct Case {
-    pub name: String,
-    pub policy: String,
-    /// The way in which its bytes move, and the ranges of what changes in it.
+pub struct Case<'a> {
+    parts: Vec<Part<'a>>,
+    /// The way of each block, and the ways of the last one of a part.
     way: Way,
-    cuts: Option<usize>,
-    fronts: Option<(usize, usize)>,
-    reads: Option<(usize, usize)>,
-    writes: Option<(usize, usize)>,
-    pub steps: Vec<Step>,
-    begun: Option<Exchange>,
+    ways: Vec<Way>,
+    /// How many blocks or replies there are, and whether it runs over ordered maps alone.
+    size: usize,
+    is_for_maps: bool,
 }
 
-impl Case {
-    pub fn new(alloc: Global, name: &[u8]) -> Result<Case> {
+impl<'a> Case<'a> {
+    /// Reads a case.
+    pub fn read(rt: &(impl Files + AllocGlobal), section: &Section<'a>) -> Result<Case<'a>> {
+        let alloc = rt.alloc();
+        only(section.common, "")?;
+        let (policy, way) = (policy_of(rt, section.lines)?, way_of(section.lines)?);
+        let steps = steps_of(alloc, section.lines)?;
+        let (ways, size) = (ways_of(alloc, section.lines, way)?, steps.len());
+        let mut parts = Vec::new(alloc);
+        parts.push(Part { policy, steps })?;
         Ok(Case {
-            name: String::from_str(alloc, str::from_utf8(name)?)?,
-            policy: String::new(alloc),
-            way: WHOLE,
-            cuts: None,
-            fronts: None,
-            reads: None,
-            writes: None,
-            steps: Vec::new(alloc),
-            begun: None,
+            parts,
+            way,
+            ways,
+            size,
+            is_for_maps: text_of(section.lines, "maps").is_some(),
         })
     }
 
-    /// Whether each block of it has its end.
-    pub fn is_whole(&self) -> bool {
-        self.begun.is_none()
-    }
-
-    /// Takes a line of the case.
-    pub fn take(&mut self, alloc: Global, number: usize, mark: &[u8], text: &[u8]) -> Result<()> {
-        if let Some(begun) = &mut self.begun {
-            if begun.take(alloc, mark, text)? {
-                return Ok(());
-            }
-            return self.end(alloc, mark, text);
-        }
-        if let Some(kind) = Kind::read(mark) {
-            self.begun = Some(Exchange::new(alloc, kind, number));
-            return Ok(());
-        }
-        self.take_way(alloc, mark, str::from_utf8(text)?)
-    }
-
-    /// Ends the block that has begun.
-    fn end(&mut self, alloc: Global, mark: &[u8], text: &[u8]) -> Result<()> {
-        if mark != b"end".as_slice() {
-            bail!("no mark of a block");
-        }
-        if let Some(exchange) = self.begun.take() {
-            let end = String::from_str(alloc, str::from_utf8(text)?)?;
-            self.steps.push(Step { exchange, end })?;
-        }
-        Ok(())
-    }
-
-    /// Takes a line before a block.
-    fn take_way(&mut self, alloc: Global, mark: &[u8], text: &str) -> Result<()> {
-        match mark {
-            b"policy" => self.policy = String::from_str(alloc, text)?,
-            b"step" => self.way.step = text.parse::<usize>()?,
-            b"cuts" => self.cuts = Some(text.parse::<usize>()?),
-            b"fronts" => self.fronts = Some(range_of(text)?),
-            b"reads" => self.reads = Some(range_of(text)?),
-            b"writes" => self.writes = Some(range_of(text)?),
-            b"recovers" => {
-                self.way.fails = true;
-                self.way.recovers = true;
-            }
-            b"signals" => self.way.is_interrupted = true,
-            _ => bail!("no mark of a case"),
-        }
-        Ok(())
-    }
-
-    /// The ways in which its bytes move.
-    pub fn ways(&self, alloc: Global) -> Result<Vec<Way>> {
-        let mut ways = Vec::new(alloc);
-        if let Some(places) = self.cuts {
-            self.add_cuts(&mut ways, places)?;
-        }
-        if let Some((first, last)) = self.fronts {
-            for front in first..=last {
-                ways.push(Way { front, ..self.way })?;
+    /// Reads a transcript. If its script ends well, it is run with settlements before each line, too: no reply depends
+    /// on them but those that say how much was settled.
+    pub fn of_transcript(
+        rt: &(impl Files + AllocGlobal),
+        section: &Section<'a>,
+    ) -> Result<Case<'a>> {
+        only(section.common, "")?;
+        only(section.lines, "policy|change|reopen|prelude|C|S|ends")?;
+        let mut ways = Vec::new(rt.alloc());
+        ways.push(IN_ONE_PIECE)?;
+        if text_of(section.lines, "ends").is_none() {
+            for order in SETTLEMENTS {
+                let settlement = Some(order);
+                ways.push(Way {
+                    settlement,
+                    ..IN_ONE_PIECE
+                })?;
             }
         }
-        if let Some((first, last)) = self.reads {
-            for reads in first..=last {
-                ways.push(Way { reads, ..self.way })?;
-            }
-        }
-        if let Some((first, last)) = self.writes {
-            for writes in first..=last {
-                self.add_writes(&mut ways, writes)?;
-            }
-        }
-        if ways.is_empty() {
-            ways.push(self.way)?;
-        }
-        Ok(ways)
+        Ok(Case {
+            parts: parts_of(rt, section.lines)?,
+            way: IN_ONE_PIECE,
+            ways,
+            size: section.lines.iter().filter(|line| line.mark == "S").count(),
+            is_for_maps: false,
+        })
     }
 
-    /// Those in two and three pieces.
-    fn add_cuts(&self, ways: &mut Vec<Way>, places: usize) -> Result<()> {
-        for first in 0..places {
-            for second in first..places {
-                let cuts = (first, second);
-                ways.push(Way { cuts, ..self.way })?;
+    /// Runs it over both books in each of its ways, and says of how many of these it is.
+    pub fn run(&self, alloc: Global, units: &str) -> Result<String> {
+        let (size, ways) = (self.size, self.ways.len());
+        for (place, way) in self.ways.iter().copied().enumerate() {
+            self.run_over(alloc, Kind::Maps, way)?;
+            let is_at_end = place == 0 || place.saturating_add(1) == ways;
+            if !self.is_for_maps && (is_at_end || ways <= FEW) {
+                self.run_over(alloc, Kind::Rows, way)?;
             }
         }
-        Ok(())
+        Ok(format!(in alloc; "{size} {units} in {ways} ways as written")?)
     }
 
-    /// Those in which a write fails after so many, as an error and as one that takes no byte.
-    fn add_writes(&self, ways: &mut Vec<Way>, writes: usize) -> Result<()> {
-        let writes = Some(writes);
-        let fails = true;
-        ways.push(Way {
-            writes,
-            fails,
-            ..self.way
-        })?;
-        if !self.way.recovers {
-            ways.push(Way { writes, ..self.way })?;
+    fn run_over(&self, alloc: Global, kind: Kind, way: Way) -> Result<()> {
+        let ran = run_over(alloc, kind, self.chapters(alloc, way)?, NEVER)?;
+        let compared = compare(&ran);
+        drop(ran);
+        compared
+    }
+
+    /// What is carried out, where the last block of each part moves in this way.
+    fn chapters(&self, alloc: Global, way: Way) -> Result<Vec<Chapter<'_>>> {
+        let mut chapters = Vec::new(alloc);
+        for part in &self.parts {
+            let mut wires = Vec::new(alloc);
+            for (index, step) in part.steps.iter().enumerate() {
+                let is_last = index.saturating_add(1) == part.steps.len();
+                wires.push(Wire::new(alloc, step, if is_last { way } else { self.way })?)?;
+            }
+            let policy = part.policy.as_slice();
+            chapters.push(Chapter { policy, wires })?;
         }
-        Ok(())
+        Ok(chapters)
     }
 }
 
-/// Carries out a case over a book, its last block in that way, and gives what differs.
-pub fn run_case<B: Book + Drop>(
-    alloc: Global,
-    book: B,
-    policy: &[u8],
-    case: &Case,
-    way: Way,
-) -> Result<Vec<u8>>
-    requires { (B.state book).is_open ≡ false }
-{
-    let Ok(PolicyFile { policy, passwords }) = PolicyFile::read(alloc, policy) else {
-        drop(book);
-        bail!("no policy");
-    };
-    match Registry::open(alloc, book, policy) {
-        Ok(registry) => {
-            let mut differences = Vec::new(alloc);
-            drop(run_steps(alloc, registry, &passwords, case, way, &mut differences)?);
-            Ok(differences)
+/// Refuses what isn't as it must come.
+fn compare(ran: &Ran<'_>) -> Result<()> {
+    for chapter in &ran.chapters {
+        for wire in &chapter.wires {
+            wire.compare(&ran.opening)?;
         }
-        Err((_, book)) => {
-            drop(book);
-            bail!("not opened")
-        }
-    }
-}
-
-fn run_steps<B: Book + Drop>(
-    alloc: Global,
-    registry: Registry<B>,
-    passwords: &Passwords,
-    case: &Case,
-    way: Way,
-    differences: &mut Vec<u8>,
-) -> Result<Registry<B>> {
-    let mut registry = registry;
-    for (index, step) in case.steps.iter().enumerate() {
-        let is_last = index.saturating_add(1) == case.steps.len();
-        let way = if is_last { way } else { case.way };
-        registry = run_step(alloc, registry, passwords, step, way, differences)?;
-    }
-    Ok(registry)
-}
-
-fn run_step<B: Book + Drop>(
-    alloc: Global,
-    registry: Registry<B>,
-    passwords: &Passwords,
-    step: &Step,
-    way: Way,
-    differences: &mut Vec<u8>,
-) -> Result<Registry<B>> {
-    match Wire::new(alloc, &step.exchange, way, passwords) {
-        Ok(mut wire) => {
-            let (registry, end) = wire.carried(&step.exchange, way, registry);
-            match compare(alloc, step, way, &wire.writer.bytes, end, differences) {
-                Ok(()) => Ok(registry),
-                Err(error) => {
-                    drop(registry);
-                    Err(error)
-                }
-            }
-        }
-        Err(error) => {
-            drop(registry);
-            Err(error)
-        }
-    }
-}
-
-/// Compares what came, and the end, with what must come.
-fn compare(
-    alloc: Global,
-    step: &Step,
-    way: Way,
-    told: &[u8],
-    end: Result<String>,
-    differences: &mut Vec<u8>,
-) -> Result<()> {
-    let number = step.exchange.number;
-    let end = end.context(format_args!("line {number}"))?;
-    if end.as_str() != step.end.as_str() {
-        let wanted = step.end.as_str();
-        let text = format!(in alloc; "line {number}: {way:?}: ends by {end}, wanted {wanted}\n")?;
-        differences.extend_from_slice(text.as_bytes())?;
-    }
-    if !step.exchange.is_wanted(told, &way) {
-        let text = format!(in alloc; "line {number}: {way:?}: other bytes\n")?;
-        differences.extend_from_slice(text.as_bytes())?;
-        differences.extend_from_slice(told)?;
-        differences.push(b'\n')?;
     }
     Ok(())
+}
+
+/// The parts of a transcript: the first runs under the policy that it names, after the lines of its prelude, each other
+/// one under that with which the book is opened again.
+fn parts_of<'a>(rt: &(impl Files + AllocGlobal), lines: &[Line<'a>]) -> Result<Vec<Part<'a>>> {
+    let alloc = rt.alloc();
+    let before = match text_of(lines, "prelude") {
+        Some(file) => String::from_utf8(read(rt, file)?)?,
+        None => String::new(alloc),
+    };
+    let prelude = lines_of(alloc, before.as_str())?;
+    let mut parts = Vec::new(alloc);
+    let first = up_to(lines, "reopen");
+    parts.push(part_of(alloc, policy_of(rt, lines)?, 0, &prelude, first)?)?;
+    for (index, line) in lines.iter().enumerate() {
+        if line.mark == "reopen" {
+            let (policy, others) = (read(rt, line.text)?, up_to(&lines[index + 1..], "reopen"));
+            parts.push(part_of(alloc, policy, line.number, &[], others)?)?;
+        }
+    }
+    Ok(parts)
+}
+
+/// The script of these lines, under a policy with their changes.
+fn part_of<'a>(
+    alloc: Global,
+    policy: Vec<u8>,
+    number: usize,
+    prelude: &[Line<'_>],
+    lines: &[Line<'a>],
+) -> Result<Part<'a>> {
+    let mut policy = policy;
+    for line in lines {
+        if line.mark == "change" {
+            policy = changed(alloc, &policy, line.text)?;
+        }
+    }
+    let mut step = Step::new(alloc, "script", number);
+    step.add_script(alloc, prelude)?;
+    step.add_script(alloc, lines)?;
+    step.end = Some(text_of(lines, "ends").unwrap_or("done"));
+    let mut steps = Vec::new(alloc);
+    steps.push(step)?;
+    Ok(Part { policy, steps })
+}
+
+/// A text in which `NEW` of `OLD => NEW` takes the place of `OLD`, which is there. Where `NEW` has
+/// `\\n`, a line ends.
+fn changed(alloc: Global, text: &[u8], change: &str) -> Result<Vec<u8>> {
+    let text = str::from_utf8(text).context("a policy with changes is no text")?;
+    let (old, new) = change
+        .split_once(" => ")
+        .context("a change without an arrow")?;
+    if !text.contains(old) {
+        bail!("no such text in the policy: {old}");
+    }
+    let new = new.replace(alloc, "\\n", "\n")?;
+    Ok(text.replace(alloc, old, new.as_str())?.into_bytes())
 }

@@ -1,71 +1,68 @@
-//! Scripts over one book, which is opened again for each.
-ghost use Rattle.std.specs.Prelude.{◌≡◌, false, IfOk};
+//! Blocks that are carried out one after the other over one book, which is opened again for each chapter.
 
+use crate::wire::Wire;
 use books::Book;
-use policy::Policy;
+use policy::{Passwords, PolicyFile};
 use registry::Registry;
-use script::{Exit, run_on};
+use script::Exit;
 use std::alloc::Global;
 
-/// A script, and the policy under which the book is opened for it.
+/// Blocks, and the policy under which the book is opened for them.
 #[derive(Drop)]
 pub struct Chapter<'a> {
     pub policy: &'a [u8],
-    pub script: Vec<u8>,
+    pub wires: Vec<Wire<'a>>,
 }
 
-/// Answers the scripts one after the other, up to the first that doesn't end well.
+/// Carries out chapters, up to the first for which the book isn't opened, and gives back the book and the end of the
+/// last opening.
 pub fn run_chapters<B: Book + Drop>(
     alloc: Global,
     book: B,
-    chapters: &[Chapter<'_>],
-    printed: &mut Vec<u8>,
-) -> Exit
-    requires { (B.state book).is_open ≡ false }
-{
+    chapters: &mut [Chapter<'_>],
+) -> (B, Exit) {
     let mut book = book;
-    for chapter in chapters {
-        match run_chapter(alloc, book, chapter, printed) {
+    for chapter in chapters.iter_mut() {
+        match run_chapter(alloc, book, chapter) {
             Ok(left) => book = left,
-            Err(exit) => return exit,
+            Err(refused) => return refused,
         }
     }
-    drop(book);
-    Exit::Done
+    (book, Exit::Done)
 }
 
-/// Answers one, and gives the book back.
+/// Carries out one. A book in a transaction isn't opened.
 fn run_chapter<B: Book + Drop>(
     alloc: Global,
     book: B,
-    chapter: &Chapter<'_>,
-    printed: &mut Vec<u8>,
-) -> Result<B, Exit>
-    requires { (B.state book).is_open ≡ false }
-    ensures { IfOk result (λ left. (B.state left).is_open ≡ false) }
-{
-    let policy = match Policy::read(alloc, chapter.policy) {
-        Ok(policy) => policy,
-        Err(fault) => {
-            drop(book);
-            return Err(Exit::Policy(fault));
-        }
+    chapter: &mut Chapter<'_>,
+) -> Result<B, (B, Exit)> {
+    if book.active() {
+        return Err((book, Exit::File));
+    }
+    let PolicyFile { policy, passwords } = match PolicyFile::read(alloc, chapter.policy) {
+        Ok(file) => file,
+        Err(fault) => return Err((book, Exit::Policy(fault))),
     };
     match Registry::open(alloc, book, policy) {
-        Ok(mut registry) => {
-            let exit = run_on(alloc, &mut registry, chapter.script.as_slice(), printed);
-            let book = registry.into_book();
-            match exit {
-                Exit::Done => Ok(book),
-                exit => {
-                    drop(book);
-                    Err(exit)
-                }
-            }
-        }
-        Err((fault, book)) => {
-            drop(book);
-            Err(Exit::Open(fault))
-        }
+        Ok(registry) => Ok(carry(registry, &passwords, &mut chapter.wires).into_book()),
+        Err((fault, book)) => Err((book, Exit::Open(fault))),
     }
+}
+
+/// Carries out its blocks, but for those that come only where others failed.
+fn carry<B: Book + Drop>(
+    registry: Registry<B>,
+    passwords: &Passwords,
+    wires: &mut [Wire<'_>],
+) -> Registry<B> {
+    let mut registry = registry;
+    let mut failures = 0u32;
+    for wire in wires.iter_mut() {
+        if failures > 0 || wire.step.kind != "look if failed" {
+            registry = wire.carry(registry, passwords);
+        }
+        failures = failures.saturating_add(wire.failures);
+    }
+    registry
 }

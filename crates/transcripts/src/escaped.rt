@@ -12,12 +12,12 @@ use std::str;
 const MOST: usize = 100_000;
 
 /// Adds the bytes that a text means.
-pub fn add_bytes(alloc: Global, bytes: &mut Vec<u8>, text: &[u8]) -> Result<()> {
-    if !text.contains(&b'~') {
-        bytes.extend_from_slice(text)?;
+pub fn add_bytes(alloc: Global, bytes: &mut Vec<u8>, text: &str) -> Result<()> {
+    if !text.contains('~') {
+        bytes.extend_from_slice(text.as_bytes())?;
         return Ok(());
     }
-    let text = repeated(alloc, str::from_utf8(text).context("no text")?)?;
+    let text = repeated(alloc, text)?;
     let mut is_plain = true;
     for part in text.split('~') {
         if is_plain {
@@ -35,70 +35,56 @@ pub fn add_bytes(alloc: Global, bytes: &mut Vec<u8>, text: &[u8]) -> Result<()> 
 
 /// Adds what comes after `~`.
 fn add_escaped(bytes: &mut Vec<u8>, text: &[u8]) -> Result<()> {
-    let Some((first, others)) = text.split_first() else {
-        bail!("nothing behind ~");
-    };
-    let others = match *first {
-        b'r' => with(bytes, b'\r', others)?,
-        b'n' => with(bytes, b'\n', others)?,
-        b'0' => with(bytes, 0, others)?,
-        b'x' => with_hexadecimal(bytes, others)?,
+    let (first, others) = text.split_first().context("nothing behind ~")?;
+    let (byte, others) = match *first {
+        b'r' => (b'\r', others),
+        b'n' => (b'\n', others),
+        b'0' => (0, others),
+        b'x' => hexadecimal(others)?,
         _ => bail!("no escape"),
     };
+    bytes.push(byte)?;
     bytes.extend_from_slice(others)?;
     Ok(())
 }
 
-/// Adds a byte, and gives what follows.
-fn with<'a>(bytes: &mut Vec<u8>, byte: u8, others: &'a [u8]) -> Result<&'a [u8]> {
-    bytes.push(byte)?;
-    Ok(others)
-}
-
-/// Adds the byte of two digits, and gives what follows.
-fn with_hexadecimal<'a>(bytes: &mut Vec<u8>, text: &'a [u8]) -> Result<&'a [u8]> {
+/// The byte of two digits, and what follows.
+fn hexadecimal(text: &[u8]) -> Result<(u8, &[u8])> {
     if text.len() < 2 {
         bail!("fewer than two digits behind ~x");
     }
     let digits = str::from_utf8(&text[..2]).context("no digits behind ~x")?;
     let byte = u8::from_str_radix(digits, 16).context("no digits behind ~x")?;
-    with(bytes, byte, &text[2..])
+    Ok((byte, &text[2..]))
 }
 
 /// A text with what is to be repeated as often as it is.
 fn repeated(alloc: Global, text: &str) -> Result<String> {
-    let mut whole = String::new(alloc);
-    let last = match text.rsplit_once("~)") {
-        Some((pieces, last)) => {
-            for piece in pieces.split("~)") {
-                add_piece(alloc, &mut whole, piece)?;
-            }
-            last
-        }
-        None => text,
+    let mut expanded = String::new(alloc);
+    let Some((pieces, last)) = text.rsplit_once("~)") else {
+        expanded.push_str(text)?;
+        return Ok(expanded);
     };
-    whole.push_str(last)?;
-    Ok(whole)
+    for piece in pieces.split("~)") {
+        add_piece(alloc, &mut expanded, piece)?;
+    }
+    expanded.push_str(last)?;
+    Ok(expanded)
 }
 
 /// Adds what comes before a part, and the part as often as it is.
-fn add_piece(alloc: Global, whole: &mut String, piece: &str) -> Result<()> {
-    let Some((front, part)) = piece.rsplit_once('(') else {
-        bail!("nothing begins before ~)");
-    };
-    let Some((front, times)) = front.rsplit_once('~') else {
-        bail!("no ~ before a parenthesis");
-    };
-    whole.push_str(front)?;
+fn add_piece(alloc: Global, expanded: &mut String, piece: &str) -> Result<()> {
+    let (front, part) = piece.rsplit_once('(').context("nothing begins before ~)")?;
+    let (front, times) = front.rsplit_once('~').context("no ~ before a parenthesis")?;
+    expanded.push_str(front)?;
     let (first, last) = range_of(times)?;
     let is_numbered = part.contains("~#");
     for number in first..=last {
         if is_numbered {
             let numeral = format!(in alloc; "{number}")?;
-            let part = part.replace(alloc, "~#", numeral.as_str())?;
-            whole.push_str(part.as_str())?;
+            expanded.push_str(part.replace(alloc, "~#", numeral.as_str())?.as_str())?;
         } else {
-            whole.push_str(part)?;
+            expanded.push_str(part)?;
         }
     }
     Ok(())

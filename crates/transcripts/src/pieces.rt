@@ -23,10 +23,12 @@ pub struct Way {
     pub recovers: bool,
     /// Whether a signal interrupts each read and write once.
     pub is_interrupted: bool,
+    /// The order that settles before each line of a script.
+    pub settlement: Option<&'static str>,
 }
 
 /// All in one piece.
-pub const WHOLE: Way = Way {
+pub const IN_ONE_PIECE: Way = Way {
     step: usize::MAX,
     cuts: (0, 0),
     front: usize::MAX,
@@ -35,7 +37,17 @@ pub const WHOLE: Way = Way {
     fails: false,
     recovers: false,
     is_interrupted: false,
+    settlement: None,
 };
+
+/// Fails each other call, where signals interrupt them.
+fn interrupt(way: &Way, was_interrupted: &mut bool) -> io::Result<()> {
+    *was_interrupted = way.is_interrupted && !*was_interrupted;
+    if *was_interrupted {
+        return Err(io::Error::from(ErrorKind::Interrupted));
+    }
+    Ok(())
+}
 
 /// A reader of bytes in pieces.
 #[derive(Drop)]
@@ -58,7 +70,7 @@ impl<'a> Pieces<'a> {
         }
     }
 
-    /// How many bytes the next read gives at most.
+    /// How many bytes the next read gives at most, so that it doesn't go beyond a cut.
     fn most(&self) -> usize {
         let (first, second) = self.way.cuts;
         if self.given < first {
@@ -73,11 +85,7 @@ impl<'a> Pieces<'a> {
 
 impl Read for Pieces<'_> {
     fn read(&mut self, buf: &mut [u8]) -> io::Result<usize> {
-        if self.way.is_interrupted && !self.was_interrupted {
-            self.was_interrupted = true;
-            return Err(io::Error::from(ErrorKind::Interrupted));
-        }
-        self.was_interrupted = false;
+        interrupt(&self.way, &mut self.was_interrupted)?;
         if self.reads == 0 {
             return Err(io::Error::from(ErrorKind::ConnectionReset));
         }
@@ -134,11 +142,7 @@ impl Narrow {
 
 impl Write for Narrow {
     fn write(&mut self, buf: &[u8]) -> io::Result<usize> {
-        if self.way.is_interrupted && !self.was_interrupted {
-            self.was_interrupted = true;
-            return Err(io::Error::from(ErrorKind::Interrupted));
-        }
-        self.was_interrupted = false;
+        interrupt(&self.way, &mut self.was_interrupted)?;
         let count = self.most()?.min(buf.len());
         match self.bytes.extend_from_slice(&buf[..count]) {
             Ok(()) => Ok(count),

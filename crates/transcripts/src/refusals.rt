@@ -2,200 +2,234 @@
 //! was refused. Sent again it is answered as if nothing had been refused, to the byte. So is everything
 //! that is looked at after it.
 
-use crate::both_books::{Done, Job, Kind, over};
-use crate::cases::cut;
-use crate::refused::{Found, Refusal, Tried};
-use anyhow::{Context, Result, bail};
+use crate::chapter::Chapter;
+use crate::lines::{Section, only, policy_of, script_of};
+use crate::over::{Kind, NEVER, Places, Ran, run_over};
+use crate::pieces::IN_ONE_PIECE;
+use crate::step::Step;
+use crate::wire::Wire;
+use anyhow::{Result, bail};
 use std::alloc::Global;
-use std::str;
+use std::mem;
+use std::rt::Files;
 
-/// A line that is tried.
+/// What is sent before a line, the line, so often, and what is sent after it.
 #[derive(Drop)]
-pub struct Trial {
-    pub name: String,
-    line: Vec<u8>,
-    /// The steps at which it is refused, where that is done three times, and what is answered then.
-    places: Vec<u64>,
-    told: Vec<u8>,
+struct Trial {
+    policy: Vec<u8>,
+    steps: Vec<Step<'static>>,
 }
 
-/// The lines of a file, and what is sent before and looked at after each.
-#[derive(Drop)]
-pub struct Trials {
-    /// The file with the policy.
-    pub policy: Vec<u8>,
-    before: Vec<u8>,
-    looks: Vec<u8>,
-    pub trials: Vec<Trial>,
-}
-
-impl Trials {
-    /// Reads a file.
-    pub fn read(alloc: Global, text: &[u8]) -> Result<Trials> {
-        let mut trials = Trials {
-            policy: Vec::new(alloc),
-            before: Vec::new(alloc),
-            looks: Vec::new(alloc),
-            trials: Vec::new(alloc),
-        };
-        for line in text.split(|byte| *byte == b'\n') {
-            if !matches!(line.first(), None | Some(b'#')) {
-                let (mark, text) = cut(line);
-                trials.take(alloc, mark, text)?;
-            }
+impl Trial {
+    fn read(
+        rt: &(impl Files + AllocGlobal),
+        section: &Section<'_>,
+        times: usize,
+        look: &'static str,
+    ) -> Result<Trial> {
+        let (alloc, common) = (rt.alloc(), section.common);
+        only(common, "policy|before|look")?;
+        only(section.lines, "C|S|at")?;
+        let mut steps = Vec::new(alloc);
+        let before = script_of(alloc, common, "before")?;
+        steps.push(Step::sending(alloc, "script", before))?;
+        for _ in 0..times {
+            let line = script_of(alloc, section.lines, "C")?;
+            steps.push(Step::sending(alloc, "line", line))?;
         }
-        Ok(trials)
+        let shown = script_of(alloc, common, "look")?;
+        steps.push(Step::sending(alloc, look, shown))?;
+        Ok(Trial {
+            policy: policy_of(rt, common)?,
+            steps,
+        })
     }
 
-    /// Takes a line of the file.
-    fn take(&mut self, alloc: Global, mark: &[u8], text: &[u8]) -> Result<()> {
-        match mark {
-            b"policy" => self.policy.extend_from_slice(text)?,
-            b"before" => add_line(&mut self.before, text)?,
-            b"look" => add_line(&mut self.looks, text)?,
-            b"refused" => self.trials.push(Trial::new(alloc, text)?)?,
-            _ => match self.trials.last_mut() {
-                Some(trial) => trial.take(mark, text)?,
-                None => bail!("no mark of refusals"),
-            },
-        }
-        Ok(())
+    /// Carries out so many of the blocks at most, while calls are refused.
+    fn carried_out(&self, alloc: Global, kind: Kind, most: usize, places: Places) -> Result<Tried> {
+        let count = most.min(self.steps.len());
+        let (policy, steps) = (self.policy.as_slice(), &self.steps[..count]);
+        carried_out(alloc, kind, policy, steps, places)
     }
 
-    /// What is sent of one line, so many times.
-    fn refusal<'a>(&'a self, policy: &'a [u8], trial: &'a Trial, times: u32) -> Refusal<'a> {
-        Refusal {
-            policy,
-            before: &self.before,
-            line: &trial.line,
-            times,
-            looks: &self.looks,
-            places: (0, 0, 0),
-        }
+    /// Sends the line, and what comes after it, while calls are refused.
+    fn all(&self, alloc: Global, kind: Kind, places: Places) -> Result<Tried> {
+        self.carried_out(alloc, kind, usize::MAX, places)
     }
 
-    /// Refuses each call of a line in turn, and gives how many there are.
-    pub fn refuse_each(
-        &self,
-        alloc: Global,
-        kind: Kind,
-        policy: &[u8],
-        trial: &Trial,
-    ) -> Result<u64> {
-        let refusal = self.refusal(policy, trial, 1);
-        let undisturbed = tried(alloc, kind, &refusal, u64::MAX)?;
-        if !is_accepted(&undisturbed.reply) {
+    /// How many calls on the book so many of the blocks make.
+    fn calls(&self, alloc: Global, kind: Kind, most: usize) -> Result<u64> {
+        let it = self.carried_out(alloc, kind, most, NEVER)?;
+        Ok(it.calls)
+    }
+
+    /// Refuses each call of the line in turn, and gives how many there are.
+    fn refuse_each(&self, alloc: Global, kind: Kind) -> Result<u64> {
+        let unrefused = self.all(alloc, kind, NEVER)?;
+        if !is_accepted(&unrefused.reply) {
             bail!("not accepted, though nothing was refused to it");
         }
-        let first = calls_of(alloc, kind, refusal, 0)?;
-        let end = calls_of(alloc, kind, refusal, 1)?;
+        let first = self.calls(alloc, kind, 1)?;
+        let end = self.calls(alloc, kind, 2)?;
         for place in first..end {
-            let disturbed = tried(alloc, kind, &refusal, place)?;
-            if !disturbed.has_refused {
+            let it = self.all(alloc, kind, (place, u64::MAX, u64::MAX))?;
+            if !it.refused.0 || it.failures > 1 {
                 bail!("a call wasn't refused");
             }
-            if disturbed.reply != undisturbed.reply || disturbed.looks != undisturbed.looks {
+            if it.reply != unrefused.reply || it.shown != unrefused.shown {
                 bail!("a refused call left something");
             }
         }
         Ok(end.saturating_sub(first))
     }
 
-    /// Refuses a line at three places, and compares what is answered then with what was worked out by hand.
-    pub fn refuse_thrice(
+    /// Refuses it at three steps, and compares what is answered then with what was worked out by hand.
+    fn refuse_thrice(
         &self,
         alloc: Global,
         kind: Kind,
-        policy: &[u8],
-        trial: &Trial,
+        places: Places,
+        wanted: &[u8],
     ) -> Result<()> {
-        let [first, second, third] = trial.places.as_slice() else {
-            bail!("not three places");
-        };
-        let refusal = Refusal {
-            places: (*first, *second, *third),
-            ..self.refusal(policy, trial, 1)
-        };
-        let before = calls_of(alloc, kind, refusal, 0)?;
-        let Done::Tried(tried) = over(alloc, kind, Job::RefuseThrice(&refusal, before))? else {
-            bail!("nothing was tried");
-        };
-        let mut told = tried.reply;
-        told.extend_from_slice(&tried.looks)?;
-        if !tried.has_refused || told != trial.told {
+        let first = self.calls(alloc, kind, 1)?.saturating_add(places.0);
+        let second = first.saturating_add(places.1);
+        let places = (first, second, second.saturating_add(places.2));
+        let mut it = self.all(alloc, kind, places)?;
+        it.reply.extend_from_slice(&it.shown)?;
+        if it.refused != (true, true, true) || it.failures != 3 || it.reply.as_slice() != wanted {
             bail!("what was refused was counted");
         }
         Ok(())
     }
+}
 
-    /// What is found of a line while memory may be refused from outside.
-    pub fn find(
-        &self,
-        alloc: Global,
-        kind: Kind,
-        policy: &[u8],
-        place: usize,
-        stops: bool,
-    ) -> Result<Found> {
-        let trial = self.trials.get(place).context("no such line")?;
-        let refusal = self.refusal(policy, trial, 1);
-        let once = tried(alloc, kind, &refusal, u64::MAX)?;
-        let twice = tried(alloc, kind, &self.refusal(policy, trial, 2), u64::MAX)?;
-        match over(alloc, kind, Job::Find(&refusal, &once, &twice, stops))? {
-            Done::Found(found) => Ok(found),
-            _ => bail!("nothing was found"),
+/// What came of blocks.
+#[derive(Drop)]
+struct Tried {
+    /// What the last script or line printed, and what the looks at it did.
+    reply: Vec<u8>,
+    shown: Vec<u8>,
+    /// How often lines failed, and whether all ended well in the end.
+    failures: u32,
+    ends_well: bool,
+    /// How many calls were made of the book, and which were refused.
+    calls: u64,
+    refused: (bool, bool, bool),
+}
+
+impl Tried {
+    fn of(alloc: Global, ran: &mut Ran<'_>) -> Tried {
+        let mut tried = Tried {
+            reply: Vec::new(alloc),
+            shown: Vec::new(alloc),
+            failures: 0,
+            ends_well: true,
+            calls: ran.calls,
+            refused: ran.refused,
+        };
+        for chapter in ran.chapters.iter_mut() {
+            for wire in chapter.wires.iter_mut() {
+                tried.take(wire);
+            }
+        }
+        tried
+    }
+
+    /// Takes what a block printed out of it: a copy would ask for memory behind the line.
+    fn take(&mut self, wire: &mut Wire<'_>) {
+        self.failures = self.failures.saturating_add(wire.failures);
+        self.ends_well = self.ends_well && wire.ends_well();
+        match wire.step.kind {
+            "script" | "line" => mem::swap(&mut self.reply, &mut wire.writer.bytes),
+            _ => mem::swap(&mut self.shown, &mut wire.writer.bytes),
         }
     }
 }
 
-impl Trial {
-    fn new(alloc: Global, name: &[u8]) -> Result<Trial> {
-        Ok(Trial {
-            name: String::from_str(alloc, str::from_utf8(name)?)?,
-            line: Vec::new(alloc),
-            places: Vec::new(alloc),
-            told: Vec::new(alloc),
-        })
+/// Carries out blocks over a book that is new, each of which has to end well.
+fn carried_out<'a>(
+    alloc: Global,
+    kind: Kind,
+    policy: &'a [u8],
+    steps: &'a [Step<'static>],
+    places: Places,
+) -> Result<Tried> {
+    let mut wires = Vec::new(alloc);
+    for step in steps {
+        wires.push(Wire::new(alloc, step, IN_ONE_PIECE)?)?;
     }
+    let mut chapters = Vec::new(alloc);
+    chapters.push(Chapter { policy, wires })?;
+    let mut ran = run_over(alloc, kind, chapters, places)?;
+    let tried = Tried::of(alloc, &mut ran);
+    drop(ran);
+    if !tried.ends_well {
+        bail!("a script that ended otherwise");
+    }
+    Ok(tried)
+}
 
-    fn take(&mut self, mark: &[u8], text: &[u8]) -> Result<()> {
-        match mark {
-            b"C" => add_line(&mut self.line, text)?,
-            b"S" => add_line(&mut self.told, text)?,
-            b"at" => self.places.push(str::from_utf8(text)?.parse::<u64>()?)?,
-            _ => bail!("no mark of refusals"),
+/// What a script prints that ends well.
+pub fn printed(alloc: Global, kind: Kind, policy: &[u8], script: &str) -> Result<Vec<u8>> {
+    let script = Vec::from_slice(alloc, script.as_bytes())?;
+    let mut steps = Vec::new(alloc);
+    steps.push(Step::sending(alloc, "script", script))?;
+    let it = carried_out(alloc, kind, policy, steps.as_slice(), NEVER)?;
+    Ok(it.reply)
+}
+
+/// Refuses each call of a line in turn over both books, or three of them, and says what came of it.
+pub fn run_refusals(rt: &(impl Files + AllocGlobal), section: &Section<'_>) -> Result<String> {
+    let alloc = rt.alloc();
+    let trial = Trial::read(rt, section, 1, "look")?;
+    let mut places = Vec::new(alloc);
+    for line in section.lines {
+        if line.mark == "at" {
+            places.push(line.text.parse::<u64>()?)?;
         }
-        Ok(())
     }
-
-    /// Whether it is refused three times, and then passes.
-    pub fn is_thrice(&self) -> bool {
-        !self.places.is_empty()
-    }
-}
-
-fn add_line(lines: &mut Vec<u8>, text: &[u8]) -> Result<()> {
-    lines.extend_from_slice(text)?;
-    lines.push(b'\n')?;
-    Ok(())
-}
-
-/// Sends a line to a registry whose book refuses the call after so many.
-fn tried(alloc: Global, kind: Kind, refusal: &Refusal<'_>, place: u64) -> Result<Tried> {
-    match over(alloc, kind, Job::Refuse(refusal, place))? {
-        Done::Tried(tried) => Ok(tried),
-        _ => bail!("nothing was tried"),
-    }
-}
-
-/// How many calls on the book are made before a line, and by the line if it is sent once.
-fn calls_of(alloc: Global, kind: Kind, refusal: Refusal<'_>, times: u32) -> Result<u64> {
-    let refusal = Refusal {
-        times,
-        looks: b"",
-        ..refusal
+    let [first, second, third] = places.as_slice() else {
+        let rows = trial.refuse_each(alloc, Kind::Rows)?;
+        let maps = trial.refuse_each(alloc, Kind::Maps)?;
+        return Ok(format!(in alloc; "{rows} calls over rows, {maps} over ordered maps")?);
     };
-    Ok(tried(alloc, kind, &refusal, u64::MAX)?.calls)
+    let wanted = script_of(alloc, section.lines, "S")?;
+    for kind in [Kind::Rows, Kind::Maps] {
+        trial.refuse_thrice(alloc, kind, (*first, *second, *third), &wanted)?;
+    }
+    Ok(String::from_str(alloc, "as worked out by hand")?)
+}
+
+/// What is found of a line while memory may be refused from outside. It is sent again where it couldn't be carried
+/// out: what is left is that of one that was sent once, or twice. Where it `stops` it isn't sent, so that one can
+/// tell where its own part begins.
+pub fn find(
+    rt: &(impl Files + AllocGlobal),
+    section: &Section<'_>,
+    kind: Kind,
+    stops: bool,
+) -> Result<&'static str> {
+    let alloc = rt.alloc();
+    let trial = Trial::read(rt, section, 1, "look")?;
+    let again = Trial::read(rt, section, 2, "look")?;
+    let tried = Trial::read(rt, section, 1, "look if failed")?;
+    let once = trial.all(alloc, kind, NEVER)?;
+    let twice = again.all(alloc, kind, NEVER)?;
+    if stops {
+        tried.calls(alloc, kind, 1)?;
+        return Ok("nothing");
+    }
+    let found = tried.all(alloc, kind, NEVER)?;
+    if found.failures == 0 && found.reply == once.reply {
+        return Ok("passed");
+    }
+    if found.failures == 1 && found.reply == once.reply && found.shown == once.shown {
+        return Ok("undone");
+    }
+    if found.failures == 1 && found.reply == twice.reply && found.shown == twice.shown {
+        return Ok("kept");
+    }
+    bail!("something else is left")
 }
 
 /// Whether a reply has a code below 2000, or is a greeting.

@@ -1,4 +1,4 @@
-//! A file that counts its calls, and fails one of them.
+//! A file that counts its calls, and fails some of them.
 ghost use Rattle.std.specs.Prelude.{◌≡◌, ◌+◌, ◌&&◌, not, false};
 ghost use Rattle.sqlite_disk.specs.Disk.{CountsFault};
 ghost use Rattle.sqlite_disk.specs.Refusal.{finds_no_room};
@@ -6,22 +6,25 @@ ghost use Rattle.sqlite_disk.specs.Refusal.{finds_no_room};
 use sqlite_disk::{Crash, Disk, Tally};
 use std::io;
 
-/// A file that counts its calls, and fails the one that comes after so many.
+/// No call fails.
+pub const NONE: (u64, u64) = (u64::MAX, 0);
+
+/// A file that counts its calls, and fails each from one to another.
 #[derive(Drop)]
-pub struct Stumbling<D: Disk> {
+pub struct Failing<D: Disk> {
     inner: D,
     calls: u64,
-    stumbles_after: u64,
+    failing: (u64, u64),
     refused: u64,
     sync_refused: bool,
 }
 
-impl<D: Disk> Stumbling<D> {
-    pub fn new(inner: D, stumbles_after: u64) -> Stumbling<D> {
-        Stumbling {
+impl<D: Disk> Failing<D> {
+    pub fn new(inner: D, failing: (u64, u64)) -> Failing<D> {
+        Failing {
             inner,
             calls: 0,
-            stumbles_after,
+            failing,
             refused: 0,
             sync_refused: false,
         }
@@ -31,26 +34,26 @@ impl<D: Disk> Stumbling<D> {
         &self.inner
     }
 
-    /// How many calls were made.
-    pub fn calls(&self) -> u64 {
-        self.calls
+    /// Whether a call has failed.
+    pub fn has_failed(&self) -> bool {
+        self.refused > 0
     }
 }
 
-fn count(calls: &mut u64, stumbles_after: u64, refused: &mut u64) -> io::Result<()>
+fn count(calls: &mut u64, failing: (u64, u64), refused: &mut u64) -> io::Result<()>
     ensures faults { CountsFault result refused.old refused.new }
     ensures kind { finds_no_room result ≡ false }
 {
     let earlier = *calls;
     *calls = earlier.saturating_add(1);
-    if earlier == stumbles_after {
+    if earlier >= failing.0 && earlier <= failing.1 {
         *refused = refused.saturating_add(1);
-        return Err(io::Error::other("one call fails"));
+        return Err(io::Error::other("a call fails"));
     }
     Ok(())
 }
 
-impl<D: Disk> Disk for Stumbling<D> {
+impl<D: Disk> Disk for Failing<D> {
     ghost seen = { λ f. D.Disk.seen f.inner };
 
     ghost may_leave = { λ f. D.Disk.may_leave f.inner };
@@ -60,8 +63,6 @@ impl<D: Disk> Disk for Stumbling<D> {
     ghost faults = { λ f. D.Disk.faults f.inner + f.refused };
 
     ghost tally_of = { λ f. D.Disk.tally_of f.inner };
-
-    ghost is_rotten = { λ f. D.Disk.is_rotten f.inner };
 
     ghost key_of = { λ f. D.Disk.key_of f.inner };
 
@@ -73,10 +74,8 @@ impl<D: Disk> Disk for Stumbling<D> {
 
     ghost seen_may_stay = { λ f. D.Disk.seen_may_stay f.inner };
 
-    ghost is_mixing = { λ f. D.Disk.is_mixing f.inner };
-
     fn mixes(&self) -> bool {
-        self.inner.mixes()
+        false
     }
 
     fn key(&self) -> u64 {
@@ -92,32 +91,32 @@ impl<D: Disk> Disk for Stumbling<D> {
     }
 
     fn len(&mut self) -> io::Result<usize> {
-        count(&mut self.calls, self.stumbles_after, &mut self.refused)?;
+        count(&mut self.calls, self.failing, &mut self.refused)?;
         self.inner.len()
     }
 
     fn read_at(&mut self, at: usize, buf: &mut [u8]) -> io::Result<()> {
-        count(&mut self.calls, self.stumbles_after, &mut self.refused)?;
+        count(&mut self.calls, self.failing, &mut self.refused)?;
         self.inner.read_at(at, buf)
     }
 
     fn read_checked(&mut self, key: u64, want: u64, at: usize, buf: &mut [u8]) -> io::Result<()> {
-        count(&mut self.calls, self.stumbles_after, &mut self.refused)?;
+        count(&mut self.calls, self.failing, &mut self.refused)?;
         self.inner.read_checked(key, want, at, buf)
     }
 
     fn write_at(&mut self, at: usize, bytes: &[u8]) -> io::Result<()> {
-        count(&mut self.calls, self.stumbles_after, &mut self.refused)?;
+        count(&mut self.calls, self.failing, &mut self.refused)?;
         self.inner.write_at(at, bytes)
     }
 
     fn set_len(&mut self, len: usize) -> io::Result<()> {
-        count(&mut self.calls, self.stumbles_after, &mut self.refused)?;
+        count(&mut self.calls, self.failing, &mut self.refused)?;
         self.inner.set_len(len)
     }
 
     fn sync(&mut self) -> io::Result<()> {
-        if let Err(error) = count(&mut self.calls, self.stumbles_after, &mut self.refused) {
+        if let Err(error) = count(&mut self.calls, self.failing, &mut self.refused) {
             self.sync_refused = true;
             return Err(error);
         }
@@ -125,11 +124,11 @@ impl<D: Disk> Disk for Stumbling<D> {
     }
 }
 
-/// The machine comes back, and stumbles no more.
-impl<D: Crash> Crash for Stumbling<D> {
+/// The machine comes back, and no call fails.
+impl<D: Crash> Crash for Failing<D> {
     fn crash(&mut self) {
         self.inner.crash();
-        self.stumbles_after = u64::MAX;
+        self.failing = NONE;
         self.sync_refused = false;
     }
 }

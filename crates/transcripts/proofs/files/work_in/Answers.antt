@@ -1,7 +1,7 @@
 use Rattle.std.proofs.Common.{Result, Ok, Err, IfOk}
 use Rattle.sqlite.specs.Files.{file_state, image_of}
 use Rattle.sqltables.proofs.FoundLemmas.{found_in_files}
-use Rattle.faulttests.proofs.registries.work_in.Goals as goal
+use Rattle.transcripts.proofs.files.work_in.Goals as goal
 
 -- what two clauses say of a value together
 both : {T E : Type 0} (r : Result T E) (P Q R : T → Type 0) → ((x : T) → P x → Q x → R x) → IfOk r P → IfOk r Q → IfOk r R

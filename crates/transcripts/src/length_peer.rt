@@ -1,4 +1,4 @@
-//! A peer of a session that knows no registry.
+//! A peer of a session that knows no registry, and answers with lengths.
 
 use calendar::Moment;
 use frames::{Answer, Peer};
@@ -7,17 +7,17 @@ use std::alloc::Global;
 /// Answers `no` as what can't be carried out, `lost` as a reply that found no memory, `bye` with a last
 /// reply, and all else with its own length in bars.
 #[derive(Drop)]
-pub struct Bars {
+pub struct LengthPeer {
     alloc: Global,
 }
 
-impl Bars {
-    pub fn new(alloc: Global) -> Bars {
-        Bars { alloc }
+impl LengthPeer {
+    pub fn new(alloc: Global) -> LengthPeer {
+        LengthPeer { alloc }
     }
 }
 
-impl Peer for Bars {
+impl Peer for LengthPeer {
     ghost use Rattle.std.specs.Prelude.{⊤};
 
     ghost answers = { λ _ _ _ _ _. ⊤ };
