@@ -1,5 +1,5 @@
 -- The bag of lines that are kept by their domains.
-use Rattle.std.proofs.Common.{◌≡◌, ℕ, ◌+◌, ◌<◌, ◌≤◌, ◌==◌, suc, Bool, true, false, cond, not, ◌&&◌, ◌||◌, List, [], ◌∷◌, ◌++◌, map, length, length-append, Option, Some, None, Result, Ok, Err, refl, sym, ap, subst, ◌∙◌, arith, ℤ, ◌+ℤ◌, ◌-ℤ◌}
+use Rattle.std.proofs.Common.{◌≡◌, ℕ, ◌+◌, ◌<◌, ◌==◌, suc, Bool, true, false, cond, not, ◌&&◌, ◌||◌, List, [], ◌∷◌, ◌++◌, map, length, Option, Some, None, Result, Ok, Err, refl, sym, ap, subst, ◌∙◌, arith, ℤ, ◌+ℤ◌, ◌-ℤ◌}
 use Rattle.std.specs.Prelude.{unwrap_or}
 use Rattle.std.proofs.lemmas.Bool.Decides.{nat_tests}
 use Rattle.std.proofs.lemmas.Cmp.{nat_list_cmp_total}
@@ -27,10 +27,10 @@ use Rattle.basis.specs.Bag.{add, bag_of, remade, same, taken}
 use Rattle.basis.proofs.BagLaws.{add-add, any-bag_of, filter-bag_of, remade-bag_of, taken-absent, taken-add, taken-bag_of, taken-before, taken-behind, taken-present}
 use Rattle.objects.specs.declared.roid.Roid.{Roid}
 use Rattle.accounts.specs.declared.line.Line.{Line}
-use Rattle.accounts.specs.Groups.{IsBounded, IsGroup, IsGrouped, IsSmall, IsUnder, all_lines}
+use Rattle.accounts.specs.Groups.{IsBounded, IsGroup, IsGrouped, IsUnder, all_lines}
 use Rattle.accounts.specs.declared.line.LineSwap.{LineSwap}
 use Rattle.accounts.specs.Lines.{balance, in_order, is_line, is_of, is_on, object_rank, roid_numbers, swapped_all, swaps_of}
-use Rattle.accounts.proofs.LineLaws.{balance-append, balance-bag_of, bounded-cons, bounded-small, fits, line-told, lines_in_order, same-in_order}
+use Rattle.accounts.proofs.LineLaws.{balance-bag_of, bounded-cons, bounded-small, fits, line-told, lines_in_order, same-in_order}
 
 abbrev by_numbers : List ℕ → List ℕ → Ordering
 by_numbers = slice_cmp nat_cmp

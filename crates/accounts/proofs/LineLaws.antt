@@ -1,10 +1,9 @@
 -- Lines stand in an order, and balances are sums.
-use Rattle.std.proofs.Common.{◌≡◌, ℕ, ◌+◌, ◌<◌, ◌==◌, Bool, true, false, cond, ◌&&◌, nat_eq, List, [], ◌∷◌, ◌++◌, length, take, get_or, Option, Some, None, is_some, refl, sym, ap, subst, ◌∙◌, arith, ℤ, pos, negsuc, ◌+ℤ◌, ◌-ℤ◌, ◌≤ℤ◌}
+use Rattle.std.proofs.Common.{◌≡◌, ℕ, ◌+◌, ◌<◌, ◌==◌, Bool, true, false, cond, ◌&&◌, nat_eq, List, [], ◌∷◌, ◌++◌, Option, Some, None, is_some, refl, sym, ap, ◌∙◌, arith, ℤ, pos, negsuc, ◌+ℤ◌, ◌-ℤ◌, ◌≤ℤ◌}
 use Rattle.std.specs.Int.{saturate_signed, w128}
 use Rattle.std.specs.List.{AllByRecursion}
 use Rattle.std.proofs.lemmas.Bool.Decides.{nat_tests}
 use Rattle.std.proofs.lemmas.Int.{ints}
-use Rattle.std.proofs.lemmas.List.{take_more}
 use Rattle.basis.specs.Bag.{IsLinear, add, bag_of, same}
 use Rattle.basis.proofs.BagLaws.{le-itself, same-is}
 use Rattle.basis.proofs.OrderLaws.{linear_by_numbers}
@@ -195,15 +194,6 @@ pub balance-append : (xs ys : List Line) → balance (xs ++ ys) ≡ balance xs +
 unfolding balance
 balance-append [] ys = omega (arith, ints)
 balance-append (x ∷ xs) ys = omega (arith, ints, balance-append xs ys)
-
-balance-one : (x : Line) → balance (x ∷ []) ≡ amount x
-unfolding balance
-balance-one x = omega (arith, ints)
-
-balance-more : (xs : List Line) (i : ℕ) (x : Line) → i < length xs → x ≡ get_or xs i x → balance (take (i + 1) xs) ≡ balance (take i xs) +ℤ amount x
-balance-more xs i x h e =
-    ap balance (take_more xs i x h) ∙ balance-append (take i xs) (get_or xs i x ∷ []) ∙ ap (λ (y : Line). balance (take i xs) +ℤ balance (y ∷ [])) (sym e)
-    ∙ ap (λ z. balance (take i xs) +ℤ z) (balance-one x)
 
 bound : (d r : Bool) (c : ℕ) → c < 18_446_744_073_709_551_616 → ((pos 0 -ℤ pos 18_446_744_073_709_551_615) ≤ℤ amount_of d r c) × (amount_of d r c ≤ℤ pos 18_446_744_073_709_551_615)
 bound true r c h = (omega (arith, ints), omega (arith, ints))

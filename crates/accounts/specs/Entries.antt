@@ -1,5 +1,5 @@
 -- What time alone enters into an account.
-use Rattle.std.specs.Prelude.{◌≡◌, List, Some, None}
+use Rattle.std.specs.Prelude.{List, Some, None}
 use Rattle.std.specs.FinMap.{FinMap}
 use Rattle.std.specs.Ordering.{nat_cmp}
 use Rattle.basis.specs.Bag.{add, remade}

@@ -1,13 +1,12 @@
 -- A command and an order change what they concern, and other accounts so that it makes no difference to
 -- what time enters into them.
-use Rattle.std.proofs.Common.{◌≡◌, ◌⊎◌, inl, inr, ℕ, Bool, true, false, cond, ◌||◌, List, [], ◌∷◌, ◌++◌, Option, Some, None, option_and_then, option_map, refl, sym, ap, subst, ◌∙◌}
+use Rattle.std.proofs.Common.{◌≡◌, inl, inr, ℕ, Bool, true, false, cond, List, [], Option, Some, None, option_and_then, option_map, refl, sym, ap, subst, ◌∙◌}
 use Rattle.std.specs.FinMap.{get}
-use Rattle.std.specs.List.{list_any}
 use Rattle.std.specs.Str.{bytes_eq}
-use Rattle.std.proofs.lemmas.Bool.{or_left, or_right}
+use Rattle.std.proofs.lemmas.Bool.{or_left}
 use Rattle.facts.specs.declared.facts.DomainFacts.{DomainFacts}
 use Rattle.facts.specs.declared.facts.Facts.{Facts}
-use Rattle.facts.specs.Facts.{contact_facts, contact_seen, domain_at, domain_facts, domain_seen, facts, host_seen, lookups}
+use Rattle.facts.specs.Facts.{contact_facts, contact_seen, domain_facts, domain_seen, facts, host_seen, lookups}
 use Rattle.names.specs.RequestedName.{RequestedName, name_of}
 use Rattle.objects.specs.declared.contact.Contact.{Contact}
 use Rattle.objects.specs.declared.contact.ContactFace.{ContactFace}
@@ -21,7 +20,6 @@ use Rattle.objects.specs.declared.transfer.Transfer.{Transfer}
 use Rattle.objects.specs.Links.{has_name}
 use Rattle.objects.specs.Sight.{contact_as}
 use Rattle.policy.specs.Rules.{PolicyRules}
-use Rattle.protocol.specs.declared.code.Code.{Code}
 use Rattle.protocol.specs.declared.command.Command.{Command}
 use Rattle.protocol.specs.declared.command.Command.TheVariants.{Asked, Bad}
 use Rattle.protocol.specs.declared.command.ContactUpdate.{ContactUpdate}
@@ -29,13 +27,11 @@ use Rattle.protocol.specs.declared.command.DomainUpdate.{DomainUpdate}
 use Rattle.protocol.specs.declared.command.HostUpdate.{HostUpdate}
 use Rattle.protocol.specs.declared.command.Request.{Request}
 use Rattle.protocol.specs.declared.command.Request.TheVariants as requests
-use Rattle.protocol.specs.declared.reply.Reply.{Reply}
 use Rattle.protocol.specs.declared.transfer.TransferOp.{TransferOp}
 use Rattle.protocol.specs.declared.transfer.TransferOp.TheVariants as ops
-use Rattle.protocol.specs.Codes.{is_accepted}
-use Rattle.protocol.specs.Requests.{asks_of, contacts_asked, domains_asked, holds_of, presented, presented_contact}
+use Rattle.protocol.specs.Requests.{asks_of, domains_asked, presented, presented_contact}
 use Rattle.model.specs.Lapse.{Choice, now}
-use Rattle.model.specs.Registry.{Registry, account_of}
+use Rattle.model.specs.Registry.{Registry}
 use Rattle.model.specs.View.{domain_sight}
 use Rattle.decisions.specs.declared.change.Change.{Change}
 use Rattle.decisions.specs.declared.decision.Decision.{Decision}
@@ -46,7 +42,7 @@ use Rattle.concerns.specs.Names.{named_by, named_in}
 use Rattle.decisions.specs.Decisions.{changes_after, changes_of, contact_changes, decided, deletion_at, deletion_changes, domain_changes, ending, host_changes, renaming, renewal_changes, report_changes, restore_changes, updated_host}
 use Rattle.decisions.specs.Steps.{answer, decision, effect, reply_of}
 use Rattle.decisions.specs.Transfers.{contact_transfer_changes, contact_transferred_if, domain_transfer_changes, domain_transferred_if}
-use Rattle.concerns.proofs.ChangeLemmas.{AllSuit, IsNamedRoid, Suits, changed-now}
+use Rattle.concerns.proofs.ChangeLemmas.{AllSuit, Suits, changed-now}
 use Rattle.decisions.proofs.CommandLemmas.{at-itself, contact-full, domain-full}
 use Rattle.concerns.proofs.ConcernLemmas.{any-read, bytes-itself, in-first, in-itself, in-second, is_in}
 use Rattle.concerns.proofs.FactsLemmas.{account-now, contacts-acted, facts-now}

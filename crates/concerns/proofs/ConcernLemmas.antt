@@ -1,5 +1,5 @@
 -- Once what a command concerns has lapsed, nothing is due that it concerns.
-use Rattle.std.proofs.Common.{◌≡◌, ◌⊎◌, ⊎_elim, inl, inr, ◌<◌, ℕ, Bool, true, false, cond, not, ◌||◌, List, [], ◌∷◌, ◌++◌, Option, Some, None, option_map, refl, sym, ap, subst, ◌∙◌, arith}
+use Rattle.std.proofs.Common.{◌≡◌, ◌⊎◌, ⊎_elim, ◌<◌, ℕ, Bool, true, false, ◌||◌, List, [], ◌∷◌, ◌++◌, Option, Some, None, option_map, refl, sym, ap, ◌∙◌}
 use Rattle.std.specs.Cmp.Lexicographic.{bytes_decides, slice_cmp, nat_list_cmp_total}
 use Rattle.std.specs.FinMap.{FinMap, get}
 use Rattle.std.specs.List.{cons_option}
@@ -14,7 +14,7 @@ use Rattle.basis.specs.Sweeps.{kept}
 use Rattle.basis.proofs.ApartLaws.{get-kept}
 use Rattle.basis.proofs.MapLemmas.{names_apart}
 use Rattle.lifecycle.specs.declared.lapsed.Lapsed.{Lapsed}
-use Rattle.lifecycle.specs.Lapse.{due_at, due_by, lapse, lapse_contact, leaves}
+use Rattle.lifecycle.specs.Lapse.{due_at, due_by, lapse, lapse_contact}
 use Rattle.lifecycle.proofs.ContactLaws.{is_contact_lapse}
 use Rattle.lifecycle.proofs.DueLaws.{lapse-due}
 use Rattle.objects.specs.declared.contact.Contact.{Contact}

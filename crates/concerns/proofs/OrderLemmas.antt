@@ -1,6 +1,6 @@
 -- An order of the operator is answered, and changes the registry, in the same way whether all that is due
 -- has lapsed or what an info of its object concerns.
-use Rattle.std.proofs.Common.{◌≡◌, inl, inr, ℕ, Bool, true, false, cond, List, [], ◌∷◌, Option, Some, None, option_and_then, option_map, refl, sym, ap, ◌∙◌, ℤ}
+use Rattle.std.proofs.Common.{◌≡◌, inr, ℕ, Bool, true, false, cond, List, [], Option, Some, None, option_and_then, option_map, refl, sym, ap, ◌∙◌, ℤ}
 use Rattle.std.specs.FinMap.{get}
 use Rattle.objects.specs.declared.contact.Contact.{Contact}
 use Rattle.objects.specs.declared.domain.Domain.{Domain}
@@ -8,15 +8,14 @@ use Rattle.objects.specs.declared.host.Host.{Host}
 use Rattle.objects.specs.declared.roid.ObjectKind.{ObjectKind}
 use Rattle.objects.specs.declared.roid.ObjectKind.TheVariants as kinds
 use Rattle.policy.specs.Rules.{PolicyRules, place_of}
-use Rattle.protocol.specs.declared.order.Order.{Order}
 use Rattle.protocol.specs.declared.order.Order.TheVariants as orders
 use Rattle.protocol.specs.declared.order.StatusOrder.{StatusOrder}
 use Rattle.protocol.specs.Codes.{is_accepted}
 use Rattle.protocol.specs.Orders.{name_ordered}
 use Rattle.model.specs.declared.object.Object.{Object}
 use Rattle.model.specs.declared.object.Object.TheVariants as objects
-use Rattle.model.specs.Lapse.{Choice, now}
-use Rattle.model.specs.Objects.{object_at, object_ordered}
+use Rattle.model.specs.Lapse.{now}
+use Rattle.model.specs.Objects.{object_at}
 use Rattle.model.specs.Registry.{Registry}
 use Rattle.decisions.specs.declared.change.Change.{Change}
 use Rattle.decisions.specs.declared.order.OrderDecision.{OrderDecision}
@@ -26,7 +25,7 @@ use Rattle.concerns.specs.declared.given.Names.{Names}
 use Rattle.concerns.specs.Concerns.{IsSettledIn, concerned, is_about, is_concerned}
 use Rattle.concerns.specs.ConcernLaws.{IsSettledFor}
 use Rattle.concerns.specs.Names.{named_of, no_names}
-use Rattle.decisions.specs.Orders.{cents_of, decided_order, deposited, deposited_to, order_answer, order_changes, order_decision, order_effect, status_decision}
+use Rattle.decisions.specs.Orders.{cents_of, decided_order, deposited, deposited_to, order_answer, order_changes, order_effect, status_decision}
 use Rattle.concerns.proofs.CommandLemmas.{contact-borne, domain-borne}
 use Rattle.concerns.proofs.ChangeLemmas.{AllSuit, changed-now}
 use Rattle.concerns.proofs.ConcernLemmas.{in-itself}

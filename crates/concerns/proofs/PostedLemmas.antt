@@ -6,7 +6,6 @@ use Rattle.std.specs.FinMap.{FinMap, entries, get}
 use Rattle.std.specs.Ordering.{eq_by_cmp, nat_cmp}
 use Rattle.std.proofs.lemmas.Bool.{or_parts}
 use Rattle.std.proofs.lemmas.Bool.Decides.{nat_tests}
-use Rattle.accounts.specs.declared.account.Account.{Account}
 use Rattle.accounts.specs.declared.entries.Posting.{Posting}
 use Rattle.accounts.specs.Entries.{entered, posted}
 use Rattle.basis.specs.Sweeps.{given, given_list}

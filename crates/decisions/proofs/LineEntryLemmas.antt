@@ -83,9 +83,6 @@ IsOff roid (Notice m) = Unit {0}
 abbrev pub AllOff : Roid → List Posting → Type 0
 AllOff roid es = AllPosted (λ (e : Posting). IsOff roid e.what) es
 
-pub off-both : (roid : Roid) (es fs : List Posting) → AllOff roid es → AllOff roid fs → AllOff roid (es ++ fs)
-off-both roid = posted-both (λ (e : Posting). IsOff roid e.what)
-
 -- what no entry on another domain changes
 abbrev pub IsKeptOff : Roid → (List Line → Type 0) → Type 0
 IsKeptOff roid P = (what : LapseEntry) → IsOff roid what → (ls : List Line) → P ls → P (entered_lines what ls)

@@ -1,9 +1,9 @@
 -- What stands at a name after a map by names was changed.
 use Rattle.std.proofs.Common.{◌≡◌, ◌≢◌, ◌⊎◌, inl, inr, ⊎_elim, ℕ, Bool, true, false, cond, List, [], ◌∷◌, map, Option, Some, None, IsSome, is_some, option_map, refl, sym, ap, ◌∙◌, suc, length, filter, eqb-true, arith}
 use Rattle.std.proofs.Common.{subst₂}
-use Rattle.std.specs.FinMap.{find, get-entries, keys, same_map, slice_cmp-IsAntisymmetric, values, get-remove}
+use Rattle.std.specs.FinMap.{find, get-entries, keys, values, get-remove}
 use Rattle.decisions.proofs.Words.{entries, eq_by_cmp, eq_by_cmp_equiv, Equal-is, FinMap, get, get-insert, insert, is_empty, list_any}
-use Rattle.decisions.proofs.Words.{map_values, nat_cmp, nat_cmp-IsAntisymmetric, nat_list_cmp_total, remove, slice_cmp}
+use Rattle.decisions.proofs.Words.{map_values, nat_cmp, nat_list_cmp_total, remove, slice_cmp}
 use Rattle.decisions.proofs.Words.{cond_both, get-map_values, names_apart, or_parts, same_Some}
 
 -- where no value is, there is none

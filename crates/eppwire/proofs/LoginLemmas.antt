@@ -1,7 +1,7 @@
 -- A login depends on one password.
 use Rattle.std.proofs.Common.{◌≡◌, ℕ, List, Option, Some, None, refl, ap}
 use Rattle.std.specs.Prelude.{if◌then◌else◌, option_and_then}
-use Rattle.policy.specs.Rules.{PolicyRules, is_text, login_at, password_at, place_of}
+use Rattle.policy.specs.Rules.{is_text, login_at, password_at, place_of}
 use Rattle.protocol.specs.declared.code.Code.{Code}
 use Rattle.protocol.specs.declared.code.Code.TheVariants.{UnimplementedVersion}
 use Rattle.eppwire.specs.Answers.{code_by, is_our_version}

@@ -1,5 +1,5 @@
 -- What a policy file is read as, or its first fault: the lines of each `do` are in the order of the faults.
-use Rattle.std.specs.Prelude.{◌≡◌, ℕ, ℤ, pos, Bool, true, false, not, ◌&&◌, ◌||◌, ◌==◌, nat_le, nat_lt, if◌then◌else◌, List, [], ◌∷◌, map, codes, length, Option, Some, None, is_some, is_none, option_and_then, unwrap_or, Result, Ok, Err, ok_or}
+use Rattle.std.specs.Prelude.{◌≡◌, ℕ, ℤ, pos, Bool, true, false, not, ◌&&◌, ◌||◌, ◌==◌, nat_le, nat_lt, if◌then◌else◌, List, [], ◌∷◌, codes, length, Option, Some, None, is_some, is_none, option_and_then, unwrap_or, Result, Ok, Err, ok_or}
 use Rattle.std.specs.Char.{is_ascii_alphanumeric}
 use Rattle.std.specs.FinSet.{from_list}
 use Rattle.std.specs.Int.{is_in_range}

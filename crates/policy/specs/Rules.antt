@@ -1,5 +1,5 @@
 -- The values of a policy, and what is asked of them.
-use Rattle.std.specs.Prelude.{ℕ, zero, suc, ◌+◌, ◌≤◌, ◌<◌, nat_le, Bool, false, if◌then◌else◌, List, [], ◌∷◌, fold, length, map, position, slice_get, Option, Some, None, option_map}
+use Rattle.std.specs.Prelude.{ℕ, zero, suc, ◌+◌, ◌≤◌, ◌<◌, nat_le, Bool, false, if◌then◌else◌, List, [], ◌∷◌, fold, length, position, slice_get, Option, Some, None, option_map}
 use Rattle.std.specs.List.{AllByRecursion, IsDistinct}
 use Rattle.std.specs.Str.{bytes_eq}
 use Rattle.names.specs.Zone.{ZoneRules}

@@ -14,7 +14,7 @@ use Rattle.matchit.specs.Params.{AllText, named, part_of, walk, wild_from, wild_
 use Rattle.matchit.specs.Router.{RouteOf}
 use Rattle.matchit.specs.Rows.{RowsOf, catch_all_token, param_token}
 use Rattle.matchit.specs.Seek as seeks
-use Rattle.matchit.specs.Seek.{first, or_else, own, param_step, seek, step}
+use Rattle.matchit.specs.Seek.{first, or_else, param_step, seek, step}
 use Rattle.rdap.proofs.RequestLemmas.{plain_is_text}
 use Rattle.rdap.specs.Requests.{has_slash, is_segment, name_in, request_at, segment}
 use Rattle.rdap.specs.Routes.{below, name_of, request_for, routes, fixed_route}

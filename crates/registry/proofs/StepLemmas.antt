@@ -1,5 +1,5 @@
 -- One step in a transaction after another.
-use Rattle.std.proofs.Common.{◌≡◌, ◌<◌, ◌⊎◌, true, cond, Result, Ok, Err, refl, sym, subst, ap, ◌∙◌, arith}
+use Rattle.std.proofs.Common.{◌≡◌, ◌<◌, ◌⊎◌, true, cond, Result, Ok, Err, sym, subst, ap, ◌∙◌, arith}
 use Rattle.model.specs.Registry.{Registry}
 use Rattle.registry.specs.inner.Steps.{IsWithin, Works}
 use Rattle.books.specs.Book.{BookFinds, BookReads, BookState, BookStays, BookWrites, Follows, GivesUp, IsBack, LeavesSame, Stored, WentBack}

@@ -1,5 +1,5 @@
 -- Runs leave well formed registries, and their money follows.
-use Rattle.std.proofs.Common.{◌≤◌, ℕ, List, [], ◌∷◌, refl, sym, ap, subst, arith}
+use Rattle.std.proofs.Common.{◌≤◌, ℕ, List, [], ◌∷◌, sym, ap, subst, arith}
 use Rattle.model.specs.Lapse.{now}
 use Rattle.model.specs.Money.{MoneyFollows}
 use Rattle.model.specs.MoneyLaws.{AreCalls}

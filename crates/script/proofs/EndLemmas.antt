@@ -1,5 +1,5 @@
 -- How a run ends.
-use Rattle.std.proofs.Common.{◌≡◌, inl, inr, refl, ◌==◌, ◌++◌, ℕ, cond, List, [], Some, None, IfSome, Ok, ap, subst, ◌∙◌, append-nil}
+use Rattle.std.proofs.Common.{◌≡◌, inl, inr, refl, ◌==◌, ◌++◌, ℕ, cond, List, [], Some, None, IfSome, ap, subst, ◌∙◌, append-nil}
 use Rattle.std.specs.Prelude.{Option}
 use Rattle.std.specs.Io.KnownBytes.{Appends, Keeps, append_known, prepend_known}
 use Rattle.policy.specs.Rules.{PolicyRules}

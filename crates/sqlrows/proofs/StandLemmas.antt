@@ -1,5 +1,5 @@
 -- What a call that fails leaves.
-use Rattle.std.proofs.Common.{cond, OnErr, OnOk, ◌≡◌, inl, inr, ℕ, Bool, true, false, List, Option, Result, Ok, Err, sym, ap, ◌∙◌, subst, MatchBool, true≢false}
+use Rattle.std.proofs.Common.{cond, OnErr, ◌≡◌, inl, inr, ℕ, Bool, true, false, List, Option, Result, Ok, Err, sym, ap, ◌∙◌, subst, MatchBool, true≢false}
 use Rattle.sqlite_value.specs.Order.{Row}
 use Rattle.sqlite_trees.specs.Tree.{Trees}
 use Rattle.sqlite_schema.specs.declared.command.Command.{Command}

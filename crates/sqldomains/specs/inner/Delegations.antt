@@ -1,5 +1,5 @@
 -- What a zone has of the domains that rows mean.
-use Rattle.std.specs.Prelude.{ℕ, List, [], ◌∷◌, map, Option, Some, option_map}
+use Rattle.std.specs.Prelude.{List, [], ◌∷◌, map, Option, Some, option_map}
 use Rattle.std.specs.Cmp.Lexicographic.{slice_cmp}
 use Rattle.std.specs.FinMap.{FinMap, insert, values}
 use Rattle.std.specs.Ordering.{nat_cmp}

@@ -1,8 +1,7 @@
-use Rattle.std.proofs.Common.{◌≡◌, ap, subst, ◌∙◌}
+use Rattle.std.proofs.Common.{subst}
 use Rattle.std.proofs.lemmas.Result.{on_err_weaker, on_ok_weaker}
 use Rattle.std.specs.Io.KnownBytes.{Appends}
 use Rattle.std.specs.List.{flat_map}
-use Rattle.policy.specs.Rules.{PolicyRules}
 use Rattle.streams.proofs.MoveLemmas.{OnErr-from}
 use Rattle.zonefile.specs.ZoneText.{AppendsBeginning, delegation_text, glue_text}
 use Rattle.zonefile.proofs.WriteLemmas.{all_written, delegations_begun, glue_begun, soa_begun}

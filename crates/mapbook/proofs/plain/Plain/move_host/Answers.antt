@@ -1,4 +1,4 @@
-use Rattle.std.proofs.Common.{◌≡◌, ◌∙◌, Some, None, ap, sym}
+use Rattle.std.proofs.Common.{◌∙◌, Some, None, ap}
 use Rattle.books.specs.Tables.{host_moved, host_put}
 use Rattle.books.proofs.RecordsLemmas.{makes-on}
 use Rattle.states.proofs.LeavingLemmas.{leaves-on}

@@ -1,4 +1,4 @@
-use Rattle.std.proofs.Common.{◌≡◌, ◌∙◌, ap, cond, refl, subst, sym}
+use Rattle.std.proofs.Common.{◌∙◌, refl, subst, sym}
 use Rattle.books.proofs.RenameLemmas.{renamed-nowhere, renamed-there}
 use Rattle.books.specs.Book.{Stored}
 use Rattle.states.proofs.LeavingLemmas.{leaves-refl}
