@@ -5,10 +5,10 @@ ghost use Rattle.states.specs.States.{FindsSome};
 ghost use Rattle.sqldomains.specs.inner.Stages as spec;
 
 use crate::links::{are_dated, number_of, registrant_alone, with_links};
-use crate::placing::are_same;
 use basis::list::Seq;
 use objects::Links;
 use sqlite::Alter;
+use sqlobjects::are_same;
 use sqltables::{DomainRow, LinkRow, RowStore};
 use states::BookFault;
 use std::alloc::Global;

@@ -57,6 +57,10 @@ next-added id ts i t a b c within is one two =
     subst (λ l. AreAddressesAdded id l a c) (ap (λ x. take i ts ++ x ∷ []) is ∙ sym (take_more ts i t within)) (more-added id (take i ts) (t ∷ []) a b c one two)
 
 -- those that were added to none
+pub added-put : (id : ℤ) (ts : List (List ℕ)) (a b : Content) → addresses_of a id ≡ [] → AreAddressesAdded id ts a b → AreAddressesPut id ts a b
+added-put id ts a b none add = record { here = add.here ∙ ap (λ l. l ++ ts) none; others = add.others }
+
+-- those that were added after all were removed
 pub addresses-put : (id number : ℤ) (ts : List (List ℕ)) (a b c : Content) → number ≡ id → AreAddressesPut number [] a b → AreAddressesAdded id ts b c → AreAddressesPut id ts a c
 addresses-put id number ts a b c same clear add =
     let one : AreAddressesPut id [] a b = subst (λ k. AreAddressesPut k [] a b) same clear in
@@ -67,3 +71,7 @@ addresses-put id number ts a b c same clear add =
         rest = add.others.rest ∙ ap (λ (x : Content). record x { addresses = c.addresses }) one.others.rest;
       };
     }
+
+-- those that were there
+pub already-put : (id : ℤ) (ts : List (List ℕ)) (a : Content) → addresses_of a id ≡ ts → AreAddressesPut id ts a a
+already-put id ts a is = record { here = is; others = record { hosts = λ other apart. refl; rest = refl } }

@@ -8,7 +8,7 @@ use Rattle.sqltables.specs.inner.Consistent.{IsConsistent}
 use Rattle.sqlrows.specs.Read.{rows_of}
 use Rattle.sqlobjects.specs.inner.Stages.{IsPlaced, IsPlacedAt, IsRowPlaced, NamedTable, rows_named, with_last, with_replaced}
 use Rattle.sqlrows.proofs.ReplaceLemmas.{replaced-is-put}
-use Rattle.sqlobjects.proofs.PutLemmas.{found-added, has-filter, placed-added, placed-put}
+use Rattle.sqlobjects.proofs.PutLemmas.{has-filter, placed-added, placed-put}
 
 module _ {R : Type 0} (t : NamedTable R) where
   -- in the place of the row of its name
@@ -26,16 +26,15 @@ module _ {R : Type 0} (t : NamedTable R) where
         rest = ap (λ l. t.with_rows l xs) (sym (t.rows_are all xs));
       })
 
-  -- after the others, and found again
-  pub added-placed : (xs m : Content) (given row : R) → m ≡ with_last t given xs → rows_named t (t.name given) m ≡ row ∷ [] → IsPlacedAt t None given row xs m
-  added-placed xs m given row content found consistent none =
+  -- after the others, under the number that it gets
+  pub added-placed : (xs m : Content) (given row : R) → m ≡ with_last t given xs → row ≡ t.numbered given (next_key t.key (t.rows xs)) → IsPlacedAt t None given row xs m
+  added-placed xs m given row content is consistent none =
       let k : ℤ = next_key t.key (t.rows xs) in
       let added : R = t.numbered given k in
       let rows : t.rows m ≡ t.rows xs ++ added ∷ [] = ap t.rows content ∙ t.rows_are (t.rows xs ++ added ∷ []) xs in
-      let same : added ≡ row = found-added t.key t.name (t.name given) (t.rows xs) added row (t.name_is given k) none (sym (ap (filter (λ r. bytes_eq (t.name r) (t.name given))) rows) ∙ found) in
       record {
-        is = sym same ∙ ap (t.numbered given) (sym (t.number_is given k) ∙ ap t.key same);
-        rows = subst (λ r. IsPlaced t.name (t.name given) r (t.rows xs) (t.rows m)) same
+        is = is ∙ ap (t.numbered given) (sym (ap t.key is ∙ t.number_is given k));
+        rows = subst (λ r. IsPlaced t.name (t.name given) r (t.rows xs) (t.rows m)) (sym is)
             (subst (IsPlaced t.name (t.name given) added (t.rows xs)) (sym rows) (placed-added t.key t.name (t.name given) (t.rows xs) added (t.name_is given k)));
         rest = content ∙ ap (λ l. t.with_rows l xs) (sym rows);
       }

@@ -9,7 +9,7 @@ use Rattle.std.proofs.lemmas.Bool.Decides.{Decides-int_eq}
 use Rattle.std.proofs.lemmas.Int.{ints}
 use Rattle.sqlite_keyed.specs.Keyed.{IsKeyedBy, get_by, insert_by}
 use Rattle.sqlite_keyed.specs.Lists.{delete_where}
-use Rattle.sqlite_keyed.proofs.KeyedLemmas.{int_eq_apart, key-get_by, same_int}
+use Rattle.sqlite_keyed.proofs.KeyedLemmas.{Less-from_lt, int_eq_apart, key-get_by, same_int}
 use Rattle.sqlite_keyed.proofs.ListLemmas.{filter_none}
 use Rattle.sqlite_rules.specs.Lists.{Has}
 use Rattle.sqlite_typed.specs.Tests.{bytes_eq}
@@ -119,6 +119,23 @@ module _ {P : Type 0} (key : P → ℤ) where
           ap (λ (b : Bool). cond b (p ∷ filter t xs) (filter t xs)) e
           ∙ sym (ap (λ (b : Bool). cond b (x ∷ filter t xs) (filter t xs)) (fails x (inl refl) (same_int (key x) (key p) ((Equal-is (int_cmp (key x) (key p))).1 is))))
       go Greater is more = ap (λ (b : Bool). cond b (p ∷ cond (t x) (x ∷ filter t xs) (filter t xs)) (cond (t x) (x ∷ filter t xs) (filter t xs))) e
+
+  -- a row that passes a test, in the place of the one that passed
+  pub filter-in-place : (t : P → Bool) (xs : List P) (one p : P) → IsKeyedBy key xs → key p ≡ key one → t p ≡ true → filter t xs ≡ one ∷ [] → filter t (insert_by key xs p) ≡ p ∷ []
+  filter-in-place t [] one p up same e found = cc
+  filter-in-place t (x ∷ xs) one p up same e found = go (t x) refl found (filter-in-place t xs one p up.1 same e)
+    where
+      go : (b : Bool) → t x ≡ b → cond b (x ∷ filter t xs) (filter t xs) ≡ one ∷ [] → (filter t xs ≡ one ∷ [] → filter t (insert_by key xs p) ≡ p ∷ [])
+          → filter t (match_ordering (int_cmp (key x) (key p)) (x ∷ insert_by key xs p) (p ∷ xs) (p ∷ x ∷ xs)) ≡ p ∷ []
+      go true passes is more =
+          let here : x ≡ one = cc in
+          let rest : filter t xs ≡ [] = cc in
+          let equal = (Equal-is (int_cmp (key x) (key p))).0 ((Decides-int_eq (key x) (key p)).1 (ap key here ∙ sym same)) in
+          rw (equal, e, rest) refl
+      go false fails is more =
+          let there = (has-filter t xs one (subst (λ l. Has l one) (sym is) (inl refl))).0 in
+          let below : key x <ℤ key p = subst (λ k. key x <ℤ k) (sym same) (all_at (λ y. key x <ℤ key y) xs one up.0 there) in
+          rw (Less-from_lt (key x) (key p) below, fails) (more is)
 
   pub has-get_by : (xs : List P) (id : ℤ) (x : P) → get_by key xs id ≡ Some x → Has xs x
   has-get_by [] id x e = cc
@@ -234,14 +251,6 @@ module _ {P : Type 0} (key : P → ℤ) (name : P → List ℕ) (n : List ℕ) (
     there = has-append xs new;
     others = λ q other. filter-append (λ r. bytes_eq (name r) q) xs new (bytes_apart (name new) n q is other);
   }
-
-  -- what is found by its name after it was added is the one that was added
-  pub found-added : (new row : P) → name new ≡ n → filter named_so xs ≡ [] → filter named_so (xs ++ new ∷ []) ≡ row ∷ [] → new ≡ row
-  found-added new row is none found =
-      first_same (sym (filter-append_pass named_so xs new (bytes_same (name new) n is) ∙ ap (λ l. l ++ new ∷ []) none) ∙ found)
-    where
-      first_same : new ∷ [] ≡ row ∷ [] → new ≡ row
-      first_same e = cc
 
 -- the row of a name is the only one
 pub only_placed : {P : Type 0} (key : P → ℤ) (name : P → List ℕ) (n : List ℕ) (row : P) (old new : List P) → IsPlaced name n row old new → IsKeyedBy key new → IsNamedBy name new

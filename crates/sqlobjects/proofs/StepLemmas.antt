@@ -1,9 +1,10 @@
 -- One step of a change after another.
 use Rattle.std.proofs.Common.{◌≡◌, true, Result, Ok, Err, refl, sym, subst, ◌∙◌}
 use Rattle.states.specs.declared.fault.BookFault.{BookFault}
-use Rattle.states.specs.States.{FindsSome, Reads, StateOf, Writes}
+use Rattle.states.specs.States.{Makes, Reads, StateOf, Writes}
 use Rattle.states.proofs.LeavingLemmas.{leaves-on, leaves-refl}
 use Rattle.sqlrows.specs.Meanings.{HasChanged, Changes}
+use Rattle.sqlrows.proofs.StateLemmas.{stays-on, then-made}
 use Rattle.sqlobjects.specs.inner.Stages.{ChangesGiving}
 
 pub asked-then : {C : Type 0} (step way : C → C → Type 0) (a b c : StateOf C) → Reads a b → HasChanged step b c → (c.is_clean ≡ true → step a.content c.content → way a.content c.content) → HasChanged way a c
@@ -20,6 +21,10 @@ asked-then step way a b c asked made is = record {
 pub made : {C : Type 0} (way : C → C → Type 0) (h : C → C) (a b : StateOf C) → Writes (h a.content) a b → way a.content (h a.content) → HasChanged way a b
 made way h a b write is = record { clean = write.clean; before = write.before; opened = write.opened; content = λ e. subst (way a.content) (sym (write.content e)) is; answers = write.answers; leaves = write.leaves }
 
+-- a write alone, of which what is answered is known only while nothing wrong was taken
+pub wrote : {C : Type 0} (way : C → C → Type 0) (held : C) (a b : StateOf C) → Writes held a b → (b.is_clean ≡ true → b.content ≡ held → way a.content b.content) → HasChanged way a b
+wrote way held a b write is = record { clean = write.clean; before = write.before; opened = write.opened; content = λ e. is e (write.content e); answers = write.answers; leaves = write.leaves }
+
 -- one more write
 pub became-made : {C : Type 0} (step way : C → C → Type 0) (h : C → C) (a b c : StateOf C) → HasChanged step a b → Writes (h b.content) b c
     → (b.is_clean ≡ true → step a.content b.content → way a.content (h b.content)) → HasChanged way a c
@@ -31,19 +36,6 @@ became-made step way h a b c made write is = record {
   answers = λ was. write.answers (made.answers was);
   leaves = leaves-on a b c made.leaves write.leaves;
 }
-
--- a question after it, whose answer is the change's
-pub became-met : {A C : Type 0} (r : Result A BookFault) (step : C → C → Type 0) (is : A → Type 0) (way : A → C → C → Type 0) (a b c : StateOf C) → HasChanged step a b → FindsSome r is b c
-    → ((it : A) → step a.content b.content → is it → way it a.content b.content) → ChangesGiving r way a c
-became-met (Ok it) step is way a b c made met then = record {
-  clean = λ e. made.clean (met.0.clean e);
-  before = λ e. met.0.before e ∙ made.before (met.0.clean e);
-  opened = met.0.opened ∙ made.opened;
-  content = λ e. subst (way it a.content) (sym (met.0.content e)) (then it (made.content (met.0.clean e)) (met.1 e));
-  answers = λ was. met.0.answers (made.answers was);
-  leaves = leaves-on a b c made.leaves met.0.leaves;
-}
-became-met (Err fault) step is way a b c made met then = record { clean = λ e. made.clean (met.clean e); before = λ e. met.before e ∙ made.before (met.clean e); leaves = leaves-on a b c made.leaves met.leaves }
 
 -- a change after a question, which answers for both
 pub asked-brings : {A C : Type 0} (r : Result A BookFault) (step way : A → C → C → Type 0) (a b c : StateOf C) → Reads a b → ChangesGiving r step b c
@@ -69,6 +61,22 @@ became-consistent first second way always a b c one two before after is = record
   answers = λ was. two.answers (one.answers was);
   leaves = leaves-on a b c one.leaves two.leaves;
 }
+
+-- a question, after which nothing has to be done
+pub asked-stood : {C : Type 0} (way : C → C → Type 0) (a b : StateOf C) → Reads a b → a.is_open ≡ true → (b.is_clean ≡ true → way a.content a.content) → HasChanged way a b
+asked-stood way a b asked begun is = record {
+  clean = asked.clean;
+  before = asked.before;
+  opened = asked.opened ∙ begun;
+  content = λ e. subst (way a.content) (sym (asked.content e)) (is e);
+  answers = asked.answers;
+  leaves = asked.leaves;
+}
+
+-- one change after a question
+pub asked-makes : {A C : Type 0} (r : Result A BookFault) (h : C → C) (way : C → C → Type 0) (a b c : StateOf C) → Reads a b → Makes r (h b.content) b c → (b.is_clean ≡ true → way a.content (h a.content)) → Changes r way a c
+asked-makes (Ok done) h way a b c asked makes is = then-made h way a b c asked makes is
+asked-makes (Err fault) h way a b c asked makes is = stays-on a b c asked makes
 
 -- nothing yet
 pub stood : {C : Type 0} (way : C → C → Type 0) (a : StateOf C) → a.is_open ≡ true → way a.content a.content → HasChanged way a a

@@ -1,13 +1,12 @@
--- The last transfer of a contact or a domain, removed and added.
-use Rattle.std.proofs.Common.{◌≡◌, ◌&&◌, ℤ, true, false, List, [], ◌∷◌, ◌++◌, filter, Option, Some, None, IfSome, is_some, option_map, refl, sym, ap, subst, ◌∙◌, int_eq, eqb, length, arith, true≢false}
-use Rattle.std.specs.List.{list_any}
+-- The last transfer of a contact or a domain, removed, replaced and added.
+use Rattle.std.proofs.Common.{◌≡◌, ◌&&◌, inl, inr, ℤ, true, false, [], ◌∷◌, ◌++◌, filter, Option, Some, None, IfSome, is_some, option_map, refl, sym, ap, subst, ◌∙◌, int_eq, true≢false}
+use Rattle.std.specs.Option.{option_map_or}
 use Rattle.std.proofs.Math.Bool.{and_comm}
-use Rattle.std.proofs.lemmas.Bool.Decides.{Decides-eqb, Decides-int_eq}
-use Rattle.sqlite_keyed.specs.Keyed.{next_key}
+use Rattle.std.proofs.lemmas.Bool.Decides.{Decides-int_eq}
+use Rattle.sqlite_keyed.specs.Keyed.{IsKeyedBy, insert_by, next_key}
 use Rattle.sqlite_keyed.specs.Lists.{delete_where}
 use Rattle.sqlite_keyed.specs.Rules.{points_to}
 use Rattle.sqlite_keyed.proofs.KeyedLemmas.{same_int}
-use Rattle.sqlite_keyed.proofs.ListLemmas.{none_from_any}
 use Rattle.sqlite_rules.specs.Lists.{Has}
 use Rattle.objects.specs.declared.transfer.Transfer as object
 use Rattle.sqlcolumns.specs.Transfers.{IsTransfer}
@@ -15,12 +14,13 @@ use Rattle.sqlcolumns.proofs.TransferLemmas.{transfer_back}
 use Rattle.sqltables.specs.Content.{Content}
 use Rattle.sqltables.specs.inner.Content.{transfers_to}
 use Rattle.sqltables.specs.Transfer.{Transfer, transfers}
-use Rattle.sqltables.proofs.RowLemmas.{all_at}
+use Rattle.sqltables.proofs.RowLemmas.{same_by_key}
+use Rattle.sqlrows.specs.Read.{rows_of}
 use Rattle.sqlobjects.specs.declared.transfers.Transferable.{Transferable}
 use Rattle.sqlobjects.specs.declared.transfers.Transferable.TheVariants.{Contact, Domain}
 use Rattle.sqlobjects.specs.Objects.{last_transfer}
-use Rattle.sqlobjects.specs.inner.Transfers.{IsTransferCleared, IsTransferPut, are_same, is_of, maybe_row, names_both, row_of, with_added}
-use Rattle.sqlobjects.proofs.PutLemmas.{filter-append, filter-append_pass, filter-delete, filter-deleted, filter-has}
+use Rattle.sqlobjects.specs.inner.Transfers.{IsRowOf, IsTransferCleared, IsTransferPut, are_same, is_of, maybe_row, names_both, row_of, with_over}
+use Rattle.sqlobjects.proofs.PutLemmas.{filter-append, filter-append_pass, filter-delete, filter-deleted, filter-has, filter-in-place, filter-insert_by, has-filter}
 
 -- ---- whose a row is
 
@@ -41,30 +41,9 @@ alone (Contact id) (Domain other) row single apart is = nowhere row.contact row.
 alone (Domain id) (Contact other) row single apart is = nowhere row.domain row.contact id other (and_comm (is_some row.domain) (is_some row.contact) ∙ single) is
 alone (Domain id) (Domain other) row single apart is = elsewhere row.domain id other apart is
 
--- ---- removed
+-- ---- the row of an object's transfer
 
-no-rows : (rows : List Transfer) → eqb (length rows) 0 ≡ true → rows ≡ []
-no-rows [] short = refl
-no-rows (t ∷ ts) short = let zero : length (t ∷ ts) ≡ 0 = (Decides-eqb (length (t ∷ ts)) 0).0 short in absurd (omega arith)
-
-module _ (it : Transferable) (xs : Content) (rows : List Transfer) (all : rows ≡ filter (is_of it) xs.transfers) where
-  -- there was none
-  pub clear-already : eqb (length rows) 0 ≡ true → IsTransferCleared it xs xs
-  clear-already short = record { none = sym all ∙ no-rows rows short; kept = record { others = λ other apart. refl; rest = refl } }
-
-  pub cleared : list_any names_both rows ≡ false → IsTransferCleared it xs (transfers_to (delete_where (is_of it)) xs)
-  cleared single = record {
-    none = filter-deleted (is_of it) (is_of it) xs.transfers (λ t h e. e);
-    kept = record {
-      others = λ other apart. filter-delete (is_of other) (is_of it) xs.transfers (λ t h e.
-          alone it other t (all_at (λ (row : Transfer). names_both row ≡ false) rows t (none_from_any names_both rows single) (subst (λ l. Has l t) (sym all) (filter-has (is_of it) xs.transfers t h e))) apart e);
-      rest = refl;
-    };
-  }
-
--- ---- added
-
--- the row of an object's transfer under a number
+-- under a number
 module _ (k : ℤ) (t : object.Transfer) (is : IsTransfer t) where
   abbrev row_under : Transferable → Transfer
   row_under it = record (row_of it t) { id = k }
@@ -81,20 +60,66 @@ module _ (k : ℤ) (t : object.Transfer) (is : IsTransfer t) where
   read-back (Contact id) = ap (option_map Some) (transfer_back k (Some id) None t is)
   read-back (Domain id) = ap (option_map Some) (transfer_back k None (Some id) t is)
 
--- a row of the object's after the others
-pub transfer-put : (it : Transferable) (xs m : Content) (transfer : Option object.Transfer) (row : Option Transfer) → row ≡ maybe_row it transfer → IfSome transfer IsTransfer
-    → IsTransferCleared it xs m → IsTransferPut it transfer xs (transfers_to (with_added row) m)
-transfer-put it xs m transfer row given is clear = subst (λ r. IsTransferPut it transfer xs (transfers_to (with_added r) m)) (sym given) (go transfer is)
+-- ---- removed, replaced and added
+
+-- there was none
+pub clear-already : (it : Transferable) (xs : Content) → filter (is_of it) xs.transfers ≡ [] → IsTransferCleared it xs xs
+clear-already it xs none = record { none = none; kept = record { others = λ other apart. refl; rest = refl } }
+
+module _ (it : Transferable) (xs : Content) (one : Transfer) (found : filter (is_of it) xs.transfers ≡ one ∷ []) (single : names_both one ≡ false) where
+  the-one : (t : Transfer) → Has xs.transfers t → is_of it t ≡ true → t ≡ one
+  the-one t h e = elim (subst (λ l. Has l t) found (filter-has (is_of it) xs.transfers t h e)) [ inl same ↦ same | inr none ↦ absurd none ]
+
+  cleared : IsTransferCleared it xs (transfers_to (delete_where (is_of it)) xs)
+  cleared = record {
+    none = filter-deleted (is_of it) (is_of it) xs.transfers (λ t h e. e);
+    kept = record {
+      others = λ other apart. filter-delete (is_of other) (is_of it) xs.transfers (λ t h e. alone it other t (ap names_both (the-one t h e) ∙ single) apart e);
+      rest = refl;
+    };
+  }
+
+  replaced : IsKeyedBy transfers.key xs.transfers → (t : object.Transfer) (is : IsTransfer t) → IsTransferPut it (Some t) xs (transfers_to (λ rows. insert_by transfers.key rows (row_under one.id t is it)) xs)
+  replaced keyed t is =
+      let row : Transfer = row_under one.id t is it in
+      let there = has-filter (is_of it) xs.transfers one (subst (λ l. Has l one) (sym found) (inl refl)) in
+      record {
+        last = ap last_transfer (filter-in-place transfers.key (is_of it) xs.transfers one row keyed refl (own-row one.id t is it) found) ∙ read-back one.id t is it;
+        kept = record {
+          others = λ other apart. filter-insert_by transfers.key (is_of other) xs.transfers row (alone it other row (single-row one.id t is it) apart (own-row one.id t is it))
+              (λ x h e. ap (is_of other) (same_by_key transfers.key xs.transfers x one keyed h there.0 e) ∙ alone it other one single apart there.1);
+          rest = refl;
+        };
+      }
+
+-- whatever was there
+pub transfer-cleared : (it : Transferable) (xs : Content) (there : Option Transfer) → IsRowOf it xs.transfers there → IsTransferCleared it xs (transfers_to (delete_where (is_of it)) xs)
+transfer-cleared it xs None of = record {
+  none = filter-deleted (is_of it) (is_of it) xs.transfers (λ t h e. e);
+  kept = record {
+    others = λ other apart. filter-delete (is_of other) (is_of it) xs.transfers (λ t h e. absurd (subst (λ l. Has l t) of.is (filter-has (is_of it) xs.transfers t h e)));
+    rest = refl;
+  };
+}
+transfer-cleared it xs (Some one) of = cleared it xs one of.is of.alone
+
+pub transfer-put : (it : Transferable) (xs : Content) (transfer : Option object.Transfer) (there row : Option Transfer) → row ≡ maybe_row it transfer → IfSome transfer IsTransfer
+    → IsRowOf it xs.transfers there → IsKeyedBy transfers.key xs.transfers → IsTransferPut it transfer xs (transfers_to (with_over it there row) xs)
+transfer-put it xs transfer there row given is of keyed =
+    subst (λ r. IsTransferPut it transfer xs (transfers_to (with_over it there r) xs)) (sym given) (go there transfer is of.is of.alone)
   where
-    go : (transfer : Option object.Transfer) → IfSome transfer IsTransfer → IsTransferPut it transfer xs (transfers_to (with_added (maybe_row it transfer)) m)
-    go None is = record { last = ap last_transfer clear.none; kept = clear.kept }
-    go (Some t) is =
-        let k = next_key transfers.key m.transfers in
+    go : (there : Option Transfer) (transfer : Option object.Transfer) → IfSome transfer IsTransfer → filter (is_of it) xs.transfers ≡ rows_of there → option_map_or names_both there false ≡ false
+        → IsTransferPut it transfer xs (transfers_to (with_over it there (maybe_row it transfer)) xs)
+    go None None is none single = record { last = ap last_transfer none; kept = (clear-already it xs none).kept }
+    go None (Some t) is none single =
+        let k = next_key transfers.key xs.transfers in
         let row : Transfer = row_under k t is it in
         record {
-          last = ap last_transfer (filter-append_pass (is_of it) m.transfers row (own-row k t is it) ∙ ap (λ rows. rows ++ row ∷ []) clear.none) ∙ read-back k t is it;
+          last = ap last_transfer (filter-append_pass (is_of it) xs.transfers row (own-row k t is it) ∙ ap (λ rows. rows ++ row ∷ []) none) ∙ read-back k t is it;
           kept = record {
-            others = λ other apart. filter-append (is_of other) m.transfers row (alone it other row (single-row k t is it) apart (own-row k t is it)) ∙ clear.kept.others other apart;
-            rest = ap (transfers_to (with_added (maybe_row it (Some t)))) clear.kept.rest;
+            others = λ other apart. filter-append (is_of other) xs.transfers row (alone it other row (single-row k t is it) apart (own-row k t is it));
+            rest = refl;
           };
         }
+    go (Some one) None is found single = let clear = cleared it xs one found single in record { last = ap last_transfer clear.none; kept = clear.kept }
+    go (Some one) (Some t) is found single = replaced it xs one found single keyed t is

@@ -68,7 +68,7 @@ pub(crate) fn number_of(row: &HostRow) -> Number
     Number::new(row.id)
 }
 
-fn texts_of(alloc: Global, rows: Seq<AddressRow>) -> Result<Seq<Text>, AllocError>
+pub(crate) fn texts_of(alloc: Global, rows: Seq<AddressRow>) -> Result<Seq<Text>, AllocError>
     ensures { IfOk result (λ texts. texts ≡ spec.texts_of rows) }
 {
     let mut texts = Seq::new(alloc);

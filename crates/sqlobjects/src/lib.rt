@@ -26,6 +26,7 @@ mod named_rows;
 mod sponsors;
 mod transfers;
 
+pub use addresses::are_same;
 pub use contact_changes::{drop_contact, put_contact};
 pub use contacts::{contact, contact_of, has_contact};
 pub use host_changes::{drop_host, put_host};

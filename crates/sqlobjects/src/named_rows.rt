@@ -1,6 +1,6 @@
 //! Rows of the tables in which each row has a name, and no name comes twice: found by name, and put under
 //! the number that a row of the name has, or else added.
-ghost use Rattle.std.specs.Prelude.{◌≡◌, true, [], ◌∷◌, Some, None};
+ghost use Rattle.std.specs.Prelude.{◌≡◌, true, Some, None};
 ghost use Rattle.states.specs.States.{FindsSome};
 ghost use Rattle.sqlrows.specs.Read.{rows_of};
 ghost use Rattle.sqlobjects.specs.inner.Stages.{ChangesGiving, IsPlacedAt, rows_named};
@@ -14,7 +14,8 @@ use states::BookFault;
 
 /// A row of such a table.
 pub trait NamedRow: Sized + Drop {
-    ghost use Rattle.std.specs.Prelude.{◌≡◌, true};
+    ghost use Rattle.std.specs.Prelude.{◌≡◌, true, IfOk};
+    ghost use Rattle.sqlite_keyed.specs.Keyed.{next_key};
     ghost use Rattle.states.specs.States.{Finds, Makes};
     ghost use Rattle.sqlobjects.specs.inner.Stages.{NamedTable, rows_named, with_last, with_replaced};
 
@@ -24,9 +25,12 @@ pub trait NamedRow: Sized + Drop {
     fn name(&self) -> &str
         ensures { result.now ≡ table.name self.now };
 
-    /// Takes another row's number.
-    fn take_number(&mut self, other: &Self)
-        ensures { self.new ≡ table.numbered self.old (table.key other.now) };
+    fn id(&self) -> i64
+        ensures { result ≡ table.key self.now };
+
+    /// Takes this number.
+    fn set_id(&mut self, id: i64)
+        ensures { self.new ≡ table.numbered self.old id };
 
     /// Those of a name.
     fn by_name<S: Alter>(store: &mut RowStore<S>, name: &str) -> Result<Seq<Self>, BookFault>
@@ -37,10 +41,13 @@ pub trait NamedRow: Sized + Drop {
         requires { store.old.is_open ≡ true }
         ensures { Makes result (with_replaced table self.now store.old.content) store.old store.new };
 
-    /// Adds it at the end, with the number after the last one.
-    fn append<S: Alter>(&self, store: &mut RowStore<S>) -> Result<(), BookFault>
+    /// Adds it at the end, with the number after the last one, and answers that number.
+    fn append<S: Alter>(&self, store: &mut RowStore<S>) -> Result<i64, BookFault>
         requires { store.old.is_open ≡ true }
-        ensures { Makes result (with_last table self.now store.old.content) store.old store.new };
+        ensures made { Makes result (with_last table self.now store.old.content) store.old
+            store.new }
+        ensures numbered { IfOk result (λ id. store.new.is_clean ≡ true
+            → id ≡ next_key table.key (table.rows store.old.content)) };
 }
 
 impl NamedRow for ContactRow {
@@ -52,8 +59,12 @@ impl NamedRow for ContactRow {
         self.name.as_str()
     }
 
-    fn take_number(&mut self, other: &ContactRow) {
-        self.id = other.id;
+    fn id(&self) -> i64 {
+        self.id
+    }
+
+    fn set_id(&mut self, id: i64) {
+        self.id = id;
     }
 
     fn by_name<S: Alter>(
@@ -67,7 +78,7 @@ impl NamedRow for ContactRow {
         store.replace_contact(self)
     }
 
-    fn append<S: Alter>(&self, store: &mut RowStore<S>) -> Result<(), BookFault> {
+    fn append<S: Alter>(&self, store: &mut RowStore<S>) -> Result<i64, BookFault> {
         store.append_contact(self)
     }
 }
@@ -81,8 +92,12 @@ impl NamedRow for HostRow {
         self.name.as_str()
     }
 
-    fn take_number(&mut self, other: &HostRow) {
-        self.id = other.id;
+    fn id(&self) -> i64 {
+        self.id
+    }
+
+    fn set_id(&mut self, id: i64) {
+        self.id = id;
     }
 
     fn by_name<S: Alter>(store: &mut RowStore<S>, name: &str) -> Result<Seq<HostRow>, BookFault> {
@@ -93,7 +108,7 @@ impl NamedRow for HostRow {
         store.replace_host(self)
     }
 
-    fn append<S: Alter>(&self, store: &mut RowStore<S>) -> Result<(), BookFault> {
+    fn append<S: Alter>(&self, store: &mut RowStore<S>) -> Result<i64, BookFault> {
         store.append_host(self)
     }
 }
@@ -107,8 +122,12 @@ impl NamedRow for DomainRow {
         self.name.as_str()
     }
 
-    fn take_number(&mut self, other: &DomainRow) {
-        self.id = other.id;
+    fn id(&self) -> i64 {
+        self.id
+    }
+
+    fn set_id(&mut self, id: i64) {
+        self.id = id;
     }
 
     fn by_name<S: Alter>(store: &mut RowStore<S>, name: &str) -> Result<Seq<DomainRow>, BookFault> {
@@ -119,7 +138,7 @@ impl NamedRow for DomainRow {
         store.replace_domain(self)
     }
 
-    fn append<S: Alter>(&self, store: &mut RowStore<S>) -> Result<(), BookFault> {
+    fn append<S: Alter>(&self, store: &mut RowStore<S>) -> Result<i64, BookFault> {
         store.append_domain(self)
     }
 }
@@ -132,17 +151,7 @@ pub fn row_named<R: NamedRow, S: Alter>(
     ensures { FindsSome result (λ row. rows_named R.table name.now store.old.content ≡ rows_of row)
         store.old store.new }
 {
-    row_with(store, name.as_str())
-}
-
-fn row_with<R: NamedRow, S: Alter>(
-    store: &mut RowStore<S>,
-    name: &str,
-) -> Result<Option<R>, BookFault>
-    ensures { FindsSome result (λ row. rows_named R.table name.now store.old.content ≡ rows_of row)
-        store.old store.new }
-{
-    let rows = R::by_name(store, name)?;
+    let rows = R::by_name(store, name.as_str())?;
     only(rows)
 }
 
@@ -172,7 +181,7 @@ fn put_row<R: NamedRow, S: Alter>(
     ensures { ChangesGiving result (IsPlacedAt R.table (Some found.now) row) store.old store.new }
 {
     let mut row = row;
-    row.take_number(found);
+    row.set_id(found.id());
     row.replace(store)?;
     Ok(row)
 }
@@ -182,17 +191,8 @@ fn add_row<R: NamedRow, S: Alter>(store: &mut RowStore<S>, row: R) -> Result<R, 
     requires { store.old.is_open ≡ true }
     ensures { ChangesGiving result (IsPlacedAt R.table None row) store.old store.new }
 {
-    row.append(store)?;
-    row_there(store, row.name())
-}
-
-/// The row of this name, which has to be there.
-fn row_there<R: NamedRow, S: Alter>(store: &mut RowStore<S>, name: &str) -> Result<R, BookFault>
-    ensures { FindsSome result (λ row. rows_named R.table name.now store.old.content ≡ row ∷ [])
-        store.old store.new }
-{
-    match row_with(store, name)? {
-        None => Err(BookFault::Store),
-        Some(row) => Ok(row),
-    }
+    let mut row = row;
+    let id = row.append(store)?;
+    row.set_id(id);
+    Ok(row)
 }

@@ -1,9 +1,9 @@
 //! The last transfer of a contact or a domain.
-ghost use Rattle.std.specs.Prelude.{◌≡◌, true, [], filter, IfOk, IfSome};
-ghost use Rattle.std.specs.List.{list_any};
+ghost use Rattle.std.specs.Prelude.{◌≡◌, true, false, [], filter, Some, IfOk, IfSome};
+ghost use Rattle.std.specs.Option.{option_map_or};
 ghost use Rattle.sqlite_keyed.specs.Lists.{delete_where};
 ghost use Rattle.sqlcolumns.specs.Transfers.{IsTransfer};
-ghost use Rattle.states.specs.States.{Finds, Makes};
+ghost use Rattle.states.specs.States.{Finds, FindsSome, Makes};
 ghost use Rattle.sqlrows.specs.Meanings.{Changes};
 ghost use Rattle.sqltables.specs.inner.Content.{transfers_to};
 ghost use Rattle.sqlobjects.specs.inner.Transfers as spec;
@@ -12,7 +12,7 @@ use basis::list::Seq;
 use objects::Transfer;
 use sqlcolumns::{is_transfer, transfer_row};
 use sqlite::Alter;
-use sqlrows::Number;
+use sqlrows::{Number, only};
 use sqltables::{ContactRow, DomainRow, RowStore, TransferRow};
 use states::BookFault;
 
@@ -39,7 +39,7 @@ impl Transferable {
     }
 }
 
-/// Removes the transfers of this object. One that is another's too is refused.
+/// Removes the transfer of this object. One that is another's too is refused.
 pub fn clear_transfer<S: Alter>(
     store: &mut RowStore<S>,
     object: Transferable,
@@ -47,15 +47,11 @@ pub fn clear_transfer<S: Alter>(
     requires { store.old.is_open ≡ true }
     ensures { Changes result (spec.IsTransferCleared object) store.old store.new }
 {
-    let rows = rows_of(store, object)?;
-    if rows.is_empty() {
-        return Ok(());
+    let there = row_there(store, object)?;
+    match there {
+        None => Ok(()),
+        Some(_) => remove_rows(store, object),
     }
-    if name_both(rows.as_slice()) {
-        return Err(BookFault::Store);
-    }
-    remove_rows(store, object)?;
-    Ok(())
 }
 
 /// Gives an object its last transfer, or none, in place of the one that it had.
@@ -68,9 +64,45 @@ fn put_transfer<S: Alter>(
     ensures { Changes result (spec.IsTransferPut object transfer.now) store.old store.new }
 {
     let row = maybe_row(object, transfer)?;
-    clear_transfer(store, object)?;
-    add_row(store, row)?;
-    Ok(())
+    let there = row_there(store, object)?;
+    store.show_consistent();
+    put_over(store, object, there, row)
+}
+
+/// This row is of the object's transfer, or none, in place of the one that was.
+fn put_over<S: Alter>(
+    store: &mut RowStore<S>,
+    object: Transferable,
+    there: Option<TransferRow>,
+    row: Option<TransferRow>,
+) -> Result<(), BookFault>
+    requires { store.old.is_open ≡ true }
+    ensures { Makes result (transfers_to (spec.with_over object there row) store.old.content) store.old
+        store.new }
+{
+    match there {
+        None => add_row(store, row),
+        Some(there) => put_row(store, object, &there, row),
+    }
+}
+
+/// The same over a row that is there, whose number stays.
+fn put_row<S: Alter>(
+    store: &mut RowStore<S>,
+    object: Transferable,
+    there: &TransferRow,
+    row: Option<TransferRow>,
+) -> Result<(), BookFault>
+    requires { store.old.is_open ≡ true }
+    ensures { Makes result (transfers_to (spec.with_over object (Some there.now) row) store.old.content)
+        store.old store.new }
+{
+    let Some(row) = row else {
+        return remove_rows(store, object);
+    };
+    let mut row = row;
+    row.id = there.id;
+    store.put_transfer(&row)
 }
 
 /// The same, where an object's row is new: then it has no transfer, so none is looked for.
@@ -87,6 +119,31 @@ pub fn put_last_transfer<S: Alter>(
     match transfer {
         None if is_new => Ok(()),
         _ => put_transfer(store, object, transfer),
+    }
+}
+
+/// The row of the object's transfer, if there is one. One that is another's too is refused.
+fn row_there<S: Alter>(
+    store: &mut RowStore<S>,
+    object: Transferable,
+) -> Result<Option<TransferRow>, BookFault>
+    ensures { FindsSome result (spec.IsRowOf object store.old.content.transfers) store.old store.new }
+{
+    let rows = rows_of(store, object)?;
+    let row = only(rows)?;
+    if names_both(&row) {
+        return Err(BookFault::Store);
+    }
+    Ok(row)
+}
+
+/// Whether it is of a contact and of a domain.
+fn names_both(row: &Option<TransferRow>) -> bool
+    ensures { result ≡ option_map_or spec.names_both row.now false }
+{
+    match row {
+        None => false,
+        Some(row) => row.contact.is_some() && row.domain.is_some(),
     }
 }
 
@@ -153,12 +210,4 @@ fn row_of(object: Transferable, transfer: &Transfer) -> TransferRow
         Transferable::Contact(id) => transfer_row(0, Some(id), None, transfer),
         Transferable::Domain(id) => transfer_row(0, None, Some(id), transfer),
     }
-}
-
-/// Whether one of these is of a contact and of a domain.
-fn name_both(rows: &[TransferRow]) -> bool
-    ensures { result ≡ list_any spec.names_both rows.now }
-{
-    rows.iter()
-        .any(|row| row.contact.is_some() && row.domain.is_some())
 }

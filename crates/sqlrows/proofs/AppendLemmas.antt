@@ -9,17 +9,17 @@ use Rattle.sqlite_schema.specs.declared.schema.Schema.{Schema}
 use Rattle.sqlite_schema.specs.declared.command.Source.TheVariants.{Values}
 use Rattle.sqlite_rules.specs.declared.error.Rowids.TheVariants.{Chosen}
 use Rattle.sqlite_rules.specs.Cast.{cast_row}
-use Rattle.sqlite_rules.specs.Edit.{id_in, next_rowid, with_rowid, edit_of, edited}
+use Rattle.sqlite_rules.specs.Edit.{id_in, next_rowid, with_rowid, numbered as with_rowids, edit_of, edited}
 use Rattle.sqlite_typed.proofs.RowLemmas.{puts-map}
 use Rattle.sqlite_keyed.specs.Keyed.{IsKeyedBy, insert_by, next_key}
 use Rattle.sqlite_keyed.proofs.KeyedLemmas.{IsKeyedBy-insert_by}
 use Rattle.sqlite_keyed.proofs.SliceLemmas.{insert_next}
 use Rattle.sqlite.specs.Effect.{Database}
-use Rattle.sqlite.specs.Rows.{Written, Task, Inserts, rowids_for, count_of}
+use Rattle.sqlite.specs.Rows.{Written, Task, Inserts, rowids_for, count_of, last_id}
 use Rattle.sqlite.specs.Does.{Does, Tally}
 use Rattle.sqlrows.specs.Layouts.{Layout}
 use Rattle.sqlrows.specs.inner.Layouts.{Leads, steady, Holds, Sets, Listed, IsAppend, Numbers, appended}
-use Rattle.sqlrows.proofs.WriteLemmas.{went, same_value, concluded, task_of, left, applies, sets}
+use Rattle.sqlrows.proofs.WriteLemmas.{went, same_value, concluded, noted, task_of, left, applies, sets}
 use Rattle.sqlrows.proofs.PutLemmas.{not_counted}
 
 -- the rowid that is chosen is the next key
@@ -72,13 +72,27 @@ module _ {X : Type 0} (L : Layout X) (schema : Schema) (at : ℕ) (table : Table
         sets L schema at table listed db new edit written.0 _ refl (applies schema db written.0 edit listed.quiet written.1) (now ∙ ap (left schema) (trees ∙ kept)) rows
         (subst (IsKeyedBy L.key) (at_end h.keyed) (IsKeyedBy-insert_by L.key xs last h.keyed))
 
+    -- the rowid that is noted is the next key
+    numbered_last : (w : Written) → Inserts task (Values terms (length terms)) db (Ok w) → w.last ≡ Some (next_key L.key xs)
+    numbered_last w it =
+        let sourced = went it in
+        let rows_are : sourced.0 ≡ bare ∷ [] = sourced.1.1 ∙ numbers.values x in
+        let counted = went sourced.2 in
+        let top = count_of counted.0 in
+        let counts = went (went counted.2).2 in
+        ap (λ (done : Written). done.last) (same_value counts.2)
+        ∙ ap (λ rs. last_id (with_rowids (rowids_for table top) (db table.tree) (map (λ s. cast_row table (drop 0 s)) rs))) rows_are
+        ∙ ap (λ (r : Row). Some (id_in (rowid r))) (row_is top)
+        ∙ ap (λ v. Some (id_in v)) (L.keyed last) ∙ ap Some (key_is x (next_key L.key xs))
+
 appends_rows : (sql : List ℕ) (params : Row) (limit : Option ℕ) (text : List ℕ) (schema : Schema) (at : ℕ) (table : Table) (terms : List Term) (db : Trees) (tally : Tally) (after : Database)
     → slice_get schema.tables at ≡ Some table → IsAppend schema sql at terms → Leads schema sql params limit text db tally after
-    → (w : Written) × Inserts (task_of limit schema table params) (Values terms (length terms)) db (Ok w) × (after ≡ left schema w.trees)
+    → (w : Written) × Inserts (task_of limit schema table params) (Values terms (length terms)) db (Ok w) × (after ≡ left schema w.trees) × (tally.last ≡ w.last)
 appends_rows sql params limit text schema at table terms db tally after place is ran =
     let done = subst (λ k. Does limit steady params (left schema db) text None k (Ok (tally, after))) is.command ran in
     let found = went (rw place at done) in
-    (found.0, found.1, concluded (task_of limit schema table params) steady found.0 (tally, after) found.2)
+    let task = task_of limit schema table params in
+    (found.0, found.1, concluded task steady found.0 (tally, after) found.2, noted task steady found.0 (tally, after) found.2)
 
 module _ {X : Type 0} (L : Layout X) (schema : Schema) (at : ℕ) (table : Table) (listed : Listed L schema at table) (terms : List Term) (params : X → Row) (numbered : X → ℤ → X) (numbers : Numbers L table terms params numbered) where
   pub appends : (sql : List ℕ) (x : X) → IsAppend schema sql at terms → (limit : Option ℕ) (text : List ℕ) (db : Trees) (tally : Tally) (after : Database) (xs : List X) → Holds L db xs
@@ -86,3 +100,9 @@ module _ {X : Type 0} (L : Layout X) (schema : Schema) (at : ℕ) (table : Table
   appends sql x is limit text db tally after xs h ran =
       let it = appends_rows sql (params x) limit text schema at table terms db tally after listed.is is ran in
       inserted L schema at table listed terms params numbered numbers limit db xs h x it.0 after it.1 it.2
+
+  pub appends_last : (sql : List ℕ) (x : X) → IsAppend schema sql at terms → (limit : Option ℕ) (text : List ℕ) (db : Trees) (tally : Tally) (after : Database) (xs : List X) → Holds L db xs
+      → Leads schema sql (params x) limit text db tally after → tally.last ≡ Some (next_key L.key xs)
+  appends_last sql x is limit text db tally after xs h ran =
+      let it = appends_rows sql (params x) limit text schema at table terms db tally after listed.is is ran in
+      it.3 ∙ numbered_last L schema at table listed terms params numbered numbers limit db xs h x it.0 it.1

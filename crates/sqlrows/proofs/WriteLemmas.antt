@@ -43,6 +43,10 @@ pub concluded : (task : Task) (mode : _) (w : Written) (out : Tally × Database)
 concluded task mode w out h =
     ap (λ (p : Tally × Database). p.1) (same_value (went (went h).2).2)
 
+-- and the rowid that is noted is that of its last row
+pub noted : (task : Task) (mode : _) (w : Written) (out : Tally × Database) → Concludes task mode None w (Ok out) → out.0.last ≡ w.last
+noted task mode w out h = ap (λ (p : Tally × Database). p.0.last) (same_value (went (went h).2).2)
+
 module _ {X : Type 0} (L : Layout X) (filters project : List Term) (params : Row) (p : X → Bool) (tests : (x : X) → list_all (holds (params ∷ L.to_row x ∷ [])) filters ≡ p x) where
   -- the rows that are chosen to be written, in some order
   pub chosen : (db : Trees) (xs : List X) (rows : List Row) → Holds L db xs → IsAnswer (chosen_query L.tree filters project) (overlay db []) params rows

@@ -1,5 +1,6 @@
 -- What a statement that writes rows makes of them, and what it leaves.
-use Rattle.std.proofs.Common.{◌≡◌, ◌&&◌, ℕ, Bool, true, List, None, Ok, Err, IsTrue, refl, sym, ap, subst, ◌∙◌, true≢false}
+use Rattle.std.proofs.Common.{◌≡◌, ◌&&◌, ℕ, ℤ, Bool, true, List, Option, None, Ok, Err, IsTrue, refl, sym, ap, subst, ◌∙◌, true≢false}
+use Rattle.std.specs.Prelude.{unwrap_or}
 use Rattle.std.proofs.lemmas.Bool.{and_parts}
 use Rattle.sqlite_value.specs.Order.{Row}
 use Rattle.sqlite_trees.specs.Tree.{Trees}
@@ -27,7 +28,7 @@ use Rattle.sqltables.specs.declared.form.Form.{Form}
 use Rattle.sqltables.specs.declared.form.Form.TheVariants.{Unused, Making, Made, Other}
 use Rattle.states.specs.States.{Remains, Writes}
 use Rattle.sqltables.specs.inner.Answers.{AreRight, Recalls}
-use Rattle.sqltables.specs.inner.Statements.{Alters, AreOthersSame}
+use Rattle.sqltables.specs.inner.Statements.{Alters, Appends, AreOthersSame}
 use Rattle.sqltables.specs.inner.Stored.{Agrees, Bears, Fits, HoldsRows, has_rows, rows_in, store_state, undone}
 use Rattle.sqltables.proofs.AskingLemmas.{holds-now, rows-are}
 use Rattle.sqltables.proofs.DecodingLemmas.{decoded}
@@ -35,13 +36,13 @@ use Rattle.sqltables.proofs.StandingLemmas.{answered-open, clean-of, honest, lea
 
 -- what a command that writes rows did
 changed-by : (old new : State) (command : Command) (text : List ℕ) (params : Row) (count : ℕ) → writes_tables command ≡ true → Runs old new None command text params count
-    → (tally : Tally) × Does old.step_limit (mode_of old) params old.now text None command (Ok (tally, new.now))
-changed-by old new (Insert at from) text params count kind w = (w.tally, w.changed)
-changed-by old new (InsertOr at way from clauses) text params count kind w = (w.tally, w.changed)
-changed-by old new (Update at q) text params count kind w = (w.tally, w.changed)
-changed-by old new (Delete at q) text params count kind w = (w.tally, w.changed)
-changed-by old new CreateTable text params count kind w = (w.tally, w.changed)
-changed-by old new (CreateIndex at) text params count kind w = (w.tally, w.changed)
+    → (tally : Tally) × Does old.step_limit (mode_of old) params old.now text None command (Ok (tally, new.now)) × (new.last_rowid ≡ unwrap_or tally.last old.last_rowid)
+changed-by old new (Insert at from) text params count kind w = (w.tally, w.changed, w.last_rowid)
+changed-by old new (InsertOr at way from clauses) text params count kind w = (w.tally, w.changed, w.last_rowid)
+changed-by old new (Update at q) text params count kind w = (w.tally, w.changed, w.last_rowid)
+changed-by old new (Delete at q) text params count kind w = (w.tally, w.changed, w.last_rowid)
+changed-by old new CreateTable text params count kind w = (w.tally, w.changed, w.last_rowid)
+changed-by old new (CreateIndex at) text params count kind w = (w.tally, w.changed, w.last_rowid)
 changed-by old new _ text params count kind w = absurd (true≢false (sym kind))
 
 bears-written : (form : Form) (was now committed after : Database) → has_rows form ≡ true → Bears form was committed → HoldsRows now → after ≡ committed → Bears form now after
@@ -75,14 +76,14 @@ module _ (tree : ℕ) (sql : List ℕ) (params : Row) (form : Form) (old new : S
         let h = holds-now form old.now old.committed rows it.bears in
         subst (λ (s : Schema). IsContent (contents old.now.trees) (record { schema = s; trees = old.now.trees })) h.schema h
 
-    led : HasCleanDisk new → Agrees form true old → (tally : Tally) × Leads registry sql params old.step_limit (statement_of sql (understood registry sql)) old.now.trees tally new.now
+    led : HasCleanDisk new → Agrees form true old → (tally : Tally) × Leads registry sql params old.step_limit (statement_of sql (understood registry sql)) old.now.trees tally new.now × (new.last_rowid ≡ unwrap_or tally.last old.last_rowid)
     led clean it =
         let h = holds-now form old.now old.committed rows it.bears in
         let command = command_of (understood registry sql) in
         let runs = runs_as sql params old new registry h.schema command (same_command (understood registry sql)) alters.plain count (ran clean) in
         let text = statement_of sql (understood registry sql) in
         let did = changed-by old new command text params count alters.writes runs in
-        (did.0, subst (λ (s : Schema). Does old.step_limit (mode_of old) params (record { schema = s; trees = old.now.trees }) text None command (Ok (did.0, new.now))) h.schema did.1)
+        (did.0, subst (λ (s : Schema). Does old.step_limit (mode_of old) params (record { schema = s; trees = old.now.trees }) text None command (Ok (did.0, new.now))) h.schema did.1, did.2)
 
     made : HasCleanDisk new → Agrees form true old → IsContent (f (contents old.now.trees)) new.now
     made clean it =
@@ -96,6 +97,14 @@ module _ (tree : ℕ) (sql : List ℕ) (params : Row) (form : Form) (old new : S
         let led = led clean it in
         leaves old.now.trees new.now.trees (alters.others old.step_limit _ old.now.trees led.0 new.now (contents old.now.trees) (was-content it) led.1)
         (was (was-honest old new P survives clean) (executed_open sql params old new (Ok count) (ran clean) opened))
+
+    -- the number that the connection has noted is that of the row that was added
+    pub numbered : (number : Content → ℤ) → Appends tree sql params f number → HasCleanDisk new → IsTrue new.is_open → new.last_rowid ≡ number (rows_in form old.now.trees)
+    numbered number appends clean opened =
+        let it = agreed clean opened in
+        let led = led clean it in
+        led.2 ∙ ap (λ (o : Option ℤ). unwrap_or o old.last_rowid) (appends.last old.step_limit _ old.now.trees led.0 new.now (contents old.now.trees) (was-content it) led.1)
+        ∙ ap number (sym (rows-are form old.now.trees rows))
 
     stayed : HasCleanDisk new → Agrees form true old → calls.Stays old new
     stayed clean it =

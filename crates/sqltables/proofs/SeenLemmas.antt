@@ -111,8 +111,8 @@ module _ {A : Type 0} (said : Result A BookFault) (hand : Hand) (f : Content →
       }
       go (Err fault) h = seen-stays hand no_row old new h
 
--- a question that is blind is the same of what is seen
-pub blind-seen : {R : Type 0} (f : Content → List R) → IsBlind f → (hand : Hand) (s : StateOf Content) → f s.content ≡ f (seen_with hand s).content
+-- what is blind is the same of what is seen
+pub blind-seen : {A : Type 0} (f : Content → A) → IsBlind f → (hand : Hand) (s : StateOf Content) → f s.content ≡ f (seen_with hand s).content
 blind-seen f it hand s = go hand.owed hand.account
   where
     go : (owed : Bool) (account : Option Account) → f s.content ≡ f (with_owed owed account s.content)

@@ -8,17 +8,17 @@ use Rattle.sqlite_sql.specs.declared.ops.CompareOp.TheVariants.{Eq, Ge, Le}
 use Rattle.sqlite_sql.specs.declared.ops.BinaryOp.TheVariants.{Compare}
 use Rattle.sqlite_sql.specs.Query.{Query, output, output_cmp}
 use Rattle.sqlite_sql.specs.Term.{Term, lit, col, op2, eval_all, holds}
-use Rattle.sqlite_keyed.specs.Keyed.{insert_by}
+use Rattle.sqlite_keyed.specs.Keyed.{insert_by, next_key}
 use Rattle.sqlite_keyed.specs.Lists.{delete_where, sort_by, update_where}
 use Rattle.sqlite_keyed.proofs.ListLemmas.{filter_all, all_of}
 use Rattle.sqlrows.specs.inner.Layouts.{writes_tables, Gives, Numbers, IsSelect, IsPut, IsAppend, IsDelete, IsUpdate, Renews, select_query, limited_query, sorted_query, by_then_key, appended}
 use Rattle.sqlrows.proofs.SelectLemmas.{selects, limits, sorts}
 use Rattle.sqlrows.proofs.PutLemmas.{puts}
-use Rattle.sqlrows.proofs.AppendLemmas.{appends}
+use Rattle.sqlrows.proofs.AppendLemmas.{appends, appends_last}
 use Rattle.sqlrows.proofs.UpdateLemmas.{updates}
 use Rattle.sqlrows.proofs.WriteLemmas.{deletes}
 use Rattle.sqltables.specs.Tables.{registry}
-use Rattle.sqltables.specs.inner.Statements.{Alters, Asks}
+use Rattle.sqltables.specs.inner.Statements.{Alters, Appends, Asks}
 use Rattle.sqltables.proofs.TableLemmas.{Part, alters, asks}
 
 -- ---- terms
@@ -105,6 +105,14 @@ module _ {X : Type 0} (T : Part X) where
       → (x : X) → Alters T.layout.tree sql (drop 1 (shown x)) (T.to (λ xs. appended T.layout (numbered x) xs))
   append_by {sql} shown numbered n is numbers x = alters T sql (drop 1 (shown x)) (λ xs. appended T.layout (numbered x) xs) is.plain (ap writes_tables is.command)
       (appends T.layout registry T.at T.table T.listed (append_terms n) (λ x. drop 1 (shown x)) numbered numbers sql x is)
+
+  pub adds_by : {sql : List ℕ} (shown : X → Row) (numbered : X → ℤ → X) (n : ℕ) → IsAppend registry sql T.at (append_terms n) → Numbers T.layout T.table (append_terms n) (λ x. drop 1 (shown x)) numbered
+      → (x : X) → Appends T.layout.tree sql (drop 1 (shown x)) (T.to (λ xs. appended T.layout (numbered x) xs)) (λ c. next_key T.layout.key (T.rows c))
+  adds_by {sql} shown numbered n is numbers x = record {
+    alters = append_by shown numbered n is numbers x;
+    last = λ limit text db tally after xs h ran.
+        appends_last T.layout registry T.at T.table T.listed (append_terms n) (λ x. drop 1 (shown x)) numbered numbers sql x is limit text db tally after (T.rows xs) (T.holds xs (record { schema = registry; trees = db }) h) ran;
+  }
 
   pub remove_by : {sql : List ℕ} {params : Row} (p : X → Bool) (filters : List Term) → IsDelete registry sql T.at T.layout.tree filters → Tests params filters p
       → Alters T.layout.tree sql params (T.to (λ xs. delete_where p xs))

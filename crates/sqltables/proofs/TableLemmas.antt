@@ -1,5 +1,5 @@
 -- Statements on one of the eleven tables, as statements on all of them.
-use Rattle.std.proofs.Common.{◌≡◌, ◌≢◌, ◌==◌, ◌||◌, Bool, true, false, ℕ, List, [], ◌∷◌, map, Option, Some, slice_get, ◌∙◌, refl, ap, ap₂, subst, sym, true≢false}
+use Rattle.std.proofs.Common.{◌≡◌, ◌≢◌, ◌==◌, ◌||◌, Bool, true, false, ℕ, ℤ, List, [], ◌∷◌, map, Option, Some, slice_get, ◌∙◌, refl, ap, ap₂, subst, sym, true≢false}
 use Rattle.std.proofs.lemmas.Bool.{eqb-true, eq-eqb}
 use Rattle.std.specs.List.{AllByRecursion, list_any}
 use Rattle.sqlite_schema.specs.declared.schema.Table.{Table}
@@ -20,7 +20,7 @@ use Rattle.sqlrows.proofs.CastLemmas.{cast_int, cast_null, cast_text, cast_maybe
 use Rattle.sqlrows.proofs.QuietLemmas.{quiet_if_idle}
 use Rattle.sqltables.specs.Content.{Content}
 use Rattle.sqltables.specs.inner.Content.{IsContent, metas_to, accounts_to, contacts_to, domains_to, hosts_to, addresses_to, links_to, lines_to, messages_to, transfers_to, days_to}
-use Rattle.sqltables.specs.inner.Statements.{Alters, AreOthersSame, Asks, is_table}
+use Rattle.sqltables.specs.inner.Statements.{Alters, Appends, AreOthersSame, Asks, is_table}
 use Rattle.sqltables.specs.Tables.{registry}
 use Rattle.sqltables.specs.Tables as schema
 use Rattle.sqltables.specs.Meta.{Meta, metas}
@@ -211,6 +211,9 @@ asks-by {R} {tree} {shown} {sql} {row} {given} {f} e a = subst (λ (r : Row). As
 
 pub alters-by : {tree : ℕ} {sql : List ℕ} {row given : Row} {f : Content → Content} → given ≡ row → Alters tree sql row f → Alters tree sql given f
 alters-by {tree} {sql} {row} {given} {f} e a = subst (λ (r : Row). Alters tree sql r f) (sym e) a
+
+pub appends-by : {tree : ℕ} {sql : List ℕ} {row given : Row} {f : Content → Content} {number : Content → ℤ} → given ≡ row → Appends tree sql row f number → Appends tree sql given f number
+appends-by {tree} {sql} {row} {given} {f} {number} e a = subst (λ (r : Row). Appends tree sql r f number) (sym e) a
 
 -- the last of some parameters, and one before others
 pub bound-last : {v w : Value} → v ≡ w → bound_value v ∷ [] ≡ bound_value w ∷ []

@@ -4,7 +4,7 @@ use Rattle.sqlite_value.specs.declared.value.Value.TheVariants.{Null, Int}
 use Rattle.sqlite_sql.specs.declared.ops.CompareOp.TheVariants.{Eq}
 use Rattle.sqlite_sql.specs.Term.{Term, lit, col}
 use Rattle.sqlite_typed.proofs.TestLemmas.{at_ints, at_points_to, last_term}
-use Rattle.sqlite_keyed.specs.Keyed.{insert_by}
+use Rattle.sqlite_keyed.specs.Keyed.{insert_by, next_key}
 use Rattle.sqlite_keyed.specs.Lists.{delete_where, update_where}
 use Rattle.sqlite.specs.Listing.{understood}
 use Rattle.sqlite_tied.specs.Compute.{everything}
@@ -28,10 +28,10 @@ use Rattle.sqltables.specs.Transfer.{Transfer, transfer_shown, transfers, transf
 use Rattle.sqltables.specs.Day.{Day, day_shown, days}
 use Rattle.sqltables.specs.inner.Content.{metas_to, accounts_to, contacts_to, domains_to, hosts_to, addresses_to, links_to, lines_to, messages_to, transfers_to, days_to}
 use Rattle.sqltables.specs.inner.Hand.{IsApart}
-use Rattle.sqltables.specs.inner.Statements.{Alters}
-use Rattle.sqltables.proofs.StatementLemmas.{append_by, equals, put_by, remove_by, replace_by}
+use Rattle.sqltables.specs.inner.Statements.{Alters, Appends}
+use Rattle.sqltables.proofs.StatementLemmas.{adds_by, append_by, equals, put_by, remove_by, replace_by}
 use Rattle.sqltables.proofs.TableLemmas.{alters, meta_part, account_part, contact_part, domain_part, host_part, address_part, link_part, line_part, message_part, transfer_part, day_part}
-pub use Rattle.sqltables.proofs.TableLemmas.{alters-by, bound-last, bound-then}
+pub use Rattle.sqltables.proofs.TableLemmas.{alters-by, appends-by, bound-last, bound-then}
 
 -- ---- meta
 
@@ -63,9 +63,9 @@ pub replace_contact : (x : Contact) → Alters contacts.tree contact_replace (co
 unfolding understood everything
 replace_contact x = replace_by contact_part (contact_with_id x.id) (λ y. record x { id = y.id }) 19 (record { command = refl; plain = (refl, refl) }) (λ y. last_term (at_ints false Eq y.id x.id)) (record { row = λ y. refl; key = λ y. refl })
 
-pub append_contact : (x : Contact) → Alters contacts.tree contact_append (drop 1 (contact_shown x)) (contacts_to (λ xs. appended contacts (λ id. record x { id = id }) xs))
+pub append_contact : (x : Contact) → Appends contacts.tree contact_append (drop 1 (contact_shown x)) (contacts_to (λ xs. appended contacts (λ id. record x { id = id }) xs)) (λ c. next_key contacts.key c.contacts)
 unfolding understood everything
-append_contact = append_by contact_part contact_shown (λ x id. record x { id = id }) 19 (record { command = refl; plain = (refl, refl) }) (record { values = λ x. refl; casts = λ x. simp (cast_int, cast_null, cast_text, cast_maybe_int, cast_maybe_text); row = λ x id. refl })
+append_contact = adds_by contact_part contact_shown (λ x id. record x { id = id }) 19 (record { command = refl; plain = (refl, refl) }) (record { values = λ x. refl; casts = λ x. simp (cast_int, cast_null, cast_text, cast_maybe_int, cast_maybe_text); row = λ x id. refl })
 
 pub remove_contacts_by_id : (v : ℤ) → Alters contacts.tree contact_remove_id (Int v ∷ []) (contacts_to (λ xs. delete_where (contact_with_id v) xs))
 unfolding understood everything
@@ -81,9 +81,9 @@ pub replace_domain : (x : Domain) → Alters domains.tree domain_replace (domain
 unfolding understood everything
 replace_domain x = replace_by domain_part (domain_with_id x.id) (λ y. record x { id = y.id }) 14 (record { command = refl; plain = (refl, refl) }) (λ y. last_term (at_ints false Eq y.id x.id)) (record { row = λ y. refl; key = λ y. refl })
 
-pub append_domain : (x : Domain) → Alters domains.tree domain_append (drop 1 (domain_shown x)) (domains_to (λ xs. appended domains (λ id. record x { id = id }) xs))
+pub append_domain : (x : Domain) → Appends domains.tree domain_append (drop 1 (domain_shown x)) (domains_to (λ xs. appended domains (λ id. record x { id = id }) xs)) (λ c. next_key domains.key c.domains)
 unfolding understood everything
-append_domain = append_by domain_part domain_shown (λ x id. record x { id = id }) 14 (record { command = refl; plain = (refl, refl) }) (record { values = λ x. refl; casts = λ x. simp (cast_int, cast_null, cast_text, cast_maybe_int, cast_maybe_text); row = λ x id. refl })
+append_domain = adds_by domain_part domain_shown (λ x id. record x { id = id }) 14 (record { command = refl; plain = (refl, refl) }) (record { values = λ x. refl; casts = λ x. simp (cast_int, cast_null, cast_text, cast_maybe_int, cast_maybe_text); row = λ x id. refl })
 
 pub remove_domains_by_id : (v : ℤ) → Alters domains.tree domain_remove_id (Int v ∷ []) (domains_to (λ xs. delete_where (domain_with_id v) xs))
 unfolding understood everything
@@ -99,9 +99,9 @@ pub replace_host : (x : Host) → Alters hosts.tree host_replace (host_shown x) 
 unfolding understood everything
 replace_host x = replace_by host_part (host_with_id x.id) (λ y. record x { id = y.id }) 9 (record { command = refl; plain = (refl, refl) }) (λ y. last_term (at_ints false Eq y.id x.id)) (record { row = λ y. refl; key = λ y. refl })
 
-pub append_host : (x : Host) → Alters hosts.tree host_append (drop 1 (host_shown x)) (hosts_to (λ xs. appended hosts (λ id. record x { id = id }) xs))
+pub append_host : (x : Host) → Appends hosts.tree host_append (drop 1 (host_shown x)) (hosts_to (λ xs. appended hosts (λ id. record x { id = id }) xs)) (λ c. next_key hosts.key c.hosts)
 unfolding understood everything
-append_host = append_by host_part host_shown (λ x id. record x { id = id }) 9 (record { command = refl; plain = (refl, refl) }) (record { values = λ x. refl; casts = λ x. simp (cast_int, cast_null, cast_text, cast_maybe_int, cast_maybe_text); row = λ x id. refl })
+append_host = adds_by host_part host_shown (λ x id. record x { id = id }) 9 (record { command = refl; plain = (refl, refl) }) (record { values = λ x. refl; casts = λ x. simp (cast_int, cast_null, cast_text, cast_maybe_int, cast_maybe_text); row = λ x id. refl })
 
 pub remove_hosts_by_id : (v : ℤ) → Alters hosts.tree host_remove_id (Int v ∷ []) (hosts_to (λ xs. delete_where (host_with_id v) xs))
 unfolding understood everything

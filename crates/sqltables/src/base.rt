@@ -1,5 +1,5 @@
 //! The eleven tables in a database as rows, with transactions: each call is its statement.
-ghost use Rattle.std.specs.Prelude.{◌≡◌, ◌≢◌, false, true, ⊤, List, map, IfErr, IfOk, OnOk};
+ghost use Rattle.std.specs.Prelude.{◌≡◌, ◌≢◌, ℤ, false, true, ⊤, List, map, IfErr, IfOk, OnOk};
 ghost use Rattle.sqltables.specs.inner.Faults as faults;
 
 use crate::adoption::{Unadopted, by_fault, reread};
@@ -77,7 +77,7 @@ impl<S: Alter> Base<S> {
     ghost use Rattle.sqltables.specs.Content.{Content};
     ghost use Rattle.states.specs.States.{Begins, Closes, Ends, Finds, IsIdle, Makes, FindsSome, Notes};
     ghost use Rattle.sqltables.specs.inner.Answers.{IsQueryOf};
-    ghost use Rattle.sqltables.specs.inner.Statements.{Alters, Asks};
+    ghost use Rattle.sqltables.specs.inner.Statements.{Alters, Appends, Asks};
     ghost use Rattle.sqltables.specs.Stored.{Covers, fresh};
     ghost use Rattle.sqltables.specs.Tables.{registry};
     ghost use Rattle.sqltables.specs.inner.Consistent.{IsConsistent};
@@ -167,13 +167,32 @@ impl<S: Alter> Base<S> {
         ensures { (f : Content → Content) → Alters tree sql.now (bound params.now) f
             → Makes result (f self.old.content) self.old self.new }
     {
+        self.run(tree, sql, params)?;
+        Ok(())
+    }
+
+    /// The same, and the number of the row that was added last.
+    pub(crate) fn run(
+        &mut self,
+        tree: u64,
+        sql: &str,
+        params: &[ValueRef<'_>],
+    ) -> Result<i64, BookFault>
+        requires means { (f : Content → Content) × Alters tree sql.now (bound params.now) f }
+        requires begun { self.old.is_open ≡ true }
+        ensures made { (f : Content → Content) → Alters tree sql.now (bound params.now) f
+            → Makes result (f self.old.content) self.old self.new }
+        ensures numbered { (f : Content → Content) (number : Content → ℤ)
+            → Appends tree sql.now (bound params.now) f number
+            → IfOk result (λ id. self.new.is_clean ≡ true → id ≡ number self.old.content) }
+    {
         if !self.form.has_rows() {
             return Err(BookFault::Store);
         }
         match self.conn.execute(sql, params) {
             Ok(_) => {
                 self.answers.forget_of(tree);
-                Ok(())
+                Ok(self.conn.last_insert_rowid())
             }
             Err(error) => {
                 self.answers.forget();

@@ -1,6 +1,6 @@
 //! Contacts.
 ghost use Rattle.std.specs.Prelude.{◌≡◌, true, filter, take, IfOk};
-ghost use Rattle.sqlite_keyed.specs.Keyed.{insert_by};
+ghost use Rattle.sqlite_keyed.specs.Keyed.{insert_by, next_key};
 ghost use Rattle.sqlite_keyed.specs.Lists.{delete_where, update_where};
 ghost use Rattle.sqltables.specs.inner.Content.{contacts_to};
 ghost use Rattle.states.specs.States.{Finds, Makes};
@@ -254,14 +254,17 @@ impl<S: Alter> RowStore<S> {
         self.write(TREE, REPLACE, &contact.params())
     }
 
-    /// Adds a row at the end, with the number after the last one. The given row's number isn't looked at.
-    pub fn append_contact(&mut self, contact: &ContactRow) -> Result<(), BookFault>
+    /// Adds a row at the end, with the number after the last one, and answers that number. The given row's
+    /// isn't looked at.
+    pub fn append_contact(&mut self, contact: &ContactRow) -> Result<i64, BookFault>
         requires { self.old.is_open ≡ true }
-        ensures { Makes result
+        ensures made { Makes result
             (contacts_to (appended contacts (λ id. record contact.now { id = id }))
             self.old.content) self.old self.new }
+        ensures numbered { IfOk result (λ id. self.new.is_clean ≡ true
+            → id ≡ next_key contacts.key self.old.content.contacts) }
     {
-        self.write(TREE, APPEND, &contact.params()[1..])
+        self.run(TREE, APPEND, &contact.params()[1..])
     }
 
     /// Removes those whose `id` is this.

@@ -1,6 +1,6 @@
 //! Domains.
-ghost use Rattle.std.specs.Prelude.{◌≡◌, true, filter, take};
-ghost use Rattle.sqlite_keyed.specs.Keyed.{insert_by};
+ghost use Rattle.std.specs.Prelude.{◌≡◌, true, filter, take, IfOk};
+ghost use Rattle.sqlite_keyed.specs.Keyed.{insert_by, next_key};
 ghost use Rattle.sqlite_keyed.specs.Lists.{delete_where, update_where};
 ghost use Rattle.sqltables.specs.inner.Content.{domains_to};
 ghost use Rattle.states.specs.States.{Finds, Makes};
@@ -243,13 +243,16 @@ impl<S: Alter> RowStore<S> {
         self.write(TREE, REPLACE, &domain.params())
     }
 
-    /// Adds a row at the end, with the number after the last one. The given row's number isn't looked at.
-    pub fn append_domain(&mut self, domain: &DomainRow) -> Result<(), BookFault>
+    /// Adds a row at the end, with the number after the last one, and answers that number. The given row's
+    /// isn't looked at.
+    pub fn append_domain(&mut self, domain: &DomainRow) -> Result<i64, BookFault>
         requires { self.old.is_open ≡ true }
-        ensures { Makes result (domains_to (appended domains (λ id. record domain.now { id = id }))
+        ensures made { Makes result (domains_to (appended domains (λ id. record domain.now { id = id }))
             self.old.content) self.old self.new }
+        ensures numbered { IfOk result (λ id. self.new.is_clean ≡ true
+            → id ≡ next_key domains.key self.old.content.domains) }
     {
-        self.write(TREE, APPEND, &domain.params()[1..])
+        self.run(TREE, APPEND, &domain.params()[1..])
     }
 
     /// Removes those whose `id` is this.

@@ -1,6 +1,6 @@
 //! Hosts.
-ghost use Rattle.std.specs.Prelude.{◌≡◌, true, filter};
-ghost use Rattle.sqlite_keyed.specs.Keyed.{insert_by};
+ghost use Rattle.std.specs.Prelude.{◌≡◌, true, filter, IfOk};
+ghost use Rattle.sqlite_keyed.specs.Keyed.{insert_by, next_key};
 ghost use Rattle.sqlite_keyed.specs.Lists.{delete_where, update_where};
 ghost use Rattle.sqltables.specs.inner.Content.{hosts_to};
 ghost use Rattle.states.specs.States.{Finds, Makes};
@@ -156,13 +156,16 @@ impl<S: Alter> RowStore<S> {
         self.write(TREE, REPLACE, &host.params())
     }
 
-    /// Adds a row at the end, with the number after the last one. The given row's number isn't looked at.
-    pub fn append_host(&mut self, host: &HostRow) -> Result<(), BookFault>
+    /// Adds a row at the end, with the number after the last one, and answers that number. The given row's
+    /// isn't looked at.
+    pub fn append_host(&mut self, host: &HostRow) -> Result<i64, BookFault>
         requires { self.old.is_open ≡ true }
-        ensures { Makes result (hosts_to (appended hosts (λ id. record host.now { id = id }))
+        ensures made { Makes result (hosts_to (appended hosts (λ id. record host.now { id = id }))
             self.old.content) self.old self.new }
+        ensures numbered { IfOk result (λ id. self.new.is_clean ≡ true
+            → id ≡ next_key hosts.key self.old.content.hosts) }
     {
-        self.write(TREE, APPEND, &host.params()[1..])
+        self.run(TREE, APPEND, &host.params()[1..])
     }
 
     /// Removes those whose `id` is this.

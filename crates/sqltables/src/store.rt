@@ -59,7 +59,7 @@ pub(crate) fn settle<S: Alter>(base: &mut Base<S>, hand: &mut Hand) -> Result<()
 }
 
 impl<S: Alter> RowStore<S> {
-    ghost use Rattle.std.specs.Prelude.{List, [], ◌∷◌};
+    ghost use Rattle.std.specs.Prelude.{ℤ, List, [], ◌∷◌};
     ghost use Rattle.sqlite.specs.Held.{state};
     ghost use Rattle.sqlite.specs.State.{HasCleanDisk};
     ghost use Rattle.sqlite.specs.Values.{bound};
@@ -67,7 +67,7 @@ impl<S: Alter> RowStore<S> {
     ghost use Rattle.states.specs.States.{Begins, Closes, Ends, Finds, IsIdle, Makes, Notes};
     ghost use Rattle.sqltables.specs.Adoption.{LeavesIt};
     ghost use Rattle.sqltables.specs.inner.Hand.{IsApart, IsBlind, left_by, no_row, noting};
-    ghost use Rattle.sqltables.specs.inner.Statements.{Alters, Asks};
+    ghost use Rattle.sqltables.specs.inner.Statements.{Alters, Appends, Asks};
     ghost use Rattle.sqltables.specs.Stored.{Covers, fresh};
     ghost use Rattle.sqltables.specs.inner.Consistent.{IsConsistent};
 
@@ -111,7 +111,27 @@ impl<S: Alter> RowStore<S> {
         ensures { (f : Content → Content) → Alters tree sql.now (bound params.now) f → IsApart f
             → Makes result (f self.old.content) self.old self.new }
     {
-        let made = self.base.write(tree, sql, params);
+        self.run(tree, sql, params)?;
+        Ok(())
+    }
+
+    /// The same, and the number of the row that was added last.
+    pub(crate) fn run(
+        &mut self,
+        tree: u64,
+        sql: &str,
+        params: &[ValueRef<'_>],
+    ) -> Result<i64, BookFault>
+        requires means { (f : Content → Content) × Alters tree sql.now (bound params.now) f
+            × IsApart f }
+        requires begun { self.old.is_open ≡ true }
+        ensures made { (f : Content → Content) → Alters tree sql.now (bound params.now) f → IsApart f
+            → Makes result (f self.old.content) self.old self.new }
+        ensures numbered { (f : Content → Content) (number : Content → ℤ)
+            → Appends tree sql.now (bound params.now) f number → IsBlind number
+            → IfOk result (λ id. self.new.is_clean ≡ true → id ≡ number self.old.content) }
+    {
+        let made = self.base.run(tree, sql, params);
         self.hand.or_forget(made)
     }
 

@@ -1,9 +1,13 @@
 -- What single steps of a change make of the last transfers of contacts and domains.
 use Rattle.std.specs.Prelude.{◌≡◌, ◌&&◌, pos, Bool, false, List, [], filter, Option, Some, None, is_some, option_map}
+use Rattle.std.specs.Option.{option_map_or}
 use Rattle.std.specs.Ordering.{int_eq}
 use Rattle.objects.specs.declared.transfer.Transfer as object
 use Rattle.sqlcolumns.specs.Transfers.{transfer_row}
+use Rattle.sqlite_keyed.specs.Keyed.{insert_by}
+use Rattle.sqlite_keyed.specs.Lists.{delete_where}
 use Rattle.sqlrows.specs.inner.Layouts.{appended}
+use Rattle.sqlrows.specs.Read.{rows_of}
 use Rattle.sqltables.specs.Content.{Content}
 use Rattle.sqltables.specs.Transfer.{Transfer, transfer_with_contact, transfer_with_domain, transfers}
 use Rattle.sqlobjects.specs.declared.transfers.Transferable.{Transferable}
@@ -47,6 +51,17 @@ maybe_row it transfer = option_map (row_of it) transfer
 abbrev pub with_added : Option Transfer → List Transfer → List Transfer
 with_added None rows = rows
 with_added (Some row) rows = appended transfers (λ id. record row { id = id }) rows
+
+-- this row, or none, is of the object's transfer, and of no other object's
+pub record IsRowOf (it : Transferable) (rows : List Transfer) (row : Option Transfer) : Type 0 where
+  pub is : filter (is_of it) rows ≡ rows_of row
+  pub alone : option_map_or names_both row false ≡ false
+
+-- the rows, with this one, if there is one, in place of the one that is of the object's transfer, whose number stays
+abbrev pub with_over : Transferable → Option Transfer → Option Transfer → List Transfer → List Transfer
+with_over it None row rows = with_added row rows
+with_over it (Some there) None rows = delete_where (is_of it) rows
+with_over it (Some there) (Some row) rows = insert_by transfers.key rows (record row { id = there.id })
 
 -- the object has this as its last transfer
 pub record IsTransferPut (it : Transferable) (transfer : Option object.Transfer) (old new : Content) : Type 0 where

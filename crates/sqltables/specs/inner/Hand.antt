@@ -69,8 +69,8 @@ pub record IsAtHand (hand : Hand) (s : StateOf Content) : Type 0 where
 
 -- ---- statements on other tables
 
--- a question that depends on no account
-abbrev pub IsBlind : {R : Type 0} → (Content → List R) → Type 0
+-- what depends on no account
+abbrev pub IsBlind : {A : Type 0} → (Content → A) → Type 0
 IsBlind f = (change : List Account → List Account) (xs : Content) → f (accounts_to change xs) ≡ f xs
 
 -- a change that depends on no account and changes none, nor what holds of the whole registry, nor its days

@@ -1,5 +1,5 @@
 -- What the texts of statements mean for the eleven tables.
-use Rattle.std.specs.Prelude.{◌≡◌, ◌≢◌, ◌==◌, ℕ, Bool, List, [], map, true, Option}
+use Rattle.std.specs.Prelude.{◌≡◌, ◌≢◌, ◌==◌, ℕ, ℤ, Bool, List, [], map, true, Option, Some}
 use Rattle.std.specs.List.{list_any}
 use Rattle.sqlite_value.specs.Order.{Row}
 use Rattle.sqlite_trees.specs.Tree.{Trees}
@@ -45,3 +45,9 @@ pub record Alters (tree : ℕ) (sql : List ℕ) (params : Row) (f : Content → 
       → Leads registry sql params limit text db tally after → IsContent (f xs) after
   pub others : (limit : Option ℕ) (text : List ℕ) (db : Trees) (tally : Tally) (after : Database) (xs : Content) → IsContent xs (record { schema = registry; trees = db })
       → Leads registry sql params limit text db tally after → AreOthersSame tree db after.trees
+
+-- the same of a text that adds a row, and the number that it gets
+pub record Appends (tree : ℕ) (sql : List ℕ) (params : Row) (f : Content → Content) (number : Content → ℤ) : Type 0 where
+  pub alters : Alters tree sql params f
+  pub last : (limit : Option ℕ) (text : List ℕ) (db : Trees) (tally : Tally) (after : Database) (xs : Content) → IsContent xs (record { schema = registry; trees = db })
+      → Leads registry sql params limit text db tally after → tally.last ≡ Some (number xs)

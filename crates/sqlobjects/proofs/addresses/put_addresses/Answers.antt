@@ -1,9 +1,20 @@
-use Rattle.std.proofs.Common.{◌≡◌, true, [], refl}
-use Rattle.sqlrows.proofs.StateLemmas.{then-became}
+use Rattle.std.proofs.Common.{◌≡◌, true, []}
+use Rattle.sqlrows.proofs.StateLemmas.{reads-same}
 use Rattle.sqlobjects.specs.Objects.{addresses_of}
 use Rattle.sqlobjects.specs.inner.Stages.{AreAddressesAdded, AreAddressesPut}
-use Rattle.sqlobjects.proofs.AddressLemmas.{addresses-put}
+use Rattle.sqlobjects.proofs.AddressLemmas.{added-put}
+use Rattle.sqlobjects.proofs.StepLemmas.{asked-turns}
 use Rattle.sqlobjects.proofs.addresses.put_addresses.Goals as goal
+
+pub returns-then-is_new : goal.returns-then-is_new
+returns-then-is_new g c =
+    let id = c.args.host.now.id in
+    let is_new = c.args.is_new in
+    let texts = c.args.addresses.now in
+    let old = c.args.store.now in
+    let new = c.add_addresses.new.store in
+    asked-turns c.add_addresses.result (AreAddressesAdded id texts) (λ m e. (is_new ≡ true → addresses_of m id ≡ []) → AreAddressesPut id texts m e) old old new (reads-same old)
+    c.add_addresses.ensures (λ clean add none. added-put id texts old.content new.content (none c.if-is_new.true) add)
 
 pub returns : goal.returns
 returns g c =
@@ -11,9 +22,5 @@ returns g c =
     let is_new = c.args.is_new in
     let texts = c.args.addresses.now in
     let old = c.args.store.now in
-    let middle = c.clear_addresses_of.new.store in
-    let new = c.add_addresses.new.store in
-    then-became (λ m e. (is_new ≡ true → addresses_of m id ≡ []) → AreAddressesPut id [] m e) (AreAddressesAdded id texts)
-    (λ m e. (is_new ≡ true → addresses_of m id ≡ []) → AreAddressesPut id texts m e) old middle new
-    (c.in_ok-clear_addresses_of.ensures {u = tt}) (c.in_ok-add_addresses.ensures {u = tt})
-    (λ clean one two none. addresses-put id id texts old.content middle.content new.content refl (one none) two)
+    asked-turns c.replace_addresses.result (AreAddressesPut id texts) (λ m e. (is_new ≡ true → addresses_of m id ≡ []) → AreAddressesPut id texts m e) old old c.replace_addresses.new.store (reads-same old)
+    c.replace_addresses.ensures (λ clean put none. put)

@@ -1,6 +1,8 @@
+use Rattle.std.proofs.Common.{subst}
+use Rattle.sqltables.specs.inner.Consistent.{IsConsistent}
 use Rattle.sqltables.specs.inner.Content.{transfers_to}
-use Rattle.sqlobjects.specs.inner.Transfers.{IsTransferCleared, IsTransferPut, with_added}
-use Rattle.sqlobjects.proofs.StepLemmas.{became-made}
+use Rattle.sqlobjects.specs.inner.Transfers.{IsTransferPut, with_over}
+use Rattle.sqlobjects.proofs.StepLemmas.{asked-makes}
 use Rattle.sqlobjects.proofs.TransferLemmas.{transfer-put}
 use Rattle.sqlobjects.proofs.transfers.put_transfer.Goals as goal
 
@@ -9,6 +11,9 @@ returns g c =
     let it = c.args.object in
     let transfer = c.args.transfer.now in
     let row = c.in_ok-row.row in
-    became-made (IsTransferCleared it) (IsTransferPut it transfer) (transfers_to (with_added row)) c.args.store.now c.clear_transfer.new.store c.add_row.new.store
-    (c.in_ok-clear_transfer.ensures {u = tt}) (c.in_ok-add_row.ensures {u = tt})
-    (λ clean step. transfer-put it c.args.store.now.content c.clear_transfer.new.store.content transfer row c.in_ok-row.ensures.row c.in_ok-row.ensures.is step)
+    let there = c.in_ok-there.there in
+    let old = c.args.store.now in
+    let asked = c.in_ok-there.ensures in
+    asked-makes c.put_over.result (λ xs. transfers_to (with_over it there row) xs) (IsTransferPut it transfer) old c.row_there.new.store c.put_over.new.store asked.0 c.put_over.ensures
+    (λ clean. transfer-put it old.content transfer there row c.in_ok-row.ensures.row c.in_ok-row.ensures.is (asked.1 clean)
+    (subst IsConsistent (asked.0.content clean) (c.show_consistent.ensures clean)).keyed.transfers)

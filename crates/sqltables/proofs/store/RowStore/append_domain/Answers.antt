@@ -1,9 +1,13 @@
+use Rattle.std.proofs.Common.{refl}
 use Rattle.sqlrows.proofs.ParameterLemmas.{past_first}
-use Rattle.sqltables.proofs.WritingLemmas.{alters-by, apart-domains, append_domain}
+use Rattle.sqltables.proofs.WritingLemmas.{appends-by, apart-domains, append_domain}
 use Rattle.sqltables.proofs.store.RowStore.append_domain.Goals as goal
 
-pub write-requires-clause-means : goal.write-requires-clause-means
-write-requires-clause-means g c = (_, alters-by (past_first c.params.result _ c.params.ensures 14) (append_domain c.args.domain.now), apart-domains _)
+pub run-requires-clause-means : goal.run-requires-clause-means
+run-requires-clause-means g c = (_, (appends-by (past_first c.params.result _ c.params.ensures 14) (append_domain c.args.domain.now)).alters, apart-domains _)
 
-pub returns : goal.returns
-returns g c = c.write.ensures _ (alters-by (past_first c.params.result _ c.params.ensures 14) (append_domain c.args.domain.now)) (apart-domains _)
+pub returns-clause-made : goal.returns-clause-made
+returns-clause-made g c = c.run.ensures.made _ (appends-by (past_first c.params.result _ c.params.ensures 14) (append_domain c.args.domain.now)).alters (apart-domains _)
+
+pub returns-clause-numbered : goal.returns-clause-numbered
+returns-clause-numbered g c = c.run.ensures.numbered _ _ (appends-by (past_first c.params.result _ c.params.ensures 14) (append_domain c.args.domain.now)) (λ _ _. refl)

@@ -1,9 +1,13 @@
+use Rattle.std.proofs.Common.{refl}
 use Rattle.sqlrows.proofs.ParameterLemmas.{past_first}
-use Rattle.sqltables.proofs.WritingLemmas.{alters-by, apart-hosts, append_host}
+use Rattle.sqltables.proofs.WritingLemmas.{appends-by, apart-hosts, append_host}
 use Rattle.sqltables.proofs.store.RowStore.append_host.Goals as goal
 
-pub write-requires-clause-means : goal.write-requires-clause-means
-write-requires-clause-means g c = (_, alters-by (past_first c.params.result _ c.params.ensures 9) (append_host c.args.host.now), apart-hosts _)
+pub run-requires-clause-means : goal.run-requires-clause-means
+run-requires-clause-means g c = (_, (appends-by (past_first c.params.result _ c.params.ensures 9) (append_host c.args.host.now)).alters, apart-hosts _)
 
-pub returns : goal.returns
-returns g c = c.write.ensures _ (alters-by (past_first c.params.result _ c.params.ensures 9) (append_host c.args.host.now)) (apart-hosts _)
+pub returns-clause-made : goal.returns-clause-made
+returns-clause-made g c = c.run.ensures.made _ (appends-by (past_first c.params.result _ c.params.ensures 9) (append_host c.args.host.now)).alters (apart-hosts _)
+
+pub returns-clause-numbered : goal.returns-clause-numbered
+returns-clause-numbered g c = c.run.ensures.numbered _ _ (appends-by (past_first c.params.result _ c.params.ensures 9) (append_host c.args.host.now)) (λ _ _. refl)

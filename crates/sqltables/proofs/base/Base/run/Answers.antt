@@ -1,4 +1,5 @@
-use Rattle.std.proofs.Common.{Bool, true, false, IsTrue, refl, sym, ap, subst, ◌∙◌, true≢false}
+use Rattle.std.proofs.Common.{Bool, true, false, IsTrue, refl, sym, ap, subst, ◌∙◌, true≢false, FitsSigned, rules, to_z-of_z, w64}
+use Rattle.std.proofs.lemmas.Bool.{and_parts}
 use Rattle.sqlite.specs.Held.{state}
 use Rattle.sqlite.specs.State.{HasCleanDisk}
 use Rattle.sqlite.specs.Values.{bound}
@@ -6,10 +7,10 @@ use Rattle.sqltables.specs.Content.{Content}
 use Rattle.states.specs.States.{Stays, StateOf, Writes}
 use Rattle.sqltables.specs.inner.Stored.{Fits, Guards, leaves_of, store_state}
 use Rattle.sqltables.specs.declared.form.Form.{Form}
-use Rattle.sqltables.proofs.AlteringLemmas.{fits-written, left-by-write, left-open, none-committed, open-after, recalls-written, written}
-use Rattle.sqltables.proofs.StandingLemmas.{fits-held, fits-idle, guards-on, opened-held, stays-held, stays-idle, was-honest}
-use Rattle.sqltables.proofs.base.Base.write.Goals as goal
-use Rattle.sqltables.proofs.base.Base.write.Goals.{then-is_autocommit, else-is_autocommit}
+use Rattle.sqltables.proofs.AlteringLemmas.{fits-written, left-by-write, left-open, none-committed, numbered, open-after, recalls-written, written}
+use Rattle.sqltables.proofs.StandingLemmas.{fits-held, fits-idle, guards-on, honest, opened-held, stays-held, stays-idle, was-honest}
+use Rattle.sqltables.proofs.base.Base.run.Goals as goal
+use Rattle.sqltables.proofs.base.Base.run.Goals.{then-is_autocommit, else-is_autocommit}
 
 pub invariant_of-self : goal.invariant_of-self
 invariant_of-self g c =
@@ -75,8 +76,8 @@ invariant_of-self-else-is_autocommit g c =
       λ _ _. c.forget.ensures.right _,
     )
 
-pub returns-in-Ok : goal.returns-in-Ok
-returns-in-Ok g c f alters =
+pub returns-in-Ok-clause-made : goal.returns-in-Ok-clause-made
+returns-in-Ok-clause-made g c f alters =
     let old = state g.S.Store c.self.inside.conn in
     let new = state g.S.Store c.execute.new.self in
     let form = c.self.inside.form in
@@ -88,8 +89,21 @@ returns-in-Ok g c f alters =
     let there = subst (λ (b : Bool). Writes (f (store_state form b old leaves).content) (store_state form b old leaves) (store_state form b new leaves)) (sym begun) it in
     subst (λ (s : StateOf Content). Writes (f s.content) s (store_state form c.self.inside.begun new leaves)) c.self.view_is there
 
-pub returns-after-is_autocommit : goal.returns-after-is_autocommit
-returns-after-is_autocommit g c f alters =
+pub returns-in-Ok-clause-numbered : goal.returns-in-Ok-clause-numbered
+returns-in-Ok-clause-numbered g c f number appends e =
+    let old = state g.S.Store c.self.inside.conn in
+    let new = state g.S.Store c.execute.new.self in
+    let form = c.self.inside.form in
+    let rows = sym c.has_rows.ensures ∙ c.if-not-has_rows.false in
+    let begun = ap (λ (s : StateOf Content). s.is_open) c.self.view_is ∙ c.requires.begun in
+    let fits = subst (λ (b : Bool). Fits form b old) begun c.self.invariant.0 in
+    let parts = and_parts new.is_clean new.is_open e in
+    let fits-number : FitsSigned w64 c.last_insert_rowid.result = search rules in
+    to_z-of_z fits-number ∙ c.last_insert_rowid.ensures ∙ numbered c.args.tree c.args.sql.now (bound c.args.params.now) form old new _ c.execute.ensures.survives fits rows f appends.alters _ c.in-Ok.ensures.runs number appends (honest new parts.0) parts.1
+    ∙ ap (λ (s : StateOf Content). number s.content) c.self.view_is
+
+pub returns-after-is_autocommit-clause-made : goal.returns-after-is_autocommit-clause-made
+returns-after-is_autocommit-clause-made g c f alters =
     let old = state g.S.Store c.self.inside.conn in
     let new = state g.S.Store c.execute.new.self in
     let form = c.self.inside.form in
