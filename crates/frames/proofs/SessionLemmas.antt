@@ -8,6 +8,7 @@ use Rattle.frames.specs.Texts.{closing_text}
 use Rattle.frames.proofs.SplitLemmas.{begins}
 use Rattle.frames.specs.Outcomes.{Outcome, replied, ended, failed, lost, has_frame, sent, end_with}
 use Rattle.frames.specs.Sessions.{SessionState, Turn, IsTurn, Run, frames, Rests, IsAt, Ends, Session, Writes}
+use Rattle.streams.specs.Moves.{AppendsLess}
 use Rattle.frames.specs.declared.session.SessionEnd.{SessionEnd}
 use Rattle.frames.specs.declared.session.SessionEnd.TheVariants.{Logout, WriteFault, Lost}
 
@@ -58,15 +59,15 @@ module _ {S : Type 0} (answers : S → ℕ → List ℕ → Outcome → S → Ty
 
   -- a write of the closing text fails
   pub breaks_closing : (turns : List Turn) (before middle after : SessionState S) (a b c : Option (List ℕ)) → Run answers turns before middle → (IsAt bad_length middle ⊎ (turns ≡ [])) → Rests middle after
-      → Appends a b (frames turns) → ((n : ℕ) × Appends b c (take n (frame closing_text))) → Writes a c (λ (w : List ℕ). Session answers before w after WriteFault)
-  breaks_closing turns before middle after a b c run why rests p q =
-      ends_session WriteFault turns before middle after (take q.0 (frame closing_text)) a b c run (inr (q.0, why, refl, rests)) p q.1
+      → Appends a b (frames turns) → AppendsLess b c (frame closing_text) → Writes a c (λ (w : List ℕ). Session answers before w after WriteFault)
+  breaks_closing turns before middle after a b c run why rests p (n, less, q) =
+      ends_session WriteFault turns before middle after (take n (frame closing_text)) a b c run (inr (why, rests, (n, less, refl))) p q
 
   -- a write of a reply fails
   pub breaks_turn : (turns : List Turn) (turn : Turn) (before middle after : SessionState S) (a b c : Option (List ℕ)) → Run answers turns before middle → IsTurn answers turn middle after
-      → Appends a b (frames turns) → ((n : ℕ) × Appends b c (take n (frame (sent turn.outcome)))) → Writes a c (λ (w : List ℕ). Session answers before w after WriteFault)
-  breaks_turn turns turn before middle after a b c run is p q =
-      ends_session WriteFault turns before middle after (take q.0 (frame (sent turn.outcome))) a b c run (inl (q.0, turn, is, refl)) p q.1
+      → Appends a b (frames turns) → AppendsLess b c (frame (sent turn.outcome)) → Writes a c (λ (w : List ℕ). Session answers before w after WriteFault)
+  breaks_turn turns turn before middle after a b c run is p (n, less, q) =
+      ends_session WriteFault turns before middle after (take n (frame (sent turn.outcome))) a b c run (inl (turn, is, (n, less, refl))) p q
 
 -- ---- which frames are taken
 

@@ -1,11 +1,12 @@
 -- Sessions: the frames of a connection, answered one after the other (RFC 5730, 2; RFC 5734, 4).
-use Rattle.std.specs.Prelude.{◌≡◌, ◌⊎◌, ℕ, List, [], ◌∷◌, ◌++◌, map, take, Option, None, Some, IfSome}
+use Rattle.std.specs.Prelude.{◌≡◌, ◌⊎◌, ℕ, List, [], ◌∷◌, ◌++◌, map, Option, None, Some, IfSome}
 use Rattle.std.specs.List.{flat_map}
 use Rattle.std.specs.Io.KnownBytes.{Appends}
 use Rattle.frames.specs.Clocks.{Tells}
 use Rattle.frames.specs.Frames.{frame, Takes, Ending, closed, cut, bad_length, front, over, Splits}
 use Rattle.frames.specs.Texts.{closing_text}
 use Rattle.frames.specs.Outcomes.{Outcome, sent, end_with}
+use Rattle.streams.specs.Moves.{IsLess}
 use Rattle.frames.specs.declared.session.SessionEnd.{SessionEnd}
 use Rattle.frames.specs.declared.session.SessionEnd.TheVariants.{Logout, End, Cut, Length, ReadFault, WriteFault, Lost}
 
@@ -61,10 +62,10 @@ Ends answers Lost turns before last after =
     ((turn : Turn) × IsTurn answers turn before after × (end_with turn.outcome ≡ Some Lost) × (last ≡ frame (sent turn.outcome)))
     ⊎ ((turns ≡ []) × (last ≡ frame closing_text) × Rests before after)
 Ends answers ReadFault turns before last after = (last ≡ []) × Rests before after
--- a beginning was written: of a turn's reply, or of the closing text
+-- a beginning was written, and not all: of a turn's reply, or of the closing text
 Ends answers WriteFault turns before last after =
-    ((n : ℕ) × (turn : Turn) × IsTurn answers turn before after × (last ≡ take n (frame (sent turn.outcome))))
-    ⊎ ((n : ℕ) × (IsAt bad_length before ⊎ (turns ≡ [])) × (last ≡ take n (frame closing_text)) × Rests before after)
+    ((turn : Turn) × IsTurn answers turn before after × IsLess last (frame (sent turn.outcome)))
+    ⊎ ((IsAt bad_length before ⊎ (turns ≡ [])) × Rests before after × IsLess last (frame closing_text))
 
 -- A session: a run, and an end.
 pub record Session {S : Type 0} (answers : S → ℕ → List ℕ → Outcome → S → Type 0) (before : SessionState S) (written : List ℕ) (after : SessionState S) (end : SessionEnd) : Type 0 where

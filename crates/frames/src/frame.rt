@@ -2,6 +2,7 @@
 ghost use Rattle.std.specs.Prelude.{◌≡◌, ℕ, ◌+◌, ◌^◌, ◌<◌, ◌≤◌, length, take, vec_len, IfOk, OnOk, OnErr};
 ghost use Rattle.std.specs.Io.KnownBytes.{Appends};
 ghost use Rattle.frames.specs.Frames.{frame, Receives};
+ghost use Rattle.streams.specs.Moves.{AppendsLess};
 
 use std::alloc::{AllocError, Global};
 use std::io::{Read, Write};
@@ -67,13 +68,13 @@ pub fn read_frame<R: Read>(reader: &mut R, buffer: &mut [u8]) -> Received
     }
 }
 
-/// Writes the frame of a payload. A fault leaves a beginning of the frame.
+/// Writes the frame of a payload. A fault leaves a beginning of the frame, and never the whole.
 pub fn write_frame<W: Write>(writer: &mut W, payload: &[u8]) -> Result<(), WriteFault>
     requires { length payload.now + 4 < 2 ^ 32 }
     ensures ok { OnOk result (Appends (W.contents writer.old) (W.contents writer.new)
         (frame payload.now)) }
-    ensures err { OnErr result ((n : ℕ)
-        × Appends (W.contents writer.old) (W.contents writer.new) (take n (frame payload.now))) }
+    ensures err { OnErr result (AppendsLess (W.contents writer.old) (W.contents writer.new)
+        (frame payload.now)) }
 {
     let total = (payload.len() + HEADER) as u32;
     write_whole(writer, &total.to_be_bytes())?;

@@ -1,10 +1,11 @@
 //! A session: frames in, the frames of the replies out.
-ghost use Rattle.std.specs.Prelude.{◌≡◌, ℕ, if◌then◌else◌, take, None, Some, IfOk, OnOk, OnErr};
+ghost use Rattle.std.specs.Prelude.{◌≡◌, if◌then◌else◌, None, Some, IfOk, OnOk, OnErr};
 ghost use Rattle.std.specs.Io.KnownBytes.{Appends};
 ghost use Rattle.frames.specs.Frames.{frame};
 ghost use Rattle.frames.specs.Outcomes as spec;
 ghost use Rattle.frames.specs.Outcomes.{end_with, outcome_of, sent};
 ghost use Rattle.frames.specs.Sessions.{Session, Writes};
+ghost use Rattle.streams.specs.Moves.{AppendsLess};
 
 use crate::peer::{Answer, Peer};
 use crate::{Clock, Received, frame_buffer, read_frame, write_closing, write_failed, write_frame};
@@ -28,7 +29,7 @@ pub enum SessionEnd {
     Length,
     /// A read failed.
     ReadFault,
-    /// A write failed, and left a beginning of a frame.
+    /// A write failed, and left a beginning of a frame, never the whole.
     WriteFault,
     /// There was no memory for a frame or for a reply, or a reply was too long for a frame, and the
     /// closing text was sent. What a command did is kept.
@@ -97,9 +98,8 @@ fn send<W: Write>(writer: &mut W, answer: &Answer) -> Result<Option<SessionEnd>,
     ensures end { IfOk result (λ end. end ≡ end_with (outcome_of answer.now)) }
     ensures ok { OnOk result (Appends (W.contents writer.old) (W.contents writer.new)
         (frame (sent (outcome_of answer.now)))) }
-    ensures err { OnErr result ((n : ℕ)
-        × Appends (W.contents writer.old) (W.contents writer.new)
-        (take n (frame (sent (outcome_of answer.now))))) }
+    ensures err { OnErr result (AppendsLess (W.contents writer.old) (W.contents writer.new)
+        (frame (sent (outcome_of answer.now)))) }
 {
     match answer {
         Answer::Reply(reply) => send_reply(writer, reply, None),
@@ -125,9 +125,8 @@ fn send_reply<W: Write>(
         ≡ (if spec.has_frame reply.now then end else Some SessionEnd.Lost)) }
     ensures ok { OnOk result (Appends (W.contents writer.old) (W.contents writer.new)
         (frame (spec.framed reply.now))) }
-    ensures err { OnErr result ((n : ℕ)
-        × Appends (W.contents writer.old) (W.contents writer.new)
-        (take n (frame (spec.framed reply.now)))) }
+    ensures err { OnErr result (AppendsLess (W.contents writer.old) (W.contents writer.new)
+        (frame (spec.framed reply.now))) }
 {
     if has_frame(reply) {
         write_frame(writer, reply)?;

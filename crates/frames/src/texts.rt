@@ -1,8 +1,9 @@
 //! The two replies that need no memory.
-ghost use Rattle.std.specs.Prelude.{ℕ, take, OnOk, OnErr};
+ghost use Rattle.std.specs.Prelude.{OnOk, OnErr};
 ghost use Rattle.std.specs.Io.KnownBytes.{Appends};
 ghost use Rattle.frames.specs.Frames.{frame};
 ghost use Rattle.frames.specs.Texts.{closing_text, failed_text};
+ghost use Rattle.streams.specs.Moves.{AppendsLess};
 
 use crate::frame::write_frame;
 use std::io::Write;
@@ -15,22 +16,22 @@ pub const FAILED: &[u8] = b"{\"code\":2400,\"msg\":\"Command failed\",\"svTRID\"
 pub const CLOSING: &[u8] =
     b"{\"code\":2500,\"msg\":\"Command failed; server closing connection\",\"svTRID\":\"ANON\"}";
 
-/// Writes the frame of [`FAILED`]. A fault leaves a beginning of it.
+/// Writes the frame of [`FAILED`]. A fault leaves a beginning of it, and never the whole.
 pub fn write_failed<W: Write>(writer: &mut W) -> Result<(), WriteFault>
     ensures ok { OnOk result (Appends (W.contents writer.old) (W.contents writer.new)
         (frame failed_text)) }
-    ensures err { OnErr result ((n : ℕ)
-        × Appends (W.contents writer.old) (W.contents writer.new) (take n (frame failed_text))) }
+    ensures err { OnErr result (AppendsLess (W.contents writer.old) (W.contents writer.new)
+        (frame failed_text)) }
 {
     write_frame(writer, FAILED)
 }
 
-/// Writes the frame of [`CLOSING`]. A fault leaves a beginning of it.
+/// Writes the frame of [`CLOSING`]. A fault leaves a beginning of it, and never the whole.
 pub fn write_closing<W: Write>(writer: &mut W) -> Result<(), WriteFault>
     ensures ok { OnOk result (Appends (W.contents writer.old) (W.contents writer.new)
         (frame closing_text)) }
-    ensures err { OnErr result ((n : ℕ)
-        × Appends (W.contents writer.old) (W.contents writer.new) (take n (frame closing_text))) }
+    ensures err { OnErr result (AppendsLess (W.contents writer.old) (W.contents writer.new)
+        (frame closing_text)) }
 {
     write_frame(writer, CLOSING)
 }

@@ -1,5 +1,5 @@
 -- What a request of the operator's does to a registry, and what it is answered.
-use Rattle.std.specs.Prelude.{◌≡◌, ◌⊎◌, ℕ, true, List, [], ◌++◌, take, Option, Some, None}
+use Rattle.std.specs.Prelude.{◌≡◌, ◌⊎◌, ℕ, true, List, [], ◌++◌, Option, Some, None}
 use Rattle.std.specs.Io.KnownBytes.{Appends}
 use Rattle.eppcommands.specs.Order.{order_in}
 use Rattle.frames.specs.Clocks.{Tells}
@@ -29,6 +29,7 @@ use Rattle.script.specs.Orders.{IsOrdered, PrintsAnswer}
 use Rattle.server.specs.Http.{Passes}
 use Rattle.server.specs.ZoneExport.{zone_at}
 use Rattle.statements.specs.Tables.{statement}
+use Rattle.streams.specs.Moves.{AppendsLess}
 use Rattle.statements.specs.declared.extract.Extract.{Extract}
 use Rattle.books.specs.Book.{BookState}
 
@@ -68,10 +69,10 @@ Orders p body moment outcome text old new =
 
 -- ---- what is sent
 
--- the answer goes out, whole or a beginning of it; where there is no memory for it, nothing
+-- The answer goes out, or a beginning of it that isn't the whole. Where there is no memory for it, nothing does.
 abbrev pub IsSent : List ℕ → (before after : Option (List ℕ)) → RequestEnd → Type 0
 IsSent answer before after ends.Answered = Appends before after answer
-IsSent answer before after ends.Cut = (n : ℕ) × Appends before after (take n answer)
+IsSent answer before after ends.Cut = AppendsLess before after answer
 IsSent answer before after ends.Unanswered = Appends before after []
 
 -- ---- requests

@@ -29,7 +29,7 @@ use streams::{WriteFault, write_whole};
 pub enum RequestEnd {
     /// Its request was answered.
     Answered,
-    /// A beginning of the answer went out.
+    /// A beginning of the answer went out, and not the whole.
     Cut,
     /// Nothing was answered.
     Unanswered,

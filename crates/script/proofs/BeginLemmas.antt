@@ -2,8 +2,8 @@
 use Rattle.std.proofs.Common.{◌≡◌, ◌⊎◌, inl, inr, ◌<◌, ◌==◌, ◌++◌, ℕ, false, List, [], ◌∷◌, length, take, drop, Some, None, IfSome, Result, Ok, Err, refl, sym, ap, subst, ◌∙◌, codes, append-nil, append_assoc, take-append-drop}
 use Rattle.std.proofs.lemmas.Grind.{flat_map-append}
 use Rattle.std.proofs.lemmas.List.{append_cancel_left}
-use Rattle.std.proofs.KnownBytes.{Appends-nil, Appends-trans, append_known-moved}
-use Rattle.std.specs.Prelude.{Option, OnErr, OnOk}
+use Rattle.std.proofs.KnownBytes.{Appends-nil, Appends-trans}
+use Rattle.std.specs.Prelude.{Option, OnErr}
 use Rattle.std.specs.declared.io.ErrorKind.{ErrorKind}
 use Rattle.std.specs.declared.io.ErrorKind.TheVariants.{OutOfMemory}
 use Rattle.std.specs.Io.BufRead.{drop_through, strip_last, take_through}
@@ -15,6 +15,7 @@ use Rattle.script.specs.declared.exit.Exit.TheVariants as exits
 use Rattle.script.specs.Exits.{exit_of}
 use Rattle.script.specs.Runs.{Answers, BeginsBehind, Begins, EndsIn, Prints, Writes, lines_of, printed}
 use Rattle.script.specs.inner.Runs.{AppendsFront, BreaksAt, EndsBehind}
+use Rattle.streams.specs.Moves.{AppendsLess}
 use Rattle.script.proofs.RunLemmas.{ArePrinted, Prints-told, Reads, next_lines, under}
 
 -- ---- fronts of known bytes
@@ -103,9 +104,9 @@ breaks_told p (byte ∷ bytes) text before after old new pending some answers fr
 
 -- ---- what is printed of a reply
 
-pub write_front : {X E : Type 0} (result : Result X E) (a b : Option (List ℕ)) (bytes : List ℕ) → OnErr result ((n : ℕ) × Appends a b (take n bytes)) → OnErr result (AppendsFront a b bytes)
+pub write_front : {X E : Type 0} (result : Result X E) (a b : Option (List ℕ)) (bytes : List ℕ) → OnErr result (AppendsLess a b bytes) → OnErr result (AppendsFront a b bytes)
 write_front (Ok x) a b bytes wrote = tt
-write_front (Err e) a b bytes (n, wrote) = taken_front a b bytes n wrote
+write_front (Err e) a b bytes (n, less, wrote) = taken_front a b bytes n wrote
 
 -- no room was made
 pub unroomed : (a b : Option (List ℕ)) (pending line : List ℕ) → AppendsFront a b pending → AppendsFront a b (pending ++ line)

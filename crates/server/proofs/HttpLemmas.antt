@@ -143,7 +143,7 @@ module _ (p : PolicyRules) (clock : Option (List ℕ)) (old : BookState) (later 
       → AnswersHttp p (Some read) clock old before after later new end → AnswersHttp p input clock old before after later new end
   of_input input rest read before after ends.Answered r (written, appends, is) = (written, appends, answered_input input rest read written r is)
   of_input input rest read before after ends.Unanswered r answers = answers
-  of_input input rest read before after ends.WriteFault r (written, appends, (answer, is, n, cut)) = (written, appends, (answer, answered_input input rest read answer r is, n, cut))
+  of_input input rest read before after ends.WriteFault r (written, appends, (answer, is, less)) = (written, appends, (answer, answered_input input rest read answer r is, less))
 
 -- ---- what is written
 
@@ -154,7 +154,7 @@ pub answered : {V E : Type 0} (items : V → List ℕ) (p : PolicyRules) (head :
 answered items p head clock old before after next new moment (Ok bytes) end clock_tells passes is (inl complete) =
     let answer : IsAnswered p (Some head) clock old (items bytes) next new = record { moment = moment; clock_tells = clock_tells; passes = passes; head = head; agrees = refl; answer = is } in
     rw complete.0 (items bytes, complete.1, answer)
-answered items p head clock old before after next new moment (Ok bytes) end clock_tells passes is (inr begun) =
+answered items p head clock old before after next new moment (Ok bytes) end clock_tells passes is (inr (ends_so, (n, less, begun))) =
     let answer : IsAnswered p (Some head) clock old (items bytes) next new = record { moment = moment; clock_tells = clock_tells; passes = passes; head = head; agrees = refl; answer = is } in
-    rw begun.0 (take begun.1 (items bytes), begun.2, (items bytes, answer, begun.1, refl))
+    rw ends_so (take n (items bytes), begun, (items bytes, answer, (n, less, refl)))
 answered items p head clock old before after next new moment (Err fault) end clock_tells passes is nothing = rw nothing.0 (nothing.1, inr (moment, clock_tells, passes))

@@ -35,8 +35,8 @@ module _ {S T : Type 0} (f : S → T) (K : S → Type 0) (answers : S → ℕ �
   ends_taken Logout turns before last after k e = let t = turn_taken e.0 before after k e.1 in (t.0, (e.0, t.1, e.2, e.3))
   ends_taken Lost turns before last after k (inl e) = let t = turn_taken e.0 before after k e.1 in (t.0, inl (e.0, t.1, e.2, e.3))
   ends_taken Lost turns before last after k (inr e) = let r = rests_taken before after k e.2 in (r.0, inr (e.0, e.1, r.1))
-  ends_taken WriteFault turns before last after k (inl e) = let t = turn_taken e.1 before after k e.2 in (t.0, inl (e.0, e.1, t.1, e.3))
-  ends_taken WriteFault turns before last after k (inr e) = let r = rests_taken before after k e.3 in (r.0, inr (e.0, e.1, e.2, r.1))
+  ends_taken WriteFault turns before last after k (inl (turn, is, less)) = let t = turn_taken turn before after k is in (t.0, inl (turn, t.1, less))
+  ends_taken WriteFault turns before last after k (inr (why, rests, less)) = let r = rests_taken before after k rests in (r.0, inr (why, r.1, less))
 
   pub session_taken : (before : SessionState S) (written : List ℕ) (after : SessionState S) (end : SessionEnd) → K before.peer → Session answers before written after end
       → K after.peer × Session others (taken_for f before) written (taken_for f after) end

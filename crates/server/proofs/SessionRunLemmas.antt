@@ -1,7 +1,10 @@
 -- The frames of a session are answered one after another, and that is a run.
-use Rattle.std.proofs.Common.{◌≡◌, ◌⊎◌, inl, inr, ℕ, zero, suc, Bool, true, false, ◌&&◌, true≢false, List, [], ◌∷◌, ◌++◌, map, take, drop, Option, Some, None, refl, sym, ap, subst, ◌∙◌, append_assoc, append-nil}
+use Rattle.std.proofs.Common.{◌≡◌, ◌⊎◌, inl, inr, ℕ, ◌+◌, arith, length, length-append, Bool, true, false, ◌&&◌, true≢false, List, [], ◌∷◌, ◌++◌, map, drop, Option, Some, None, refl, sym, ap, subst, ◌∙◌, append_assoc, append-nil}
 use Rattle.std.specs.Prelude.{if◌then◌else◌, IfSome}
 use Rattle.std.proofs.lemmas.Bool.{and_parts}
+use Rattle.std.proofs.Math.Seq.{take-append-add}
+use lib.Seq.{take-append-le}
+use Rattle.streams.specs.Moves.{IsLess}
 use Rattle.std.proofs.lemmas.Grind.{flat_map-append}
 use Rattle.eppcommands.specs.Session.{before_login, in_session}
 use Rattle.frames.specs.Clocks as clocks
@@ -201,14 +204,11 @@ answered-last p g turn old new is clean =
 
 -- ---- what was written
 
-begins-longer : (n : ℕ) (xs zs : List ℕ) → (m : ℕ) × (take n xs ≡ take m (xs ++ zs))
-begins-longer zero xs zs = (zero, refl)
-begins-longer (suc n) [] zs = (zero, refl)
-begins-longer (suc n) (x ∷ xs) zs = let it = begins-longer n xs zs in (suc it.0, ap (λ l. x ∷ l) it.1)
+less-longer : (part xs zs : List ℕ) → IsLess part xs → IsLess part (xs ++ zs)
+less-longer part xs zs (n, less, e) = (n, omega (arith, length-append xs zs), e ∙ sym (take-append-le n xs zs (omega arith)))
 
-begins-after : (us xs all : List ℕ) (n : ℕ) → xs ≡ take n all → (m : ℕ) × (us ++ xs ≡ take m (us ++ all))
-begins-after [] xs all n e = (n, e)
-begins-after (u ∷ us) xs all n e = let more = begins-after us xs all n e in (suc more.0, ap (λ l. u ∷ l) more.1)
+less-after : (us part all : List ℕ) → IsLess part all → IsLess (us ++ part) (us ++ all)
+less-after us part all (n, less, e) = (length us + n, omega (arith, length-append us all), ap (λ l. us ++ l) e ∙ sym (take-append-add us all n))
 
 frames-last : (turns : List Turn) (turn : Turn) → frames (turns ++ turn ∷ []) ≡ frames turns ++ frame (sent turn.outcome)
 frames-last turns turn = flat_map-append (λ (t : Turn). frame (sent t.outcome)) turns (turn ∷ []) ∙ ap (λ l. frames turns ++ l) (append-nil (frame (sent turn.outcome)))
@@ -246,16 +246,17 @@ module _ (p : PolicyRules) (g : List (List ℕ)) (turns : List Turn) (old mid ne
   all-sent : (turn : Turn) → last ≡ frame (sent turn.outcome) → written ≡ frames (turns ++ turn ∷ [])
   all-sent turn full = bytes ∙ ap (λ l. frames turns ++ l) full ∙ sym (frames-last turns turn)
 
-  -- a beginning of its reply, or of the closing text
-  some-sent : (turn : Turn) (n : ℕ) → last ≡ take n (frame (sent turn.outcome)) → (m : ℕ) × (written ≡ take m (frames (turns ++ turn ∷ []) ++ frame closing_text))
-  some-sent turn n some =
+  -- less than its reply, or than the closing text
+  some-sent : (turn : Turn) → IsLess last (frame (sent turn.outcome)) → IsLess written (frames (turns ++ turn ∷ []) ++ frame closing_text)
+  some-sent turn some =
       let f : List ℕ = frame (sent turn.outcome) in
-      let longer = begins-longer n f (frame closing_text) in
-      let it = begins-after (frames turns) last (f ++ frame closing_text) longer.0 (some ∙ longer.1) in
-      (it.0, bytes ∙ it.1 ∙ ap (take it.0) (sym (append_assoc (frames turns) f (frame closing_text)) ∙ ap (λ (l : List ℕ). l ++ frame closing_text) (sym (frames-last turns turn))))
+      let all : frames turns ++ (f ++ frame closing_text) ≡ frames (turns ++ turn ∷ []) ++ frame closing_text = sym (append_assoc (frames turns) f (frame closing_text)) ∙ ap (λ (l : List ℕ). l ++ frame closing_text) (sym (frames-last turns turn)) in
+      let it = less-after (frames turns) last (f ++ frame closing_text) (less-longer last f (frame closing_text) some) in
+      subst (λ (w : List ℕ). IsLess w (frames (turns ++ turn ∷ []) ++ frame closing_text)) (sym bytes) (subst (IsLess (frames turns ++ last)) all it)
 
-  some-closing : (n : ℕ) → last ≡ take n (frame closing_text) → (m : ℕ) × (written ≡ take m (frames turns ++ frame closing_text))
-  some-closing n some = let it = begins-after (frames turns) last (frame closing_text) n some in (it.0, bytes ∙ it.1)
+  some-closing : IsLess last (frame closing_text) → IsLess written (frames turns ++ frame closing_text)
+  some-closing some =
+      subst (λ (w : List ℕ). IsLess w (frames turns ++ frame closing_text)) (sym bytes) (less-after (frames turns) last (frame closing_text) some)
 
   none-before : turns ≡ [] → last ≡ frame closing_text → written ≡ frame closing_text
   none-before none full = bytes ∙ ap (λ (ts : List Turn). frames ts ++ last) none ∙ full
@@ -268,8 +269,8 @@ module _ (p : PolicyRules) (g : List (List ℕ)) (turns : List Turn) (old mid ne
   ends-answered Logout e = ending Logout e.0 e.1 tt (all-sent e.0 e.3)
   ends-answered Lost (inl e) = ending Lost e.0 e.1 tt (inl (all-sent e.0 e.3))
   ends-answered Lost (inr e) = resting Lost e.2 tt (inr (e.0, none-before e.0 e.1))
-  ends-answered WriteFault (inl e) = ending WriteFault e.1 e.2 tt (some-sent e.1 e.0 e.3)
-  ends-answered WriteFault (inr e) = resting WriteFault e.3 tt (some-closing e.0 e.2)
+  ends-answered WriteFault (inl (turn, is, less)) = ending WriteFault turn is tt (some-sent turn less)
+  ends-answered WriteFault (inr (why, rests, less)) = resting WriteFault rests tt (some-closing less)
 
 pub sessions-are-answered : SessionsAreAnswered
 sessions-are-answered p g old new written end s clean = ends-answered p g s.turns old s.reached new written s.last s.run s.bytes clean end s.ends

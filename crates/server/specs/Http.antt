@@ -1,6 +1,6 @@
 -- What a connection of HTTP is answered: a request's head, by the faces of a registry at one moment
 -- (RFC 7480, 4 and 5).
-use Rattle.std.specs.Prelude.{◌≡◌, ◌⊎◌, ◌≤◌, ℕ, true, List, [], ◌++◌, take, Option, IfSome, Result, Ok, Err}
+use Rattle.std.specs.Prelude.{◌≡◌, ◌⊎◌, ◌≤◌, ℕ, true, List, [], ◌++◌, Option, IfSome, Result, Ok, Err}
 use Rattle.std.specs.Io.KnownBytes.{Appends, Consumes, IsAtEnd}
 use Rattle.frames.specs.Clocks.{Tells}
 use Rattle.model.specs.Lapse.{lapsed, now}
@@ -12,6 +12,7 @@ use Rattle.registry.specs.Execution.{last_call}
 use Rattle.server.specs.declared.http.HttpEnd.{HttpEnd}
 use Rattle.server.specs.declared.http.HttpEnd.TheVariants as ends
 use Rattle.frames.specs.Sessions.{Writes}
+use Rattle.streams.specs.Moves.{AppendsLess, IsLess}
 use Rattle.books.specs.Book.{BookState, Follows}
 use Rattle.books.specs.Faces.{contact_face_at, domain_face_at, host_face_at}
 
@@ -59,13 +60,13 @@ pub record IsAnswered (p : PolicyRules) (input clock : Option (List ℕ)) (old :
   pub answer : new.is_clean ≡ true → (faces : Faces) → MayShow p moment old faces
       → IsAnswer p faces head written
 
--- What goes out of an answer: the whole, or a beginning where a write fails; where there is none,
--- nothing.
+-- What goes out of an answer: the whole, or a beginning and not the whole where a write fails. Where
+-- there is none, nothing goes out.
 abbrev pub IsWritten : {V E : Type 0} → (V → List ℕ) → Result V E → (before after : Option (List ℕ))
     → HttpEnd → Type 0
 IsWritten items (Ok answer) before after end =
     ((end ≡ ends.Answered) × Appends before after (items answer))
-    ⊎ ((end ≡ ends.WriteFault) × (n : ℕ) × Appends before after (take n (items answer)))
+    ⊎ ((end ≡ ends.WriteFault) × AppendsLess before after (items answer))
 IsWritten items (Err fault) before after end = (end ≡ ends.Unanswered) × Appends before after []
 
 -- neither the clock nor the registry was asked, or the registry gave nothing at a moment
@@ -83,4 +84,4 @@ AnswersHttp p input clock old before after later new ends.Answered =
 AnswersHttp p input clock old before after later new ends.Unanswered =
     Appends before after [] × MayAsk p clock old later new
 AnswersHttp p input clock old before after later new ends.WriteFault =
-    Writes before after (λ written. (answer : List ℕ) × IsAnswered p input clock old answer later new × (n : ℕ) × (written ≡ take n answer))
+    Writes before after (λ written. (answer : List ℕ) × IsAnswered p input clock old answer later new × IsLess written answer)

@@ -1,5 +1,5 @@
 -- A session as a run of the registry: what its frames ask, one after another, and what is sent for the answers.
-use Rattle.std.specs.Prelude.{◌≡◌, ◌⊎◌, ℕ, Bool, true, false, if◌then◌else◌, List, [], ◌∷◌, ◌++◌, map, take, Option, Some, None, IfSome, ⊤}
+use Rattle.std.specs.Prelude.{◌≡◌, ◌⊎◌, ℕ, Bool, true, false, if◌then◌else◌, List, [], ◌∷◌, ◌++◌, map, Option, Some, None, IfSome, ⊤}
 use Rattle.std.specs.List.{list_all}
 use Rattle.eppcommands.specs.Session.{before_login, in_session}
 use Rattle.frames.specs.Clocks as clocks
@@ -21,6 +21,7 @@ use Rattle.frames.specs.Sessions.{Session, SessionState, Turn, frames}
 use Rattle.frames.specs.declared.session.SessionEnd.{SessionEnd}
 use Rattle.frames.specs.declared.session.SessionEnd.TheVariants.{Logout, End, Cut, Length, ReadFault, WriteFault, Lost}
 use Rattle.server.specs.Connections.{AnswersAt, Desk}
+use Rattle.streams.specs.Moves.{IsLess}
 
 -- ---- what a frame asks
 
@@ -120,7 +121,8 @@ IsLeftAt WriteFault rest = ⊤
 IsLeftAt Lost rest = ⊤
 
 -- What is written for these frames by a session that ends so: the reply to each. The closing text comes after them for
--- a length that no frame has, or alone if there was no memory for the first frame. A write that failed leaves a beginning.
+-- a length that no frame has, or alone if there was no memory for the first frame. A write that failed leaves a beginning, and
+-- not the whole.
 abbrev pub IsWritten : SessionEnd → List Turn → List ℕ → Type 0
 IsWritten Logout turns written = written ≡ frames turns
 IsWritten End turns written = written ≡ frames turns
@@ -129,8 +131,7 @@ IsWritten ReadFault turns written = written ≡ frames turns
 IsWritten Length turns written = written ≡ frames turns ++ frame closing_text
 IsWritten Lost turns written =
     (written ≡ frames turns) ⊎ ((turns ≡ []) × (written ≡ frame closing_text))
-IsWritten WriteFault turns written =
-    (n : ℕ) × (written ≡ take n (frames turns ++ frame closing_text))
+IsWritten WriteFault turns written = IsLess written (frames turns ++ frame closing_text)
 
 -- The frames of a session, the last among them: its input has them, its clock tells their moments, and they are
 -- answered one after another, to the byte.

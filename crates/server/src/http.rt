@@ -19,7 +19,7 @@ pub enum HttpEnd {
     Answered,
     /// A read failed, there was no memory, or the registry gave up. Nothing was answered.
     Unanswered,
-    /// A write failed, and left a beginning of the answer.
+    /// A write failed, and left a beginning of the answer, never the whole.
     WriteFault,
 }
 

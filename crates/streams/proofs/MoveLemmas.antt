@@ -1,11 +1,12 @@
 -- What the moves of one call join to.
-use Rattle.std.proofs.Common.{◌≡◌, ℕ, ◌+◌, ◌-◌, ◌≤◌, min, Option, List, ◌++◌, length, take, drop, slice_range, sym, ap, ◌∙◌, subst, arith, le_refl, drop_at, length-take-le, length-drop}
+use Rattle.std.proofs.Common.{◌≡◌, ℕ, ◌+◌, ◌-◌, ◌≤◌, min, Option, List, ◌++◌, length, take, drop, slice_range, sym, ap, ◌∙◌, subst, arith, le_refl, drop_at, length-append, length-take-le, length-drop}
 use Rattle.std.proofs.lemmas.Slice.{take-put_mid_below}
 use Rattle.std.proofs.lemmas.List.{take_rest, take_min}
 use Rattle.std.proofs.Math.Seq.{take-append-add}
 use Rattle.std.specs.Prelude.{Result, Ok, Err, OnErr}
 use Rattle.std.specs.Io.KnownBytes.{Appends, Consumes}
 use Rattle.std.proofs.KnownBytes.{Appends-trans, Consumes-trans}
+use Rattle.streams.specs.Moves.{AppendsLess}
 use borrow.Rule.Slice.PartMut.{put_mid, post_of}
 use lib.Seq.{take-add, take-append-le}
 
@@ -42,6 +43,14 @@ began a b front back n p = (min n (length front), rw (take-append-le (min n (len
 -- the front went out, and then a beginning of the back
 pub went_on : (a b c : Option (List ℕ)) (front back : List ℕ) (n : ℕ) → Appends a b front → Appends b c (take n back) → (m : ℕ) × Appends a c (take m (front ++ back))
 went_on a b c front back n p q = (length front + n, rw (take-append-add front back n) (Appends-trans a b c front (take n back) p q))
+
+-- less than the front is less than the whole
+pub less_of_front : (a b : Option (List ℕ)) (front back : List ℕ) → AppendsLess a b front → AppendsLess a b (front ++ back)
+less_of_front a b front back (n, less, p) = (n, omega (arith, length-append front back), rw (take-append-le n front back (omega arith)) p)
+
+-- the front went out, and then less than the back
+pub less_of_back : (a b c : Option (List ℕ)) (front back : List ℕ) → Appends a b front → AppendsLess b c back → AppendsLess a c (front ++ back)
+less_of_back a b c front back p (n, less, q) = (length front + n, omega (arith, length-append front back), rw (take-append-add front back n) (Appends-trans a b c front (take n back) p q))
 
 pub OnErr-from : {X E P : Type 0} (r : Result X E) → P → OnErr r P
 OnErr-from (Ok x) p = tt

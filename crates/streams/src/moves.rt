@@ -1,6 +1,7 @@
 //! Reads and writes that go on until all bytes are moved, in however many pieces that takes.
 ghost use Rattle.std.specs.Prelude.{◌<◌, ◌≤◌, ℕ, length, take, IfOk, OnOk, OnErr};
 ghost use Rattle.std.specs.Io.KnownBytes.{Appends, Consumes, IsAtEnd};
+ghost use Rattle.streams.specs.Moves.{AppendsLess};
 
 use std::io::{self, ErrorKind, Read, Write};
 
@@ -35,11 +36,11 @@ pub fn read_to_fill<R: Read>(reader: &mut R, buffer: &mut [u8]) -> Result<usize,
     Err(ReadFault)
 }
 
-/// Writes all bytes. A fault leaves a beginning of them.
+/// Writes all bytes. A fault leaves a beginning of them, and never the whole.
 pub fn write_whole<W: Write>(writer: &mut W, bytes: &[u8]) -> Result<(), WriteFault>
     ensures ok { OnOk result (Appends (W.contents writer.old) (W.contents writer.new) bytes.now) }
-    ensures err { OnErr result ((n : ℕ)
-        × Appends (W.contents writer.old) (W.contents writer.new) (take n bytes.now)) }
+    ensures err { OnErr result (AppendsLess (W.contents writer.old) (W.contents writer.new)
+        bytes.now) }
 {
     match write_all(writer, bytes) {
         Ok(()) => Ok(()),
@@ -50,13 +51,13 @@ pub fn write_whole<W: Write>(writer: &mut W, bytes: &[u8]) -> Result<(), WriteFa
 /// The same with the error of the write that failed. `Write::write_all` doesn't say what one leaves.
 pub fn write_all<W: Write>(writer: &mut W, bytes: &[u8]) -> io::Result<()>
     ensures ok { OnOk result (Appends (W.contents writer.old) (W.contents writer.new) bytes.now) }
-    ensures err { OnErr result ((n : ℕ)
-        × Appends (W.contents writer.old) (W.contents writer.new) (take n bytes.now)) }
+    ensures err { OnErr result (AppendsLess (W.contents writer.old) (W.contents writer.new)
+        bytes.now) }
 {
     let mut sent = 0;
     'writes: for _ in 0..u64::MAX {
         if sent >= bytes.len() {
-            return Ok(());
+            break;
         }
         match writer.write(&bytes[sent..]) {
             Ok(0) => return Err(io::Error::from(ErrorKind::WriteZero)),
@@ -65,5 +66,8 @@ pub fn write_all<W: Write>(writer: &mut W, bytes: &[u8]) -> io::Result<()>
             Err(error) => return Err(error),
         }
     }
-    Err(io::Error::from(ErrorKind::Interrupted))
+    if sent < bytes.len() {
+        return Err(io::Error::from(ErrorKind::Interrupted));
+    }
+    Ok(())
 }
