@@ -33,8 +33,13 @@ pub(crate) fn code_of(reply: &[u8]) -> Option<u16>
 }
 
 /// The code of an answer over HTTP.
-pub(crate) fn http_code_of(answer: &[u8]) -> Option<u16> {
-    number_of(answer.get(VERSION.len()..)?, HTTP_DIGITS)
+pub(crate) fn http_code_of(answer: &[u8]) -> Option<u16>
+    ensures { result ≡ spec.http_code_of answer.now }
+{
+    if answer.len() < VERSION.len() {
+        return None;
+    }
+    number_of(&answer[VERSION.len()..], HTTP_DIGITS)
 }
 
 /// The server's number of a reply: its last text.

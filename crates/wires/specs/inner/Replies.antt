@@ -26,3 +26,7 @@ number_behind word digits (byte ∷ bytes) =
 -- the code of a reply: four digits behind the first `"code":` of its first 512 bytes
 unfoldable pub code_of : List ℕ → Option ℕ
 code_of reply = number_behind (codes "\"code\":") 4 (take 512 reply)
+
+-- the code of an answer over HTTP (RFC 9112, section 4): three digits behind `HTTP/1.1 `
+abbrev pub http_code_of : List ℕ → Option ℕ
+http_code_of answer = cond (nat_le 9 (length answer)) (number_of (drop 9 answer) 3) None
