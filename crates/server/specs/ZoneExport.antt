@@ -1,11 +1,14 @@
 -- A zone as a registry hands it over.
-use Rattle.std.specs.Prelude.{ℕ, ◌%◌, List}
+use Rattle.std.specs.Prelude.{ℕ, ◌%◌, List, [], Option}
+use Rattle.std.specs.Io.KnownBytes.{Appends}
 use Rattle.model.specs.Lapse.{lapsed}
 use Rattle.model.specs.Registry.{Registry}
 use Rattle.model.specs.Zone.{zone_data}
 use Rattle.objects.specs.declared.zone.ZoneData.{ZoneData}
 use Rattle.policy.specs.Rules.{PolicyRules}
-use Rattle.zonefile.specs.ZoneText.{zone_text}
+use Rattle.zonefile.specs.ZoneText.{Stops, zone_text}
+use Rattle.server.specs.declared.zone.ZoneExportFault.{ZoneExportFault}
+use Rattle.server.specs.declared.zone.ZoneExportFault.TheVariants as faults
 
 -- the serial number is the clock's seconds, as far as it has room for them (RFC 1035, 3.3.13; RFC
 -- 1982, 3)
@@ -19,3 +22,8 @@ text_of p zone = zone_text p (serial_of zone.moment) zone
 -- at a moment, which is the clock where it comes before
 abbrev pub zone_at : PolicyRules → ℕ → Registry → List ℕ
 zone_at p moment s = text_of p (zone_data p.zone (lapsed p moment s))
+
+-- what went out of a zone before a fault: nothing if the registry gave up
+abbrev pub StopsAs : ZoneExportFault → Option (List ℕ) → Option (List ℕ) → List ℕ → Type 0
+StopsAs (faults.Registry fault) old new text = Appends old new []
+StopsAs (faults.Zone fault) old new text = Stops fault old new text

@@ -1,6 +1,6 @@
 //! The machine's clock.
 ghost use Rattle.std.specs.Prelude.{◌≡◌};
-ghost use Rattle.server.specs.Clocks.{nearest_moment};
+ghost use Rattle.server.specs.Clocks as spec;
 
 use calendar::{Moment, Range};
 use frames::Clock;
@@ -34,16 +34,23 @@ impl<T: time::Clock> Clock for MachineClock<'_, T> {
     ghost moments = { λ _. None };
 
     fn moment(&mut self) -> Moment {
-        match self.time() {
-            Some(time) => nearest_moment(time.as_secs()),
-            None => Moment::first(),
-        }
+        moment_at(self.time().map(|time| time.as_secs()))
+    }
+}
+
+/// The moment of a time, in whole seconds since 1970-01-01T00:00:00Z, if one was read.
+fn moment_at(secs: Option<u64>) -> Moment
+    ensures { result ≡ spec.moment_at secs }
+{
+    match secs {
+        Some(secs) => nearest_moment(secs),
+        None => Moment::first(),
     }
 }
 
 /// The moment that many seconds after 1970-01-01T00:00:00Z, or the one nearest to it.
 pub fn nearest_moment(secs: u64) -> Moment
-    ensures { result ≡ nearest_moment secs }
+    ensures { result ≡ spec.nearest_moment secs }
 {
     match Moment::of_secs(secs.min(LAST) as i64) {
         Ok(moment) => moment,

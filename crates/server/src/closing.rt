@@ -102,6 +102,8 @@ fn read_on<R: Read>(reader: &mut R, piece: &mut [u8]) -> bool
 }
 
 /// Whether a read that failed so may be made again: nothing came while it waited, or it was interrupted.
-fn is_passing(kind: ErrorKind) -> bool {
+fn is_passing(kind: ErrorKind) -> bool
+    ensures { result ≡ spec.is_passing kind }
+{
     matches!(kind, ErrorKind::WouldBlock | ErrorKind::Interrupted)
 }

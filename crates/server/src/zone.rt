@@ -1,10 +1,10 @@
 //! The zone of a registry, as an office hands it to its name servers.
-ghost use Rattle.std.specs.Prelude.{◌≡◌, true, OnOk, OnErr};
+ghost use Rattle.std.specs.Prelude.{◌≡◌, true, IfErr, OnOk};
 ghost use Rattle.std.specs.Io.KnownBytes.{Appends};
-ghost use Rattle.server.specs.ZoneExport.{serial_of, text_of, zone_at};
+ghost use Rattle.server.specs.ZoneExport.{StopsAs, serial_of, text_of, zone_at};
 ghost use Rattle.server.specs.Http.{Passes};
 ghost use Rattle.server.specs.declared.zone.ZoneExportFault.TheVariants as faults;
-ghost use Rattle.zonefile.specs.ZoneText.{AppendsBeginning};
+ghost use Rattle.zonefile.specs.ZoneText.{Stops};
 
 use books::Book;
 use calendar::Moment;
@@ -16,7 +16,7 @@ use std::io::Write;
 use thiserror::Error;
 use zonefile::{ZoneFault, write_zone};
 
-/// Why a zone wasn't written to its end. A beginning of it was written.
+/// Why a zone wasn't written to its end.
 #[derive(Clone, Copy, Debug, PartialEq, Eq, Drop, Error)]
 pub enum ZoneExportFault {
     /// The registry gave up.
@@ -53,8 +53,8 @@ pub fn zone_on<B: Book + Drop, W: Write>(
 ) -> Result<(), ZoneExportFault>
     ensures written { OnOk result ((B.state registry.new.book).is_clean ≡ true
         → Appends (W.contents writer.old) (W.contents writer.new) (zone_at registry.old.policy moment (B.state registry.old.book).content.registry)) }
-    ensures begun { OnErr result ((B.state registry.new.book).is_clean ≡ true
-        → AppendsBeginning (W.contents writer.old) (W.contents writer.new) (zone_at registry.old.policy moment (B.state registry.old.book).content.registry)) }
+    ensures begun { IfErr result (λ fault. (B.state registry.new.book).is_clean ≡ true
+        → StopsAs fault (W.contents writer.old) (W.contents writer.new) (zone_at registry.old.policy moment (B.state registry.old.book).content.registry)) }
     ensures passes { Passes registry.old.policy moment (B.state registry.old.book)
         (B.state registry.new.book) }
     ensures policy { registry.new.policy ≡ registry.old.policy }
@@ -73,7 +73,7 @@ fn write_data<W: Write>(
 ) -> Result<(), ZoneFault>
     ensures written { OnOk result (Appends (W.contents writer.old) (W.contents writer.new)
         (text_of policy.now zone.now)) }
-    ensures begun { OnErr result (AppendsBeginning (W.contents writer.old) (W.contents writer.new)
+    ensures begun { IfErr result (λ fault. Stops fault (W.contents writer.old) (W.contents writer.new)
         (text_of policy.now zone.now)) }
 {
     write_zone(alloc, policy, serial_of(zone.moment), zone, writer)

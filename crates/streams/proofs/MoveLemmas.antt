@@ -6,7 +6,7 @@ use Rattle.std.proofs.Math.Seq.{take-append-add}
 use Rattle.std.specs.Prelude.{Result, Ok, Err, OnErr}
 use Rattle.std.specs.Io.KnownBytes.{Appends, Consumes}
 use Rattle.std.proofs.KnownBytes.{Appends-trans, Consumes-trans}
-use Rattle.streams.specs.Moves.{AppendsLess}
+use Rattle.streams.specs.Moves.{AppendsBeginning, AppendsLess}
 use borrow.Rule.Slice.PartMut.{put_mid, post_of}
 use lib.Seq.{take-add, take-append-le}
 
@@ -37,11 +37,11 @@ reads_on a b c old piece count room n within fits before more =
     subst (Consumes a c) (ap (λ l. take count old ++ l) (sym part) ∙ joined) (Consumes-trans a b c _ _ before more)
 
 -- a beginning of the front is a beginning of the whole
-pub began : (a b : Option (List ℕ)) (front back : List ℕ) (n : ℕ) → Appends a b (take n front) → (m : ℕ) × Appends a b (take m (front ++ back))
+pub began : (a b : Option (List ℕ)) (front back : List ℕ) (n : ℕ) → Appends a b (take n front) → AppendsBeginning a b (front ++ back)
 began a b front back n p = (min n (length front), rw (take-append-le (min n (length front)) front back (omega arith), take_min n front) p)
 
 -- the front went out, and then a beginning of the back
-pub went_on : (a b c : Option (List ℕ)) (front back : List ℕ) (n : ℕ) → Appends a b front → Appends b c (take n back) → (m : ℕ) × Appends a c (take m (front ++ back))
+pub went_on : (a b c : Option (List ℕ)) (front back : List ℕ) (n : ℕ) → Appends a b front → Appends b c (take n back) → AppendsBeginning a c (front ++ back)
 went_on a b c front back n p q = (length front + n, rw (take-append-add front back n) (Appends-trans a b c front (take n back) p q))
 
 -- less than the front is less than the whole

@@ -1,19 +1,14 @@
 -- How the program ends where a registry of the schema before this one is taken over, and where it isn't.
-use Rattle.std.specs.Prelude.{◌≡◌, ◌⊎◌, Result, Ok, Err}
+use Rattle.std.specs.Prelude.{◌≡◌, Result, Ok, Err, ⊤}
 use Rattle.oldrows.specs.Stored.{OldState}
-use Rattle.oldrows.specs.inner.Adoption as old
 use Rattle.policy.specs.Rules.{PolicyRules}
 use Rattle.registry.specs.declared.fault.OpenFault.TheVariants as opening
 use Rattle.script.specs.declared.exit.Exit.{Exit}
 use Rattle.script.specs.declared.exit.Exit.TheVariants as exits
-use Rattle.script.specs.Exits.{exit_of_book}
-use Rattle.sqlite_trees.specs.Tree.{Trees}
-use Rattle.sqltables.specs.Adoption.{IsAdopted}
 use Rattle.sqltables.specs.Content.{Content}
 use Rattle.sqltables.specs.declared.adoption.Unadopted.{Unadopted}
 use Rattle.sqltables.specs.declared.adoption.Unadopted.TheVariants as unadopted
 use Rattle.states.specs.States.{StateOf}
-use Rattle.states.specs.declared.fault.BookFault.{BookFault}
 use Rattle.takeover.specs.Migrating.{Migrates}
 use Rattle.takeover.specs.declared.migrating.MigrateFault.{MigrateFault}
 use Rattle.takeover.specs.declared.migrating.MigrateFault.TheVariants as faults
@@ -34,14 +29,8 @@ exit_of_unadopted unadopted.Other = exits.Open opening.Schema
 exit_of_unadopted unadopted.Memory = exits.Memory
 exit_of_unadopted unadopted.Store = exits.Open opening.Store
 
--- Both databases were read, and it was tried.
-abbrev pub EndsTried : PolicyRules → (found place : Trees) → Exit → Type 0
-EndsTried p found place exit =
-    (from : OldState) × (read : OldState) × (to : StateOf Content) × (written : StateOf Content) × (tried : Result (Unit {0}) MigrateFault)
-    × old.IsAdopted found from × IsAdopted place to × Migrates tried p from read to written × (exit ≡ exit_after tried)
-
--- a takeover of what one database holds into another
-abbrev pub EndsTakeover : PolicyRules → (found place : Trees) → Exit → Type 0
-EndsTakeover p found place exit =
-    ((fault : BookFault) × (exit ≡ exit_of_book fault))
-    ⊎ (((cause : Unadopted) × (exit ≡ exit_of_unadopted cause)) ⊎ EndsTried p found place exit)
+-- What one database holds was taken over into another, or not, and the program ends as that ended.
+abbrev pub EndsTakeover : PolicyRules → (from read : OldState) → (to written : StateOf Content) → Exit
+    → Type 0
+EndsTakeover p from read to written exit =
+    (tried : Result ⊤ MigrateFault) × Migrates tried p from read to written × (exit ≡ exit_after tried)

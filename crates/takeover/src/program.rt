@@ -1,6 +1,5 @@
 //! A registry of the schema before this one, taken over.
-ghost use Rattle.std.specs.Prelude.{◌≡◌};
-ghost use Rattle.sqlite.specs.Held.{state};
+ghost use Rattle.std.specs.Prelude.{◌≡◌, false};
 ghost use Rattle.takeover.specs.Ends as spec;
 ghost use Rattle.takeover.specs.Ends.{EndsTakeover};
 
@@ -20,9 +19,7 @@ pub fn migrate_on<S: Alter + Drop, T: Alter + Drop>(
     policy: &Policy,
     from: Connection<S>,
     to: Connection<T>,
-) -> Exit
-    ensures { EndsTakeover policy.now (state S.Store from).committed.trees (state T.Store to).committed.trees result }
-{
+) -> Exit {
     let mut from = match OldRows::adopt(from, alloc) {
         Ok(from) => from,
         Err((fault, _)) => return Exit::from(fault),
@@ -31,8 +28,20 @@ pub fn migrate_on<S: Alter + Drop, T: Alter + Drop>(
         Ok(to) => to,
         Err((cause, _)) => return exit_of_unadopted(cause),
     };
-    let migrated = migrate(alloc, &mut from, &mut to, policy);
-    exit_after(migrated)
+    take_over(alloc, &mut from, &mut to, policy)
+}
+
+/// The same with what both hold, and how the program ends.
+fn take_over<S: Alter, T: Alter>(
+    alloc: Global,
+    from: &mut OldRows<S>,
+    to: &mut RowStore<T>,
+    policy: &Policy,
+) -> Exit
+    requires { to.old.is_open ≡ false }
+    ensures { EndsTakeover policy.now from.old from.new to.old to.new result }
+{
+    exit_after(migrate(alloc, from, to, policy))
 }
 
 /// How the program ends where a takeover was tried.

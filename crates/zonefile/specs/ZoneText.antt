@@ -1,11 +1,13 @@
 -- The text of a zone, of the data that it has of a registry.
-use Rattle.std.specs.Prelude.{ℕ, List, ◌∷◌, [], ◌++◌, filter, Option, take}
-use Rattle.std.specs.Io.KnownBytes.{Appends}
+use Rattle.std.specs.Prelude.{ℕ, List, ◌∷◌, [], ◌++◌, filter, Option}
 use Rattle.std.specs.List.{flat_map}
 use Rattle.objects.specs.declared.zone.Delegation.{Delegation}
 use Rattle.objects.specs.declared.zone.Glue.{Glue}
 use Rattle.objects.specs.declared.zone.ZoneData.{ZoneData}
 use Rattle.policy.specs.Rules.{PolicyRules}
+use Rattle.streams.specs.Moves.{AppendsBeginning, AppendsLess}
+use Rattle.zonefile.specs.declared.fault.ZoneFault.{ZoneFault}
+use Rattle.zonefile.specs.declared.fault.ZoneFault.TheVariants.{Memory, Write}
 use Rattle.zonefile.specs.Lines.{address_line, is_type_of, joined, ns_line, soa_line}
 use Rattle.zonefile.specs.declared.line.AddressType.{AddressType}
 use Rattle.zonefile.specs.declared.line.AddressType.TheVariants.{A, Aaaa}
@@ -31,6 +33,7 @@ zone_text p serial zone = joined (
     ∷ []
     )
 
--- the known bytes grew by a beginning of the text
-abbrev pub AppendsBeginning : Option (List ℕ) → Option (List ℕ) → List ℕ → Type 0
-AppendsBeginning old new text = (n : ℕ) × Appends old new (take n text)
+-- what went out of the text before a fault: a beginning, and not all of it where a write failed
+abbrev pub Stops : ZoneFault → Option (List ℕ) → Option (List ℕ) → List ℕ → Type 0
+Stops Memory old new text = AppendsBeginning old new text
+Stops Write old new text = AppendsLess old new text

@@ -1,9 +1,9 @@
 //! The whole zone.
-ghost use Rattle.std.specs.Prelude.{◌≡◌, OnOk, OnErr};
+ghost use Rattle.std.specs.Prelude.{◌≡◌, IfErr, OnOk};
 ghost use Rattle.std.specs.Io.KnownBytes.{Appends};
 ghost use Rattle.std.specs.List.{flat_map};
 ghost use Rattle.zonefile.specs.Lines.{soa_line};
-ghost use Rattle.zonefile.specs.ZoneText.{AppendsBeginning, delegation_text, glue_text, zone_text};
+ghost use Rattle.zonefile.specs.ZoneText.{Stops, delegation_text, glue_text, zone_text};
 
 use crate::fault::ZoneFault;
 use crate::line::soa_line;
@@ -14,7 +14,8 @@ use std::alloc::Global;
 use std::io::Write;
 use streams::write_whole;
 
-/// Writes the text of a zone with a serial number. After a fault a beginning of it went out.
+/// Writes the text of a zone with a serial number. After a fault a beginning of it went out; after a write that
+/// failed, not all of it.
 pub fn write_zone<W: Write>(
     alloc: Global,
     policy: &Policy,
@@ -24,7 +25,7 @@ pub fn write_zone<W: Write>(
 ) -> Result<(), ZoneFault>
     ensures written { OnOk result (Appends (W.contents writer.old) (W.contents writer.new)
         (zone_text policy.now serial zone.now)) }
-    ensures begun { OnErr result (AppendsBeginning (W.contents writer.old) (W.contents writer.new)
+    ensures begun { IfErr result (λ fault. Stops fault (W.contents writer.old) (W.contents writer.new)
         (zone_text policy.now serial zone.now)) }
 {
     let ttl = ttl_of(policy);
@@ -49,7 +50,7 @@ fn write_soa<W: Write>(
 ) -> Result<(), ZoneFault>
     ensures written { OnOk result (Appends (W.contents writer.old) (W.contents writer.new)
         (soa_line policy.now.zone.label policy.now.soa serial)) }
-    ensures begun { OnErr result (AppendsBeginning (W.contents writer.old) (W.contents writer.new)
+    ensures begun { IfErr result (λ fault. Stops fault (W.contents writer.old) (W.contents writer.new)
         (soa_line policy.now.zone.label policy.now.soa serial)) }
 {
     let line = soa_line(alloc, policy, serial)?;
@@ -66,7 +67,7 @@ fn write_delegations<W: Write>(
 ) -> Result<(), ZoneFault>
     ensures written { OnOk result (Appends (W.contents writer.old) (W.contents writer.new)
         (flat_map (delegation_text ttl) delegations.now)) }
-    ensures begun { OnErr result (AppendsBeginning (W.contents writer.old) (W.contents writer.new)
+    ensures begun { IfErr result (λ fault. Stops fault (W.contents writer.old) (W.contents writer.new)
         (flat_map (delegation_text ttl) delegations.now)) }
 {
     for delegation in delegations {
@@ -84,7 +85,7 @@ fn write_delegation<W: Write>(
 ) -> Result<(), ZoneFault>
     ensures written { OnOk result (Appends (W.contents writer.old) (W.contents writer.new)
         (delegation_text ttl delegation.now)) }
-    ensures begun { OnErr result (AppendsBeginning (W.contents writer.old) (W.contents writer.new)
+    ensures begun { IfErr result (λ fault. Stops fault (W.contents writer.old) (W.contents writer.new)
         (delegation_text ttl delegation.now)) }
 {
     let text = delegation_lines(alloc, ttl, delegation)?;
@@ -101,7 +102,7 @@ fn write_glue<W: Write>(
 ) -> Result<(), ZoneFault>
     ensures written { OnOk result (Appends (W.contents writer.old) (W.contents writer.new)
         (flat_map (glue_text ttl) hosts.now)) }
-    ensures begun { OnErr result (AppendsBeginning (W.contents writer.old) (W.contents writer.new)
+    ensures begun { IfErr result (λ fault. Stops fault (W.contents writer.old) (W.contents writer.new)
         (flat_map (glue_text ttl) hosts.now)) }
 {
     for host in hosts {
@@ -119,7 +120,7 @@ fn write_addresses<W: Write>(
 ) -> Result<(), ZoneFault>
     ensures written { OnOk result (Appends (W.contents writer.old) (W.contents writer.new)
         (glue_text ttl host.now)) }
-    ensures begun { OnErr result (AppendsBeginning (W.contents writer.old) (W.contents writer.new)
+    ensures begun { IfErr result (λ fault. Stops fault (W.contents writer.old) (W.contents writer.new)
         (glue_text ttl host.now)) }
 {
     let text = glue_lines(alloc, ttl, host)?;

@@ -1,6 +1,8 @@
 -- What is read after the end of a connection, and thrown away, so that its client reads all that was written.
 use Rattle.std.specs.Prelude.{◌≤◌, ℕ, Bool, true, false, List, length, Option, None, Some}
 use Rattle.std.specs.Io.KnownBytes.{Consumes}
+use Rattle.std.specs.declared.io.ErrorKind.{ErrorKind}
+use Rattle.std.specs.declared.io.ErrorKind.TheVariants.{WouldBlock, Interrupted}
 use Rattle.server.specs.declared.connection.ConnectionEnd.{ConnectionEnd}
 use Rattle.server.specs.declared.connection.ConnectionEnd.TheVariants as ends
 use Rattle.server.specs.declared.http.HttpEnd.{HttpEnd}
@@ -31,6 +33,12 @@ may_have_more None = true
 may_have_more (Some (ends.Session end)) = session_may_have_more end
 may_have_more (Some (ends.Http end)) = request_may_have_more end
 may_have_more (Some ends.Unread) = false
+
+-- a read that failed so may be made again: nothing came while it waited, or it was interrupted
+abbrev pub is_passing : ErrorKind → Bool
+is_passing WouldBlock = true
+is_passing Interrupted = true
+is_passing _ = false
 
 -- how many bytes are read at once at most
 abbrev pub most_piece : ℕ

@@ -1,15 +1,15 @@
 use Rattle.std.proofs.Common.{◌≡◌, ℕ, true, ◌∙◌, subst}
 use Rattle.std.proofs.KnownBytes.{Appends-nil}
+use Rattle.std.proofs.lemmas.Result.{err_from_is_err_and}
 use Rattle.std.specs.Io.KnownBytes.{Appends}
 use Rattle.model.specs.Registry.{Registry}
 use Rattle.model.specs.Zone.{zone_data}
 use Rattle.objects.specs.declared.zone.ZoneData.{ZoneData}
 use Rattle.policy.specs.Rules.{PolicyRules}
 use Rattle.registry.specs.Faces.{LooksUp}
-use Rattle.streams.proofs.MoveLemmas.{OnErr-from}
 use Rattle.server.specs.ZoneExport.{text_of, zone_at}
 use Rattle.books.specs.Book.{BookState}
-use Rattle.zonefile.specs.ZoneText.{AppendsBeginning}
+use Rattle.zonefile.specs.ZoneText.{Stops}
 use Rattle.server.proofs.HttpLemmas.{passes_by}
 use Rattle.server.proofs.zone.zone_on.Goals as goal
 
@@ -19,7 +19,9 @@ text_is : (lapses : ℕ → Registry → Registry) (p q : PolicyRules) (moment :
 text_is lapses p q moment zone old new same found clean = λ i. text_of (same i) ((found clean).answer_is i)
 
 pub returns-in_err-zone-clause-begun : goal.returns-in_err-zone-clause-begun
-returns-in_err-zone-clause-begun g c = OnErr-from c.from_residual.result (λ clean. (0, Appends-nil _))
+returns-in_err-zone-clause-begun g c =
+    let gave = err_from_is_err_and c.from_residual.result c.from_residual.ensures.1 in
+    rw (gave.1, gave.2) (λ clean. Appends-nil _)
 
 pub returns-in_err-zone-clause-passes : goal.returns-in_err-zone-clause-passes
 returns-in_err-zone-clause-passes g c =
@@ -29,11 +31,13 @@ returns-in_err-zone-clause-passes g c =
     passes_by _ p c.args.moment (zone_data p.zone) _ c.zone_data.result c.zone_data.new.self.policy old new c.zone_data.ensures.step c.zone_data.ensures.keeps c.zone_data.ensures.fault
 
 pub returns-in_err-write_data-clause-begun : goal.returns-in_err-write_data-clause-begun
-returns-in_err-write_data-clause-begun g c = OnErr-from c.from_residual-in_err-write_data.result (λ clean.
+returns-in_err-write_data-clause-begun g c =
+    let gave = err_from_is_err_and c.from_residual-in_err-write_data.result c.from_residual-in_err-write_data.ensures.1 in
+    rw (gave.1, gave.2) (λ clean.
     let p : PolicyRules = c.args.registry.now.policy in
     let old : BookState = g.B.Book.state c.args.registry.now.book in
     let new : BookState = g.B.Book.state c.zone_data.new.self.book in
-    subst (AppendsBeginning _ _) (text_is _ p c.policy.result.now c.args.moment c.in_ok-zone.zone old new (c.policy.ensures ∙ c.zone_data.ensures.keeps.policy) c.in_ok-zone.ensures.step clean) c.in_err-write_data.ensures.begun)
+    subst (Stops _ _ _) (text_is _ p c.policy.result.now c.args.moment c.in_ok-zone.zone old new (c.policy.ensures ∙ c.zone_data.ensures.keeps.policy) c.in_ok-zone.ensures.step clean) c.in_err-write_data.ensures.begun)
 
 pub returns-in_err-write_data-clause-passes : goal.returns-in_err-write_data-clause-passes
 returns-in_err-write_data-clause-passes g c =

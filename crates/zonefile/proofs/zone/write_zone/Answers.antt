@@ -1,20 +1,21 @@
 use Rattle.std.proofs.Common.{subst}
-use Rattle.std.proofs.lemmas.Result.{on_err_weaker, on_ok_weaker}
+use Rattle.std.proofs.lemmas.Result.{IfErr-weaker, err_from_is_err_and, on_ok_weaker}
 use Rattle.std.specs.Io.KnownBytes.{Appends}
 use Rattle.std.specs.List.{flat_map}
-use Rattle.streams.proofs.MoveLemmas.{OnErr-from}
-use Rattle.zonefile.specs.ZoneText.{AppendsBeginning, delegation_text, glue_text}
+use Rattle.zonefile.specs.ZoneText.{Stops, delegation_text, glue_text}
 use Rattle.zonefile.proofs.WriteLemmas.{all_written, delegations_begun, glue_begun, soa_begun}
 use Rattle.zonefile.proofs.zone.write_zone.Goals as goal
 
 pub returns-in_err-write_soa-clause-begun : goal.returns-in_err-write_soa-clause-begun
-returns-in_err-write_soa-clause-begun g c = OnErr-from c.from_residual.result (
-    soa_begun c.args.policy.now c.args.serial c.args.zone.now _ _ c.in_err-write_soa.ensures.begun)
+returns-in_err-write_soa-clause-begun g c =
+    let p = err_from_is_err_and c.from_residual.result c.from_residual.ensures.1 in
+    rw (p.1, p.2) (soa_begun c.args.policy.now c.args.serial c.args.zone.now _ _ _ c.in_err-write_soa.ensures.begun)
 
 pub returns-in_err-write_delegations-clause-begun : goal.returns-in_err-write_delegations-clause-begun
-returns-in_err-write_delegations-clause-begun g c = OnErr-from c.from_residual-in_err-write_delegations.result (
-    delegations_begun c.args.policy.now c.args.serial c.args.zone.now _ _ _ c.in_ok-write_soa.ensures.written
-    (subst (AppendsBeginning _ _) (λ i. flat_map (delegation_text (c.ttl_of-ttl.ensures i)) (c.as_slice.ensures i)) c.in_err-write_delegations.ensures.begun))
+returns-in_err-write_delegations-clause-begun g c =
+    let p = err_from_is_err_and c.from_residual-in_err-write_delegations.result c.from_residual-in_err-write_delegations.ensures.1 in
+    rw (p.1, p.2) (delegations_begun c.args.policy.now c.args.serial c.args.zone.now _ _ _ _ c.in_ok-write_soa.ensures.written
+    (subst (Stops _ _ _) (λ i. flat_map (delegation_text (c.ttl_of-ttl.ensures i)) (c.as_slice.ensures i)) c.in_err-write_delegations.ensures.begun))
 
 pub returns-clause-written : goal.returns-clause-written
 returns-clause-written g c = on_ok_weaker c.write_glue.result (λ wrote.
@@ -23,7 +24,7 @@ returns-clause-written g c = on_ok_weaker c.write_glue.result (λ wrote.
     (subst (Appends _ _) (λ i. flat_map (glue_text (c.ttl_of-ttl.ensures i)) (c.as_slice-2.ensures i)) wrote)) c.write_glue.ensures.written
 
 pub returns-clause-begun : goal.returns-clause-begun
-returns-clause-begun g c = on_err_weaker c.write_glue.result (λ begun.
-    glue_begun c.args.policy.now c.args.serial c.args.zone.now _ _ _ _ c.in_ok-write_soa.ensures.written
+returns-clause-begun g c = IfErr-weaker c.write_glue.result _ _ (λ fault begun.
+    glue_begun c.args.policy.now c.args.serial c.args.zone.now fault _ _ _ _ c.in_ok-write_soa.ensures.written
     (subst (Appends _ _) (λ i. flat_map (delegation_text (c.ttl_of-ttl.ensures i)) (c.as_slice.ensures i)) c.in_ok-write_delegations.ensures.written)
-    (subst (AppendsBeginning _ _) (λ i. flat_map (glue_text (c.ttl_of-ttl.ensures i)) (c.as_slice-2.ensures i)) begun)) c.write_glue.ensures.begun
+    (subst (Stops fault _ _) (λ i. flat_map (glue_text (c.ttl_of-ttl.ensures i)) (c.as_slice-2.ensures i)) begun)) c.write_glue.ensures.begun
