@@ -10,20 +10,15 @@ use Rattle.memory.specs.Runs.{EndsByFile, EndsUnder, start}
 use Rattle.model.specs.Registry.{Registry}
 
 -- a run over a book from which nothing wrong is taken ends as one does
-ends_in : (exit : Exit) (p : PolicyRules) (before after : Registry) (input : List ℕ) (old new : Option (List ℕ)) → EndsIn p before after input old new exit → Ends p before input old new exit
-ends_in exits.Done p before after input old new ends = (after, ends)
-ends_in (exits.Script n) p before after input old new ends = (ends.0, ends.1, ends.2.0)
-ends_in _ p before after input old new ends = ends
-
 pub Ends-clean : (A : Type 0) (exit : Exit) (p : PolicyRules) (before after : Registry) (o old new : Option (List ℕ))
     → IfSome o (λ input. A → EndsIn p before after input old new exit) → A → IfSome o (λ input. Ends p before input old new exit)
 Ends-clean A exit p before after None old new ends clean = tt
-Ends-clean A exit p before after (Some input) old new ends clean = ends_in exit p before after input old new (ends clean)
+Ends-clean A exit p before after (Some input) old new ends clean = (after, ends clean)
 
 -- ---- under a policy
 
 ends_under : (exit : Exit) (p : PolicyRules) (input : List ℕ) (old new : Option (List ℕ)) → Ends p (start p) input old new exit → EndsUnder p input old new exit
-ends_under (exits.Open fault) p input old new ends = absurd ends
+ends_under (exits.Open fault) p input old new ends = absurd ends.1
 ends_under _ p input old new ends = ends
 
 pub EndsUnder-opened : (exit : Exit) (p q : PolicyRules) (before : Registry) (a old new : Option (List ℕ)) → q ≡ p → before ≡ start p
@@ -34,7 +29,7 @@ EndsUnder-opened exit p q before (Some input) old new same at ends =
     ends_under exit p input old new (subst (λ (s : Registry). Ends p s input old new exit) at under)
 
 by_file : (exit : Exit) (policy : List ℕ) (p : PolicyRules) (input : List ℕ) (old new : Option (List ℕ)) → policy_of policy ≡ Ok p → EndsUnder p input old new exit → EndsByFile policy input old new exit
-by_file (exits.Policy fault) policy p input old new read ends = absurd ends
+by_file (exits.Policy fault) policy p input old new read ends = absurd ends.1
 by_file _ policy p input old new read ends = (p, read, ends)
 
 pub EndsByFile-read : (exit : Exit) (policy : List ℕ) (p : PolicyRules) (a old new : Option (List ℕ)) → policy_of policy ≡ Ok p

@@ -1,7 +1,10 @@
--- What a look at what waits, and a look-up, leave.
-use Rattle.std.proofs.Common.{ℕ, inl, inr, ap}
+-- What a look at what waits, a look-up, and an order that is given up leave.
+use Rattle.std.proofs.Common.{◌⊎◌, ℕ, List, Option, inl, inr, ap, refl}
 use Rattle.std.specs.Prelude.{Result, Ok, Err, IfErr, IfOk}
+use Rattle.operator.specs.Operations.{IsFailedOrder, IsNoOrder, outcome_of_exit}
 use Rattle.policy.specs.Rules.{PolicyRules}
+use Rattle.protocol.specs.declared.code.Code.{Code}
+use Rattle.protocol.specs.declared.order.OperatorRequest.{OperatorRequest}
 use Rattle.model.specs.Registry.{Registry}
 use Rattle.registry.specs.Calls.{LooksUpKeeping, StepKeeps}
 use Rattle.registry.specs.Execution.{Fails, IsUnchanged, ShowsBacklog}
@@ -9,6 +12,10 @@ use Rattle.registry.specs.Faces.{LooksUp}
 use Rattle.registry.specs.declared.backlog.Backlog.{Backlog}
 use Rattle.registry.specs.declared.fault.Fault.{Fault}
 use Rattle.registry.specs.declared.fault.Fault.TheVariants as faults
+use Rattle.script.specs.Deposits.{IsAnsweredBy, PrintsBeginning}
+use Rattle.script.specs.Orders.{EndsUnanswered}
+use Rattle.script.specs.declared.exit.Exit.{Exit}
+use Rattle.script.specs.declared.exit.Exit.TheVariants as exits
 use Rattle.server.specs.Http.{Passes}
 use Rattle.books.specs.Book.{BookState, Stored}
 
@@ -39,3 +46,33 @@ passes_by lapses p moment find makes (Err fault) after old new step keeps fails 
       terms = λ clean. ap (λ (held : Stored). held.terms) (kept.content clean);
       follows = keeps.follows;
     }
+
+carried : (p : PolicyRules) (request : OperatorRequest) (moment : ℕ) (old new : BookState) (before after : Option (List ℕ)) → PrintsBeginning p request moment old new before after
+    → (code : Code) × (lapsed : Option ℕ) × IsAnsweredBy p request moment code lapsed old new
+unfolding PrintsBeginning
+carried p request moment old new before after (code, lapsed, by, began) = (code, lapsed, by)
+
+-- an order that isn't answered is no order, or failed
+pub unanswered : (p : PolicyRules) (body : List ℕ) (moment : ℕ) (old new : BookState) (before after : Option (List ℕ)) (exit : Exit) → EndsUnanswered p body moment old new before after exit
+    → IsNoOrder body (outcome_of_exit exit) old new ⊎ IsFailedOrder p body moment (outcome_of_exit exit) old new
+unanswered p body moment old new before after (exits.Script n) (inl (one, none, same, kept)) = inl (refl, none, same)
+unanswered p body moment old new before after (exits.Script n) (inr (request, is, ends)) = absurd ends
+unanswered p body moment old new before after exits.Memory (inl (same, kept)) = inr (refl, inl same)
+unanswered p body moment old new before after exits.Memory (inr (request, is, inl (same, kept))) = inr (refl, inl same)
+unanswered p body moment old new before after exits.Memory (inr (request, is, inr prints)) = inr (refl, inr (request, is, carried p request moment old new before after prints))
+unanswered p body moment old new before after exits.File (inl ends) = absurd ends
+unanswered p body moment old new before after exits.File (inr (request, is, prints)) = inr (refl, inr (request, is, carried p request moment old new before after prints))
+unanswered p body moment old new before after (exits.Registry fault) (inl ends) = absurd ends
+unanswered p body moment old new before after (exits.Registry fault) (inr (request, is, (fails, kept))) = inr (refl, inl (unchanged fault old new fails))
+unanswered p body moment old new before after exits.Done (inl ends) = absurd ends
+unanswered p body moment old new before after exits.Done (inr (request, is, ends)) = absurd ends
+unanswered p body moment old new before after exits.Refused (inl ends) = absurd ends
+unanswered p body moment old new before after exits.Refused (inr (request, is, ends)) = absurd ends
+unanswered p body moment old new before after exits.Usage (inl ends) = absurd ends
+unanswered p body moment old new before after exits.Usage (inr (request, is, ends)) = absurd ends
+unanswered p body moment old new before after (exits.Policy fault) (inl ends) = absurd ends
+unanswered p body moment old new before after (exits.Policy fault) (inr (request, is, ends)) = absurd ends
+unanswered p body moment old new before after (exits.Open fault) (inl ends) = absurd ends
+unanswered p body moment old new before after (exits.Open fault) (inr (request, is, ends)) = absurd ends
+unanswered p body moment old new before after exits.Network (inl ends) = absurd ends
+unanswered p body moment old new before after exits.Network (inr (request, is, ends)) = absurd ends

@@ -24,7 +24,7 @@ use Rattle.registry.specs.Execution.{IsUnchanged, ShowsBacklog}
 use Rattle.registry.specs.declared.backlog.Backlog.{Backlog}
 use Rattle.script.specs.declared.exit.Exit.{Exit}
 use Rattle.script.specs.declared.exit.Exit.TheVariants as exits
-use Rattle.script.specs.Deposits.{IsCarriedOut}
+use Rattle.script.specs.Deposits.{IsAnsweredBy}
 use Rattle.script.specs.Orders.{IsOrdered, PrintsAnswer}
 use Rattle.server.specs.Http.{Passes}
 use Rattle.server.specs.ZoneExport.{zone_at}
@@ -59,7 +59,8 @@ IsNoOrder body outcome old new =
 abbrev pub IsFailedOrder : PolicyRules → List ℕ → ℕ → Outcome → BookState → BookState → Type 0
 IsFailedOrder p body moment outcome old new =
     (outcome ≡ outcomes.Failed)
-    × (IsUnchanged old new ⊎ IsOrdered body (λ request. IsCarriedOut p request moment old new))
+    × (IsUnchanged old new ⊎ IsOrdered body (λ request.
+    (code : Code) × (lapsed : Option ℕ) × IsAnsweredBy p request moment code lapsed old new))
 
 -- what becomes of a body, and its answer
 abbrev pub Orders : PolicyRules → List ℕ → ℕ → Outcome → List ℕ → BookState → BookState → Type 0

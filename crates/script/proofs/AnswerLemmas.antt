@@ -1,13 +1,16 @@
 -- What a registrar is answered, and the operator, as a script prints it.
-use Rattle.std.proofs.Common.{◌≡◌, ◌⊎◌, ◌≤◌, inl, inr, ℕ, Bool, true, false, cond, List, Some, None, IfSome, refl, sym, ap, subst, ◌∙◌}
+use Rattle.std.proofs.Common.{◌≡◌, ◌⊎◌, ◌≤◌, inl, inr, ℕ, Bool, true, false, cond, List, [], Some, None, IfSome, refl, sym, ap, subst, ◌∙◌}
 use Rattle.std.specs.Prelude.{Option}
+use Rattle.eppcommands.specs.Order.{order_in}
 use Rattle.eppcommands.specs.Session.{in_session}
 use Rattle.eppreplies.specs.Answer.{answer_text}
 use Rattle.eppreplies.specs.Greeting.{greeting_text}
 use Rattle.eppreplies.specs.Reply.{reply_text}
 use Rattle.eppwire.specs.Answers.{AnswersRegistrar, AnswersSaid, Tells, is_last}
 use Rattle.eppwire.specs.Answers as wire
-use Rattle.frames.specs.Outcomes.{Outcome, ended, replied}
+use Rattle.frames.specs.Outcomes.{Outcome, ended, failed, lost, outcome_of, replied}
+use Rattle.frames.specs.Texts.{failed_text}
+use Rattle.frames.specs.declared.peer.Answer.{Answer}
 use Rattle.policy.specs.Rules.{PolicyRules}
 use Rattle.protocol.specs.declared.code.Code.{Code}
 use Rattle.protocol.specs.declared.code.Code.TheVariants.{Completed}
@@ -17,18 +20,19 @@ use Rattle.protocol.specs.declared.session.InSession.{InSession}
 use Rattle.protocol.specs.declared.session.InSession.TheVariants.{Hello, Ordinary}
 use Rattle.registry.specs.Execution.{last_call}
 use Rattle.script.specs.Deposits.{IsAnsweredBy}
-use Rattle.script.specs.Runs.{GivesUp, IsAnswered, OperatorSteps, SaidSteps, kept}
+use Rattle.script.specs.Runs.{Answers, GivesUp, IsAnswered, OperatorSteps, SaidSteps, kept}
 use Rattle.script.specs.declared.line.Sender.{Sender}
 use Rattle.script.specs.declared.line.Sender.TheVariants.{Registrar, Operator}
-use Rattle.script.specs.Lines.{registrar_of}
-use Rattle.script.specs.inner.Runs.{printed_text}
+use Rattle.script.specs.Lines.{Asked, IsLine, registrar_of}
+use Rattle.script.specs.inner.Runs.{IsAnsweredOperator, TextOf, printed_text}
 use Rattle.books.specs.Book.{BookState, Stored}
+use Rattle.model.specs.Registry.{Registry}
 
 -- ---- a registrar
 
-told_reply : (last : Bool) (text : List ℕ) → printed_text (cond last (ended text) (replied text)) ≡ Some text
-told_reply true text = refl
-told_reply false text = refl
+told_reply : (P : List ℕ → Type 0) (last : Bool) (text : List ℕ) → P text → TextOf P (cond last (ended text) (replied text))
+told_reply P true text holds = holds
+told_reply P false text holds = holds
 
 abbrev number_in : Option ℕ → ℕ
 number_in (Some n) = n
@@ -37,26 +41,30 @@ number_in None = 0
 module _ (p : PolicyRules) (r moment : ℕ) (old : BookState) (outcome : Outcome) (new : BookState) where
   -- what is printed, if nothing wrong was taken from what keeps the book
   abbrev IsPrinted : (List ℕ → Type 0) → Type 0
-  IsPrinted P = IfSome (printed_text outcome) (λ text. new.is_clean ≡ true → P text)
+  IsPrinted P = TextOf (λ text. new.is_clean ≡ true → P text) outcome
 
-  printed : (P : List ℕ → Type 0) (wanted : Outcome) (text : List ℕ) → printed_text wanted ≡ Some text → Tells wanted outcome → (new.is_clean ≡ true → P text) → IsPrinted P
-  printed P wanted text is (inl e) holds = subst (λ (o : Option (List ℕ)). IfSome o (λ text. new.is_clean ≡ true → P text)) (sym (ap printed_text e ∙ is)) holds
-  printed P wanted text is (inr e) holds = subst (λ (o : Outcome). IfSome (printed_text o) (λ text. new.is_clean ≡ true → P text)) (sym e) tt
+  printed : (P : List ℕ → Type 0) (wanted : Outcome) (text : List ℕ) → TextOf (λ text. new.is_clean ≡ true → P text) wanted → Tells wanted outcome → (new.is_clean ≡ true → P text) → IsPrinted P
+  printed P wanted text told (inl e) holds = subst (TextOf (λ text. new.is_clean ≡ true → P text)) (sym e) told
+  printed P wanted text told (inr e) holds = subst (TextOf (λ text. new.is_clean ≡ true → P text)) (sym e) (text, holds)
 
   abbrev IsSaid : InSession → List ℕ → Type 0
   IsSaid words text = GivesUp (kept old) (kept new) text ⊎ SaidSteps p r words moment (kept old) (kept new) text
 
   gave_up : (words : InSession) → wire.GivesUp old outcome new → IsPrinted (IsSaid words)
-  gave_up words gives = subst (λ (o : Outcome). IfSome (printed_text o) (λ text. new.is_clean ≡ true → IsSaid words text)) (sym gives.0)
+  gave_up words gives = subst (TextOf (λ text. new.is_clean ≡ true → IsSaid words text)) (sym gives.0)
       (λ clean. inl (record { same = ap (λ (s : Stored). s.registry) (gives.1.content clean); fixed = refl }))
 
   said : (words : InSession) → AnswersSaid p r words moment old outcome new → IsPrinted (IsSaid words)
   said Hello (inl gives) = gave_up Hello gives
-  said Hello (inr greeted) = printed (IsSaid Hello) _ (greeting_text greeted.date) refl greeted.answer_is
-      (λ clean. inr (record { date = greeted.date; early = greeted.early; step = greeted.step clean; written = refl }))
+  said Hello (inr greeted) =
+      let holds : new.is_clean ≡ true → IsSaid Hello (greeting_text greeted.date) =
+      λ clean. inr (record { date = greeted.date; early = greeted.early; step = greeted.step clean; written = refl }) in
+      printed (IsSaid Hello) _ (greeting_text greeted.date) holds greeted.answer_is holds
   said (Ordinary c) (inl gives) = gave_up (Ordinary c) gives
-  said (Ordinary c) (inr served) = printed (IsSaid (Ordinary c)) _ (reply_text served.reply) (told_reply (is_last served.reply.code) (reply_text served.reply)) served.answer_is
-      (λ clean. inr (record { reply = served.reply; early = served.early; step = served.step clean; written = refl }))
+  said (Ordinary c) (inr served) =
+      let holds : new.is_clean ≡ true → IsSaid (Ordinary c) (reply_text served.reply) =
+      λ clean. inr (record { reply = served.reply; early = served.early; step = served.step clean; written = refl }) in
+      printed (IsSaid (Ordinary c)) _ (reply_text served.reply) (told_reply (λ text. new.is_clean ≡ true → IsSaid (Ordinary c) text) (is_last served.reply.code) (reply_text served.reply) holds) served.answer_is holds
 
   answered : (payload : List ℕ) → AnswersRegistrar p r payload moment old outcome new → IsPrinted (IsAnswered p (Registrar r) payload moment (kept old) (kept new))
   answered payload (inl gives) = gave_up (in_session payload) gives
@@ -82,7 +90,44 @@ operator_steps p (requests.Settle at_most) moment code lapsed old new text (comp
   written = is ∙ ap (λ (c : Code). answer_text c lapsed) completed ∙ ap (answer_text Completed) some;
 }
 
+operator_answered : (p : PolicyRules) (request : OperatorRequest) (payload : List ℕ) (moment : ℕ) (before after : Registry) (text : List ℕ) → order_in payload ≡ Some request
+    → IsAnsweredOperator p request moment before after text → IsAnswered p Operator payload moment before after text
+operator_answered p request payload moment before after text is (inl gives) = inl gives
+operator_answered p request payload moment before after text is (inr steps) = inr (request, is, steps)
+
 -- ---- a line
 
-pub by_told : (o : Option (List ℕ)) (text : List ℕ) (P : List ℕ → Type 0) → Some text ≡ o → IfSome o P → P text
-by_told o text P is holds = subst (λ (o : Option (List ℕ)). IfSome o P) (sym is) holds
+TextOf-weaker : (o : Outcome) (P Q : List ℕ → Type 0) → ((text : List ℕ) → P text → Q text) → TextOf P o → TextOf Q o
+TextOf-weaker (replied reply) P Q more holds = more reply holds
+TextOf-weaker (ended reply) P Q more holds = more reply holds
+TextOf-weaker failed P Q more holds = more failed_text holds
+TextOf-weaker lost P Q more (text, holds) = (text, more text holds)
+
+pub order_answered : (sender : Sender) (p : PolicyRules) (request : OperatorRequest) (payload : List ℕ) (moment : ℕ) (before after : Registry) (o : Outcome) (A : Type 0) → None ≡ registrar_of sender → order_in payload ≡ Some request
+    → TextOf (λ text. A → IsAnsweredOperator p request moment before after text) o → TextOf (λ text. A → IsAnswered p sender payload moment before after text) o
+order_answered (Registrar r) p request payload moment before after o A none is holds = absurd cc
+order_answered Operator p request payload moment before after o A none is holds =
+    TextOf-weaker o _ _ (λ text answered given. operator_answered p request payload moment before after text is (answered given)) holds
+
+pub line_answered : (result : Option Answer) (p q : PolicyRules) (line : List ℕ) (it : Asked) (before after : Registry) (A : Type 0) → q ≡ p → IsLine q line it
+    → IfSome result (λ answer. TextOf (λ text. A → IsAnswered p it.sender it.payload it.moment before after text) (outcome_of answer))
+    → IfSome result (λ answer. TextOf (λ text. A → Answers p line before after text) (outcome_of answer))
+line_answered None p q line it before after A same form holds = tt
+line_answered (Some answer) p q line it before after A same form holds =
+    TextOf-weaker (outcome_of answer) _ _ (λ text answered given. record { asked = it; form = subst (λ (r : PolicyRules). IsLine r line it) same form; answered = answered given }) holds
+
+abbrev text_in : Option (List ℕ) → List ℕ
+text_in (Some text) = text
+text_in None = []
+
+pub by_told : (o : Outcome) (text : List ℕ) (P : List ℕ → Type 0) → Some text ≡ printed_text o → TextOf P o → P text
+by_told (replied reply) text P is holds = subst P (sym (ap text_in is)) holds
+by_told (ended reply) text P is holds = subst P (sym (ap text_in is)) holds
+by_told failed text P is holds = subst P (sym (ap text_in is)) holds
+by_told lost text P is holds = absurd cc
+
+pub lost_told : (o : Outcome) (P : List ℕ → Type 0) → None ≡ printed_text o → TextOf P o → (text : List ℕ) × P text
+lost_told (replied reply) P is holds = absurd cc
+lost_told (ended reply) P is holds = absurd cc
+lost_told failed P is holds = absurd cc
+lost_told lost P is holds = holds

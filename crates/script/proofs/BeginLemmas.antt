@@ -14,7 +14,7 @@ use Rattle.script.specs.declared.exit.Exit.{Exit}
 use Rattle.script.specs.declared.exit.Exit.TheVariants as exits
 use Rattle.script.specs.Exits.{exit_of}
 use Rattle.script.specs.Runs.{Answers, BeginsBehind, Begins, EndsIn, Prints, Writes, lines_of, printed}
-use Rattle.script.specs.inner.Runs.{AppendsFront, BreaksAt, EndsBehind}
+use Rattle.script.specs.inner.Runs.{AppendsFront, BeginsLine, BreaksAt, EndsBehind}
 use Rattle.streams.specs.Moves.{AppendsLess}
 use Rattle.script.proofs.RunLemmas.{ArePrinted, Prints-told, Reads, next_lines, under}
 
@@ -55,52 +55,58 @@ front_behind (Some x) (Some y) c before pending sent is_printed more s t (front,
 
 -- lines that were told, behind which a fault comes
 pub begun_between : (p : PolicyRules) (lines : List (List ℕ)) (before after : Registry) (a b old new : Option (List ℕ)) (pending : List ℕ)
-    → Reads lines a b → ArePrinted p lines before after (append_known old pending) new → IfSome a (λ input. Writes old new (BeginsBehind pending p before input))
+    → Reads lines a b → ArePrinted p lines before after (append_known old pending) new → IfSome a (λ input. Writes old new (BeginsBehind pending p before after input))
 begun_between p lines before after None b old new pending r is_printed = tt
 begun_between p lines before after (Some input) None old new pending r is_printed = absurd r
 begun_between p lines before after (Some input) (Some others) old new pending r is_printed =
     let text : List ℕ = pending ++ printed is_printed.replies in (
       text,
       known_pending old new pending (printed is_printed.replies) is_printed.written,
-      record { lines = lines; others = lines_of others; split = r; after = after; replies = is_printed.replies; prints = is_printed.prints; rest = []; text = sym (append-nil text) },
+      record { lines = lines; others = lines_of others; split = r; replies = is_printed.replies; prints = is_printed.prints; rest = []; text = sym (append-nil text) },
     )
 
 front_begins : (p : PolicyRules) (lines others : List (List ℕ)) (before after : Registry) (replies : List (List ℕ)) (input : List ℕ) (old new : Option (List ℕ)) (pending : List ℕ)
-    → lines_of input ≡ lines ++ others → Prints p lines before after replies → AppendsFront old new (pending ++ printed replies) → Writes old new (BeginsBehind pending p before input)
+    → lines_of input ≡ lines ++ others → Prints p lines before after replies → AppendsFront old new (pending ++ printed replies) → Writes old new (BeginsBehind pending p before after input)
 front_begins p lines others before after replies input old new pending split prints (front, rest, wrote, is) =
-    (front, wrote, record { lines = lines; others = others; split = split; after = after; replies = replies; prints = prints; rest = rest; text = is })
+    (front, wrote, record { lines = lines; others = others; split = split; replies = replies; prints = prints; rest = rest; text = is })
 
 -- a line breaks a run, behind the lines that were told
-pub begun_at : (p q : PolicyRules) (lines : List (List ℕ)) (text line : List ℕ) (before middle : Registry) (a b old between new : Option (List ℕ)) (first pending sent : List ℕ)
+pub begun_at : (p q : PolicyRules) (lines : List (List ℕ)) (text line : List ℕ) (before middle after : Registry) (a b old between new : Option (List ℕ)) (first pending sent : List ℕ)
     → q ≡ p → line ≡ strip_last 10 text → Reads lines a b → IfSome b (λ xs. text ≡ take_through 10 xs) → 0 < length text
-    → ArePrinted p lines before middle (append_known old first) (append_known between pending) → Appends old between sent → BreaksAt q line middle between pending new
-    → IfSome a (λ input. Writes old new (BeginsBehind first p before input))
-begun_at p q lines text line before middle None b old between new first pending sent same l r t h is_printed s breaks = tt
-begun_at p q lines text line before middle (Some input) None old between new first pending sent same l r t h is_printed s breaks = absurd r
-begun_at p q lines text line before middle (Some input) (Some xs) old between new first pending sent same l r t h is_printed s (more, may, front) =
+    → ArePrinted p lines before middle (append_known old first) (append_known between pending) → Appends old between sent → BeginsLine q line middle after between pending new
+    → IfSome a (λ input. Writes old new (BeginsBehind first p before after input))
+begun_at p q lines text line before middle after None b old between new first pending sent same l r t h is_printed s begins = tt
+begun_at p q lines text line before middle after (Some input) None old between new first pending sent same l r t h is_printed s begins = absurd r
+begun_at p q lines text line before middle after (Some input) (Some xs) old between new first pending sent same l r t h is_printed s (more, prints, front) =
     let all : AppendsFront old new (first ++ (printed is_printed.replies ++ printed more)) = front_behind old between new first pending sent (printed is_printed.replies) (printed more) s is_printed.written front in
     let wrote : AppendsFront old new (first ++ printed (is_printed.replies ++ more)) = subst (λ (l : List ℕ). AppendsFront old new (first ++ l)) (sym (flat_map-append (λ reply. reply ++ codes "\n") is_printed.replies more)) all in
-    by may wrote
-  where
-    by : (more ≡ []) ⊎ ((after : Registry) × Prints q (line ∷ []) middle after more) → AppendsFront old new (first ++ printed (is_printed.replies ++ more)) → Writes old new (BeginsBehind first p before input)
-    by (inl none) wrote =
-        let same_replies : is_printed.replies ++ more ≡ is_printed.replies = ap (λ (m : List (List ℕ)). is_printed.replies ++ m) none ∙ append-nil is_printed.replies in
-        front_begins p lines (lines_of xs) before middle is_printed.replies input old new first r is_printed.prints (subst (λ (m : List (List ℕ)). AppendsFront old new (first ++ printed m)) same_replies wrote)
-    by (inr (after, prints)) wrote =
-        let some : 0 < length (take_through 10 xs) = subst (λ (t : List ℕ). 0 < length t) t h in
-        let here : List ℕ = strip_last 10 text in
-        let next : lines_of xs ≡ here ∷ lines_of (drop_through 10 xs) = next_lines xs some ∙ ap (λ (t : List ℕ). strip_last 10 t ∷ lines_of (drop_through 10 xs)) (sym t) in
-        let split : lines_of input ≡ (lines ++ here ∷ []) ++ lines_of (drop_through 10 xs) = r ∙ ap (λ (ls : List (List ℕ)). lines ++ ls) next ∙ sym (append_assoc lines (here ∷ []) (lines_of (drop_through 10 xs))) in
-        front_begins p (lines ++ here ∷ []) (lines_of (drop_through 10 xs)) before after (is_printed.replies ++ more) input old new first split (Prints-told p q lines here line before middle after is_printed.replies more same l is_printed.prints prints) wrote
+    let some : 0 < length (take_through 10 xs) = subst (λ (t : List ℕ). 0 < length t) t h in
+    let here : List ℕ = strip_last 10 text in
+    let next : lines_of xs ≡ here ∷ lines_of (drop_through 10 xs) = next_lines xs some ∙ ap (λ (t : List ℕ). strip_last 10 t ∷ lines_of (drop_through 10 xs)) (sym t) in
+    let split : lines_of input ≡ (lines ++ here ∷ []) ++ lines_of (drop_through 10 xs) = r ∙ ap (λ (ls : List (List ℕ)). lines ++ ls) next ∙ sym (append_assoc lines (here ∷ []) (lines_of (drop_through 10 xs))) in
+    front_begins p (lines ++ here ∷ []) (lines_of (drop_through 10 xs)) before after (is_printed.replies ++ more) input old new first split (Prints-told p q lines here line before middle after is_printed.replies more same l is_printed.prints prints) wrote
 
 -- ---- a line that breaks a run
 
+abbrev pub IsFault : Exit → Type 0
+IsFault exit = (exit ≡ exits.File) ⊎ (exit ≡ exits.Memory)
+
 -- it is answered, and its reply can't be printed to its end
-pub breaks_told : (p : PolicyRules) (line text : List ℕ) (before after : Registry) (old new : Option (List ℕ)) (pending : List ℕ)
-    → (length line == 0) ≡ false → Answers p line before after text → AppendsFront old new (pending ++ (text ++ codes "\n")) → BreaksAt p line before old pending new
-breaks_told p [] text before after old new pending some answers front = absurd cc
-breaks_told p (byte ∷ bytes) text before after old new pending some answers front =
-    (text ∷ [], inr (after, (text, [], after, refl, answers, (refl, refl))), subst (λ (l : List ℕ). AppendsFront old new (pending ++ l)) (sym (append-nil (text ++ codes "\n"))) front)
+line_told : (p : PolicyRules) (line text : List ℕ) (before after : Registry) (old new : Option (List ℕ)) (pending : List ℕ)
+    → (length line == 0) ≡ false → Answers p line before after text → AppendsFront old new (pending ++ (text ++ codes "\n")) → BeginsLine p line before after old pending new
+line_told p [] text before after old new pending some answers front = absurd cc
+line_told p (byte ∷ bytes) text before after old new pending some answers front =
+    (text ∷ [], (text, [], after, refl, answers, (refl, refl)), subst (λ (l : List ℕ). AppendsFront old new (pending ++ l)) (sym (append-nil (text ++ codes "\n"))) front)
+
+pub breaks_told : (exit : Exit) (p : PolicyRules) (line text : List ℕ) (before after : Registry) (old new : Option (List ℕ)) (pending : List ℕ) → IsFault exit
+    → (length line == 0) ≡ false → Answers p line before after text → AppendsFront old new (pending ++ (text ++ codes "\n")) → BreaksAt p line before after old pending new exit
+breaks_told exit p line text before after old new pending (inl is) some answers front = rw is (line_told p line text before after old new pending some answers front)
+breaks_told exit p line text before after old new pending (inr is) some answers front = rw is (line_told p line text before after old new pending some answers front)
+
+-- nothing more than what was pending
+pub pending_front : (a : Option (List ℕ)) (pending text : List ℕ) → AppendsFront a (append_known a pending) (pending ++ text)
+pending_front None pending text = ([], pending ++ text, tt, refl)
+pending_front (Some x) pending text = (pending, text, refl, refl)
 
 -- ---- what is printed of a reply
 
@@ -128,9 +134,6 @@ no_text pending new text same = ([], text, same ∙ sym (append-nil pending), re
 
 -- ---- the ends
 
-abbrev pub IsFault : Exit → Type 0
-IsFault exit = (exit ≡ exits.File) ⊎ (exit ≡ exits.Memory)
-
 pub fault_of_kind : (kind : ErrorKind) → IsFault (exit_of kind)
 fault_of_kind OutOfMemory = inr refl
 fault_of_kind _ = inl refl
@@ -140,47 +143,47 @@ fault_by exit kind is = subst IsFault (sym is) (fault_of_kind kind)
 
 -- ---- a run that a fault ends before its first line
 
-nothing_begun : (p : PolicyRules) (before : Registry) (input : List ℕ) → Begins p before input []
-nothing_begun p before input = record { lines = []; others = lines_of input; split = refl; after = before; replies = []; prints = (refl, refl); rest = []; text = refl }
+nothing_begun : (p : PolicyRules) (before : Registry) (input : List ℕ) → Begins p before before input []
+nothing_begun p before input = record { lines = []; others = lines_of input; split = refl; replies = []; prints = (refl, refl); rest = []; text = refl }
 
 pub never_begun : (A : Type 0) (exit : Exit) (p : PolicyRules) (before : Registry) (a old : Option (List ℕ)) → IsFault exit → IfSome a (λ input. A → EndsIn p before before input old old exit)
 never_begun A exit p before None old is = tt
 never_begun A exit p before (Some input) old (inl is) = λ unused. rw is ([], Appends-nil old, nothing_begun p before input)
 never_begun A exit p before (Some input) old (inr is) = λ unused. rw is ([], Appends-nil old, nothing_begun p before input)
 
-fault_ends : (exit : Exit) (p : PolicyRules) (before after : Registry) (input : List ℕ) (old : Option (List ℕ)) (pending : List ℕ) (new : Option (List ℕ)) → IsFault exit → Writes old new (BeginsBehind pending p before input) → EndsBehind p before after input old pending new exit
+fault_ends : (exit : Exit) (p : PolicyRules) (before after : Registry) (input : List ℕ) (old : Option (List ℕ)) (pending : List ℕ) (new : Option (List ℕ)) → IsFault exit → Writes old new (BeginsBehind pending p before after input) → EndsBehind p before after input old pending new exit
 fault_ends exit p before after input old pending new (inl is) begun = rw is begun
 fault_ends exit p before after input old pending new (inr is) begun = rw is begun
 
-faults_end : (exit : Exit) (p : PolicyRules) (before after : Registry) (a old : Option (List ℕ)) (pending : List ℕ) (new : Option (List ℕ)) → IsFault exit → IfSome a (λ input. Writes old new (BeginsBehind pending p before input))
+faults_end : (exit : Exit) (p : PolicyRules) (before after : Registry) (a old : Option (List ℕ)) (pending : List ℕ) (new : Option (List ℕ)) → IsFault exit → IfSome a (λ input. Writes old new (BeginsBehind pending p before after input))
     → IfSome a (λ input. EndsBehind p before after input old pending new exit)
 faults_end exit p before after None old pending new is begun = tt
 faults_end exit p before after (Some input) old pending new is begun = fault_ends exit p before after input old pending new is begun
 
 -- a fault between two lines ends a run
-pub Ends-between : (A : Type 0) (exit : Exit) (p : PolicyRules) (lines : List (List ℕ)) (before middle after : Registry) (a b old new : Option (List ℕ)) (pending : List ℕ) → IsFault exit
-    → Reads lines a b → (A → ArePrinted p lines before middle (append_known old pending) new) → IfSome a (λ input. A → EndsBehind p before after input old pending new exit)
-Ends-between A exit p lines before middle after a b old new pending is r is_printed = under A a _ (λ given. faults_end exit p before after a old pending new is (begun_between p lines before middle a b old new pending r (is_printed given)))
+pub Ends-between : (A : Type 0) (exit : Exit) (p : PolicyRules) (lines : List (List ℕ)) (before after : Registry) (a b old new : Option (List ℕ)) (pending : List ℕ) → IsFault exit
+    → Reads lines a b → (A → ArePrinted p lines before after (append_known old pending) new) → IfSome a (λ input. A → EndsBehind p before after input old pending new exit)
+Ends-between A exit p lines before after a b old new pending is r is_printed = under A a _ (λ given. faults_end exit p before after a old pending new is (begun_between p lines before after a b old new pending r (is_printed given)))
 
 -- what was printed in a run, however it ended
-pub begun_by : (exit : Exit) (p : PolicyRules) (before after : Registry) (input : List ℕ) (a new : Option (List ℕ)) → EndsBehind p before after input a [] new exit → Writes a new (Begins p before input)
+pub begun_by : (exit : Exit) (p : PolicyRules) (before after : Registry) (input : List ℕ) (a new : Option (List ℕ)) → EndsBehind p before after input a [] new exit → Writes a new (Begins p before after input)
 begun_by exits.Done p before after input a new (written, wrote, ends) = (
   written,
   known_pending a new [] written wrote,
-  record { lines = lines_of input; others = []; split = sym (append-nil (lines_of input)); after = after; replies = ends.replies; prints = ends.prints; rest = []; text = sym ends.text ∙ sym (append-nil written) },
+  record { lines = lines_of input; others = []; split = sym (append-nil (lines_of input)); replies = ends.replies; prints = ends.prints; rest = []; text = sym ends.text ∙ sym (append-nil written) },
 )
-begun_by (exits.Script n) p before after input a new (written, wrote, (stops, left)) = (
+begun_by (exits.Script n) p before after input a new (written, wrote, stops) = (
   written,
   known_pending a new [] written wrote,
-  record { lines = stops.lines; others = stops.line ∷ stops.others; split = stops.split; after = stops.after; replies = stops.replies; prints = stops.prints; rest = []; text = sym stops.text ∙ sym (append-nil written) },
+  record { lines = stops.lines; others = stops.line ∷ stops.others; split = stops.split; replies = stops.replies; prints = stops.prints; rest = []; text = sym stops.text ∙ sym (append-nil written) },
 )
 begun_by exits.File p before after input a new begun = begun
 begun_by exits.Memory p before after input a new begun = begun
 begun_by _ p before after input a new ends = absurd ends
 
 -- of that all is written
-all_out : (p : PolicyRules) (before : Registry) (input : List ℕ) (a b c d : Option (List ℕ)) (pending : List ℕ) → Writes a (append_known b pending) (Begins p before input) → Appends b c pending → Keeps c d → Writes a d (Begins p before input)
-all_out p before input a b c d pending (written, wrote, begins) q k = (written, by a b c d wrote q k, begins)
+all_out : (p : PolicyRules) (before after : Registry) (input : List ℕ) (a b c d : Option (List ℕ)) (pending : List ℕ) → Writes a (append_known b pending) (Begins p before after input) → Appends b c pending → Keeps c d → Writes a d (Begins p before after input)
+all_out p before after input a b c d pending (written, wrote, begins) q k = (written, by a b c d wrote q k, begins)
   where
     by : (a b c d : Option (List ℕ)) → Appends a (append_known b pending) written → Appends b c pending → Keeps c d → Appends a d written
     by None b c d wrote q k = tt
@@ -189,16 +192,16 @@ all_out p before input a b c d pending (written, wrote, begins) q k = (written, 
     by (Some x) (Some y) (Some z) None wrote q k = absurd k
     by (Some x) (Some y) (Some z) (Some w) wrote q k = k ∙ q ∙ wrote
 
-pub fault_out : (exit : Exit) (p : PolicyRules) (before after : Registry) (input : List ℕ) (a b c d : Option (List ℕ)) (pending : List ℕ) → IsFault exit → Writes a (append_known b pending) (Begins p before input)
+pub fault_out : (exit : Exit) (p : PolicyRules) (before after : Registry) (input : List ℕ) (a b c d : Option (List ℕ)) (pending : List ℕ) → IsFault exit → Writes a (append_known b pending) (Begins p before after input)
     → Appends b c pending → Keeps c d → EndsIn p before after input a d exit
-fault_out exit p before after input a b c d pending (inl is) begun q k = rw is (all_out p before input a b c d pending begun q k)
-fault_out exit p before after input a b c d pending (inr is) begun q k = rw is (all_out p before input a b c d pending begun q k)
+fault_out exit p before after input a b c d pending (inl is) begun q k = rw is (all_out p before after input a b c d pending begun q k)
+fault_out exit p before after input a b c d pending (inr is) begun q k = rw is (all_out p before after input a b c d pending begun q k)
 
 -- or the front of it
-front_out : (p : PolicyRules) (before : Registry) (input : List ℕ) (a b c : Option (List ℕ)) (pending sent : List ℕ) → Writes a (append_known b pending) (Begins p before input) → Appends a b sent → AppendsFront b c pending → Writes a c (Begins p before input)
-front_out p before input None b c pending sent (written, wrote, begins) s front = (written, tt, begins)
-front_out p before input (Some x) None c pending sent (written, wrote, begins) s front = absurd s
-front_out p before input (Some x) (Some y) c pending sent (written, wrote, begins) s (front, rest, went, is) =
+front_out : (p : PolicyRules) (before after : Registry) (input : List ℕ) (a b c : Option (List ℕ)) (pending sent : List ℕ) → Writes a (append_known b pending) (Begins p before after input) → Appends a b sent → AppendsFront b c pending → Writes a c (Begins p before after input)
+front_out p before after input None b c pending sent (written, wrote, begins) s front = (written, tt, begins)
+front_out p before after input (Some x) None c pending sent (written, wrote, begins) s front = absurd s
+front_out p before after input (Some x) (Some y) c pending sent (written, wrote, begins) s (front, rest, went, is) =
     let joined : sent ++ pending ≡ written = append_cancel_left x (sent ++ pending) written (sym (append_assoc x sent pending) ∙ ap (λ (l : List ℕ). l ++ pending) (sym s) ∙ wrote) in (
       sent ++ front,
       Appends-trans (Some x) (Some y) c sent front s went,
@@ -206,7 +209,6 @@ front_out p before input (Some x) (Some y) c pending sent (written, wrote, begin
         lines = begins.lines;
         others = begins.others;
         split = begins.split;
-        after = begins.after;
         replies = begins.replies;
         prints = begins.prints;
         rest = rest ++ begins.rest;
@@ -214,7 +216,7 @@ front_out p before input (Some x) (Some y) c pending sent (written, wrote, begin
       },
     )
 
-pub fault_cut : (exit : Exit) (p : PolicyRules) (before after : Registry) (input : List ℕ) (a b c : Option (List ℕ)) (pending sent : List ℕ) → IsFault exit → Writes a (append_known b pending) (Begins p before input)
+pub fault_cut : (exit : Exit) (p : PolicyRules) (before after : Registry) (input : List ℕ) (a b c : Option (List ℕ)) (pending sent : List ℕ) → IsFault exit → Writes a (append_known b pending) (Begins p before after input)
     → Appends a b sent → AppendsFront b c pending → EndsIn p before after input a c exit
-fault_cut exit p before after input a b c pending sent (inl is) begun s front = rw is (front_out p before input a b c pending sent begun s front)
-fault_cut exit p before after input a b c pending sent (inr is) begun s front = rw is (front_out p before input a b c pending sent begun s front)
+fault_cut exit p before after input a b c pending sent (inl is) begun s front = rw is (front_out p before after input a b c pending sent begun s front)
+fault_cut exit p before after input a b c pending sent (inr is) begun s front = rw is (front_out p before after input a b c pending sent begun s front)

@@ -4,3 +4,4 @@ mod RunLemmas
 mod BeginLemmas
 mod HaltLemmas
 mod EndLemmas
+mod OrderLemmas

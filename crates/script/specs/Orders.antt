@@ -9,7 +9,7 @@ use Rattle.protocol.specs.declared.order.OperatorRequest.{OperatorRequest}
 use Rattle.registry.specs.Execution.{IsUnchanged}
 use Rattle.script.specs.declared.exit.Exit.{Exit}
 use Rattle.script.specs.declared.exit.Exit.TheVariants as exits
-use Rattle.script.specs.Deposits.{EndsUnprinted, IsAnsweredBy, IsCarriedOut}
+use Rattle.script.specs.Deposits.{EndsUnprinted, IsAnsweredBy}
 use Rattle.books.specs.Book.{BookState}
 
 -- the payload is an order or a settlement of which P holds
@@ -37,4 +37,4 @@ abbrev pub EndsUnanswered : PolicyRules → List ℕ → ℕ
 EndsUnanswered p payload moment old new before after exit =
     IsNoOrder payload old new before after exit
     ⊎ IsOrdered payload (λ request.
-    EndsUnprinted (IsCarriedOut p request moment) old new before after exit)
+    EndsUnprinted p request moment old new before after exit)

@@ -138,7 +138,7 @@ pub record Finishes (p : PolicyRules) (before after : Registry) (input written :
   pub text : written ≡ printed replies
 
 -- the lines are answered up to line n, counted from 1 with empty ones, which isn't of the form
-pub record Stops (p : PolicyRules) (before : Registry) (input written : List ℕ) (n : ℕ) : Type 0 where
+pub record Stops (p : PolicyRules) (before after : Registry) (input written : List ℕ) (n : ℕ) : Type 0 where
   pub lines : List (List ℕ)
   pub line : List ℕ
   pub others : List (List ℕ)
@@ -146,47 +146,42 @@ pub record Stops (p : PolicyRules) (before : Registry) (input written : List ℕ
   pub number : n ≡ length lines + 1
   pub some : line ≢ []
   pub bad : AsksNothing p line
-  pub after : Registry
   pub replies : List (List ℕ)
   pub prints : Prints p lines before after replies
   pub text : written ≡ printed replies
 
 -- The first lines of an input are answered, and the front of some bytes that were pending and of the replies
 -- is written.
-pub record BeginsBehind (pending : List ℕ) (p : PolicyRules) (before : Registry) (input written : List ℕ) : Type 0 where
+pub record BeginsBehind (pending : List ℕ) (p : PolicyRules) (before after : Registry) (input written : List ℕ) : Type 0 where
   pub lines : List (List ℕ)
   pub others : List (List ℕ)
   pub split : lines_of input ≡ lines ++ others
-  pub after : Registry
   pub replies : List (List ℕ)
   pub prints : Prints p lines before after replies
   pub rest : List ℕ
   pub text : pending ++ printed replies ≡ written ++ rest
 
 -- the front of the replies to some first lines is written
-abbrev pub Begins : PolicyRules → Registry → (input written : List ℕ) → Type 0
-Begins p before input written = BeginsBehind [] p before input written
+abbrev pub Begins : PolicyRules → (before after : Registry) → (input written : List ℕ) → Type 0
+Begins p before after input written = BeginsBehind [] p before after input written
 
 -- the known bytes grew by some that P holds of
 abbrev pub Writes : Option (List ℕ) → Option (List ℕ) → (List ℕ → Type 0) → Type 0
 Writes old new P = (bytes : List ℕ) × Appends old new bytes × P bytes
 
--- How a run ends that answers an input in a registry. A fault of the input, of the output or of memory leaves
--- the front of the replies to some first lines: nothing is written twice, and nothing left out.
-abbrev pub Ends : PolicyRules → Registry → List ℕ → Option (List ℕ) → Option (List ℕ) → Exit
-    → Type 0
-Ends p before input old new exits.Done =
-    (after : Registry) × Writes old new (Finishes p before after input)
-Ends p before input old new (exits.Script n) =
-    Writes old new (λ written. Stops p before input written n)
-Ends p before input old new exits.File = Writes old new (Begins p before input)
-Ends p before input old new exits.Memory = Writes old new (Begins p before input)
-Ends p before input old new _ = ⊥
-
--- the same, and what a run leaves is what the lines leave that are answered
+-- How a run ends that answers an input in a registry, and what the lines leave that are answered. A fault of the
+-- input, of the output or of memory leaves the front of the replies to some first lines: nothing is written
+-- twice, and nothing left out.
 abbrev pub EndsIn : PolicyRules → (before after : Registry) → List ℕ → Option (List ℕ)
     → Option (List ℕ) → Exit → Type 0
 EndsIn p before after input old new exits.Done = Writes old new (Finishes p before after input)
 EndsIn p before after input old new (exits.Script n) =
-    Writes old new (λ written. (stops : Stops p before input written n) × (after ≡ stops.after))
-EndsIn p before after input old new exit = Ends p before input old new exit
+    Writes old new (λ written. Stops p before after input written n)
+EndsIn p before after input old new exits.File = Writes old new (Begins p before after input)
+EndsIn p before after input old new exits.Memory = Writes old new (Begins p before after input)
+EndsIn p before after input old new _ = ⊥
+
+-- the same, whatever it leaves
+abbrev pub Ends : PolicyRules → Registry → List ℕ → Option (List ℕ) → Option (List ℕ) → Exit
+    → Type 0
+Ends p before input old new exit = (after : Registry) × EndsIn p before after input old new exit

@@ -4,7 +4,7 @@ ghost use Rattle.frames.specs.Outcomes.{outcome_of};
 ghost use Rattle.registry.specs.Execution.{IsUnchanged};
 ghost use Rattle.script.specs.Lines.{IsKnown};
 ghost use Rattle.script.specs.Runs.{Answers, Asks, AsksNothing, IsAnswered, kept};
-ghost use Rattle.script.specs.inner.Runs.{IsAnsweredOperator, printed_text};
+ghost use Rattle.script.specs.inner.Runs.{IsAnsweredOperator, TextOf};
 ghost use Rattle.books.specs.Book.{Follows};
 
 use crate::line::Line;
@@ -25,9 +25,10 @@ pub(crate) fn answer<B: Book + Drop>(
     registry: &mut Registry<B>,
     line: &[u8],
 ) -> Option<Answer>
-    ensures answered { IfSome result (λ answer. IfSome (printed_text (outcome_of answer)) (λ text.
+    ensures answered { IfSome result (λ answer. TextOf (λ text.
         (B.state registry.new.book).is_clean ≡ true → Answers registry.old.policy line.now
-        (kept (B.state registry.old.book)) (kept (B.state registry.new.book)) text)) }
+        (kept (B.state registry.old.book)) (kept (B.state registry.new.book)) text)
+        (outcome_of answer)) }
     ensures unread { IfNone result (AsksNothing registry.old.policy line.now) }
     ensures same { IfNone result (IsUnchanged (B.state registry.old.book)
         (B.state registry.new.book)) }
@@ -47,10 +48,11 @@ fn answer_asked<B: Book + Drop>(
     line: &Line<'_>,
 ) -> Option<Answer>
     requires { IsKnown registry.old.policy line.now.sender }
-    ensures answered { IfSome result (λ answer. IfSome (printed_text (outcome_of answer)) (λ text.
+    ensures answered { IfSome result (λ answer. TextOf (λ text.
         (B.state registry.new.book).is_clean ≡ true
         → IsAnswered registry.old.policy line.now.sender line.now.payload.now line.now.moment
-        (kept (B.state registry.old.book)) (kept (B.state registry.new.book)) text)) }
+        (kept (B.state registry.old.book)) (kept (B.state registry.new.book)) text)
+        (outcome_of answer)) }
     ensures unread { IfNone result (Asks line.now.sender line.now.payload.now → ⊥) }
     ensures same { IfNone result (IsUnchanged (B.state registry.old.book)
         (B.state registry.new.book)) }
@@ -75,10 +77,9 @@ fn answer_operator<B: Book + Drop>(
     request: OperatorRequest,
     moment: Moment,
 ) -> Answer
-    ensures answered { IfSome (printed_text (outcome_of result)) (λ text.
-        (B.state registry.new.book).is_clean ≡ true
+    ensures answered { TextOf (λ text. (B.state registry.new.book).is_clean ≡ true
         → IsAnsweredOperator registry.old.policy request moment (kept (B.state registry.old.book))
-        (kept (B.state registry.new.book)) text) }
+        (kept (B.state registry.new.book)) text) (outcome_of result) }
     ensures follows { Follows (B.state registry.old.book) (B.state registry.new.book) }
     ensures policy { registry.new.policy ≡ registry.old.policy }
 {

@@ -1,12 +1,13 @@
 //! What the operator sends.
-ghost use Rattle.std.specs.Prelude.{◌≡◌, ◌≤◌, ◌++◌, codes, IfErr, IfOk, OnOk};
+ghost use Rattle.std.specs.Prelude.{◌≡◌, ◌≤◌, ◌++◌, codes, IfErr, IfOk, OnErr, OnOk};
 ghost use Rattle.std.specs.Io.KnownBytes.{Appends};
 ghost use Rattle.eppreplies.specs.Answer.{answer_text};
 ghost use Rattle.protocol.specs.declared.order.OperatorRequest.TheVariants as requests;
 ghost use Rattle.protocol.specs.declared.order.Order.TheVariants as orders;
 ghost use Rattle.registry.specs.Execution.{Fails, last_call};
-ghost use Rattle.script.specs.Deposits.{EndsUnprinted, IsAnsweredBy, IsCarriedOut, IsOfMachine};
+ghost use Rattle.script.specs.Deposits.{EndsUnprinted, IsAnsweredBy, IsOfMachine};
 ghost use Rattle.script.specs.Orders.{EndsUnanswered, IsOrdered, PrintsAnswer};
+ghost use Rattle.streams.specs.Moves.{AppendsBeginning};
 ghost use Rattle.books.specs.Book.{Follows};
 
 use crate::exit::Exit;
@@ -19,6 +20,7 @@ use protocol::{Code, OperatorRequest, Order};
 use registry::{Fault, Registry};
 use std::alloc::Global;
 use std::io::Write;
+use streams::write_all;
 
 /// What the operator is answered: a code, and of a settlement how many objects lapsed.
 #[derive(Clone, Copy)]
@@ -72,8 +74,8 @@ pub fn deposit_on<B: Book + Drop, W: Write>(
         (B.state registry.old.book) (B.state registry.new.book)
         (W.contents writer.old) (W.contents writer.new)) }
     ensures early { OnOk result (moment ≤ last_call) }
-    ensures stopped { IfErr result (EndsUnprinted
-        (IsCarriedOut registry.old.policy (requests.Order (orders.Deposit registrar.now cents)) moment)
+    ensures stopped { IfErr result (EndsUnprinted registry.old.policy
+        (requests.Order (orders.Deposit registrar.now cents)) moment
         (B.state registry.old.book) (B.state registry.new.book)
         (W.contents writer.old) (W.contents writer.new)) }
     ensures follows { Follows (B.state registry.old.book) (B.state registry.new.book) }
@@ -91,7 +93,6 @@ pub fn deposit_on<B: Book + Drop, W: Write>(
 }
 
 /// Carries out what the operator sends, and prints the answer.
-#[tactic(auto, unfolding(crate::specs::Deposits::IsCarriedOut))]
 fn answer_on<B: Book + Drop, W: Write>(
     alloc: Global,
     registry: &mut Registry<B>,
@@ -103,8 +104,7 @@ fn answer_on<B: Book + Drop, W: Write>(
         (B.state registry.old.book) (B.state registry.new.book)
         (W.contents writer.old) (W.contents writer.new)) }
     ensures early { OnOk result (moment ≤ last_call) }
-    ensures stopped { IfErr result (EndsUnprinted
-        (IsCarriedOut registry.old.policy request moment)
+    ensures stopped { IfErr result (EndsUnprinted registry.old.policy request moment
         (B.state registry.old.book) (B.state registry.new.book)
         (W.contents writer.old) (W.contents writer.new)) }
     ensures follows { Follows (B.state registry.old.book) (B.state registry.new.book) }
@@ -157,10 +157,12 @@ fn print_answer<W: Write>(alloc: Global, answer: OrderAnswer, writer: &mut W) ->
     ensures is_printed { OnOk result (Appends (W.contents writer.old) (W.contents writer.new)
         (answer_text answer.code answer.lapsed ++ codes "\n")) }
     ensures stopped { IfErr result IsOfMachine }
+    ensures begun { OnErr result (AppendsBeginning (W.contents writer.old) (W.contents writer.new)
+        (answer_text answer.code answer.lapsed ++ codes "\n")) }
 {
     let mut line = order_bytes(alloc, answer.code, answer.lapsed)?;
     line.push(b'\n')?;
-    writer.write_all(&line)?;
+    write_all(writer, &line)?;
     writer.flush()?;
     Ok(())
 }

@@ -3,7 +3,7 @@ ghost use Rattle.std.specs.Prelude.{◌≡◌, ℕ, List, [], ◌++◌, codes, o
 ghost use Rattle.std.specs.Io.BufRead.{strip_last};
 ghost use Rattle.std.specs.Io.KnownBytes.{Appends, Keeps, append_known};
 ghost use Rattle.frames.specs.Outcomes.{outcome_of};
-ghost use Rattle.script.specs.inner.Runs.{AppendsFront, BreaksAt, EndsBehind, HaltsAt, LeavesAsWas, TellsLine, end_of, printed_text};
+ghost use Rattle.script.specs.inner.Runs.{AppendsFront, BreaksAt, EndsBehind, HaltsAt, TellsLine, end_of, printed_text};
 ghost use Rattle.script.specs.Runs.{EndsIn, kept};
 ghost use Rattle.books.specs.Book.{Follows};
 
@@ -116,13 +116,11 @@ fn print_answer<B: Book + Drop, W: Write>(
     ensures stopped { IfErr result (HaltsAt registry.old.policy line.now number
         (append_known (W.contents writer.old) pending.old.items)
         (append_known (W.contents writer.new) pending.new.items)) }
-    ensures broken { OnErr result ((B.state registry.new.book).is_clean ≡ true
+    ensures broken { IfErr result (λ exit. (B.state registry.new.book).is_clean ≡ true
         → BreaksAt registry.old.policy line.now (kept (B.state registry.old.book))
-        (W.contents writer.old) pending.old.items (append_known (W.contents writer.new)
-        pending.new.items)) }
+        (kept (B.state registry.new.book)) (W.contents writer.old) pending.old.items
+        (append_known (W.contents writer.new) pending.new.items) exit) }
     ensures sent { (sent : List ℕ) × Appends (W.contents writer.old) (W.contents writer.new) sent }
-    ensures left { IfErr result (LeavesAsWas (B.state registry.old.book)
-        (B.state registry.new.book)) }
     ensures follows { Follows (B.state registry.old.book) (B.state registry.new.book) }
     ensures policy { registry.new.policy ≡ registry.old.policy }
 {

@@ -4,15 +4,20 @@ use Rattle.std.specs.Io.KnownBytes.{Appends, Keeps, append_known}
 use Rattle.frames.specs.Outcomes.{Outcome, replied, ended, failed, lost}
 use Rattle.frames.specs.Texts.{failed_text}
 use Rattle.policy.specs.Rules.{PolicyRules}
-use Rattle.registry.specs.Execution.{IsUnchanged}
 use Rattle.script.specs.declared.exit.Exit.{Exit}
 use Rattle.script.specs.declared.exit.Exit.TheVariants as exits
-use Rattle.books.specs.Book.{BookState}
 use Rattle.protocol.specs.declared.order.OperatorRequest.{OperatorRequest}
 use Rattle.model.specs.Registry.{Registry}
 use Rattle.script.specs.Runs.{GivesUp, OperatorSteps, AsksNothing, Prints, printed, BeginsBehind, Writes, EndsIn}
 
 -- ---- one line
+
+-- P holds of the text that is printed of an outcome, or of one that found no memory
+abbrev pub TextOf : (List ℕ → Type 0) → Outcome → Type 0
+TextOf P (replied reply) = P reply
+TextOf P (ended reply) = P reply
+TextOf P failed = P failed_text
+TextOf P lost = (text : List ℕ) × P text
 
 -- the text that is printed of an outcome, unless it found no memory
 abbrev pub printed_text : Outcome → Option (List ℕ)
@@ -27,11 +32,6 @@ abbrev pub IsAnsweredOperator : PolicyRules → OperatorRequest → ℕ → Regi
 IsAnsweredOperator p request moment before after text =
     GivesUp before after text ⊎ OperatorSteps p request moment before after text
 
--- a line that isn't of the form changes nothing
-abbrev pub LeavesAsWas : BookState → BookState → Exit → Type 0
-LeavesAsWas old new (exits.Script n) = IsUnchanged old new
-LeavesAsWas old new _ = Unit {0}
-
 -- ---- a run
 
 -- one line and what it adds to the known bytes: its reply, or nothing where it is empty
@@ -45,17 +45,18 @@ TellsLine p line before after old new =
 abbrev pub AppendsFront : Option (List ℕ) → Option (List ℕ) → List ℕ → Type 0
 AppendsFront old new text = (front rest : List ℕ) × Appends old new front × (text ≡ front ++ rest)
 
--- the line is answered so, or it isn't answered
-abbrev pub MayPrint : PolicyRules → List ℕ → Registry → List (List ℕ) → Type 0
-MayPrint p line before replies =
-    (replies ≡ []) ⊎ ((after : Registry) × Prints p (line ∷ []) before after replies)
-
--- what a line leaves that breaks a run: the front of what was pending and of its reply, if it has one
-abbrev pub BreaksAt : PolicyRules → List ℕ → Registry → Option (List ℕ) → List ℕ → Option (List ℕ)
-    → Type 0
-BreaksAt p line before old pending new =
-    (replies : List (List ℕ)) × MayPrint p line before replies
+-- a line is answered, and the front of what was pending and of its reply is written or pending
+abbrev pub BeginsLine : PolicyRules → List ℕ → (before after : Registry) → Option (List ℕ) → List ℕ
+    → Option (List ℕ) → Type 0
+BeginsLine p line before after old pending new =
+    (replies : List (List ℕ)) × Prints p (line ∷ []) before after replies
     × AppendsFront old new (pending ++ printed replies)
+
+-- what a line leaves that ends a run: one that isn't of the form changes nothing, and any other is answered
+abbrev pub BreaksAt : PolicyRules → List ℕ → (before after : Registry) → Option (List ℕ) → List ℕ
+    → Option (List ℕ) → Exit → Type 0
+BreaksAt p line before after old pending new (exits.Script n) = after ≡ before
+BreaksAt p line before after old pending new _ = BeginsLine p line before after old pending new
 
 -- how a line ends a run: it isn't of the form, and nothing is added; or by a fault of the output or of memory
 abbrev pub HaltsAt : PolicyRules → List ℕ → ℕ → Option (List ℕ) → Option (List ℕ) → Exit → Type 0
@@ -69,9 +70,9 @@ HaltsAt p line number old new _ = ⊥
 abbrev pub EndsBehind : PolicyRules → (before after : Registry) → List ℕ → Option (List ℕ) → List ℕ
     → Option (List ℕ) → Exit → Type 0
 EndsBehind p before after input old pending new exits.File =
-    Writes old new (BeginsBehind pending p before input)
+    Writes old new (BeginsBehind pending p before after input)
 EndsBehind p before after input old pending new exits.Memory =
-    Writes old new (BeginsBehind pending p before input)
+    Writes old new (BeginsBehind pending p before after input)
 EndsBehind p before after input old pending new exit =
     EndsIn p before after input (append_known old pending) new exit
 
