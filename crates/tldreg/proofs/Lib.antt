@@ -1,1 +1,3 @@
 mod WordLemmas
+pub mod OptionLemmas
+pub mod AskingLemmas

@@ -3,3 +3,5 @@ pub mod Ends
 pub mod Words
 pub mod Nearness
 pub mod Options
+pub mod Asking
+pub mod Databases

@@ -1,11 +1,13 @@
 //! The command line.
 ghost use Rattle.std.specs.Prelude.{◌≡◌, ◌⊎◌, ◌∷◌, IfErr, codes, drop};
 ghost use Rattle.script.specs.declared.exit.Exit.TheVariants as exits;
+ghost use Rattle.tldreg.specs.inner.Asking.{ReadsAll};
 ghost use Rattle.tldreg.specs.inner.Words as spec;
 
 use crate::settings::{OptionKind, Settings, Split, split_of};
 use calendar::Moment;
 use script::Exit;
+use std::alloc::Global;
 use std::env::{self, Args};
 use std::rt::Env;
 
@@ -72,21 +74,29 @@ pub struct Asked {
 }
 
 /// The task of the words that the program was started with, and what its options say. No clause can say what
-/// words the machine gives: `task_of` says what is made of any, once the options are taken out.
+/// words the machine gives: `asked_of` says what is made of any.
 pub fn read_task(rt: &(impl Env + AllocGlobal)) -> Result<Asked, Exit>
     ensures { IfErr result (λ exit. (exit ≡ exits.Usage) ⊎ (exit ≡ exits.Memory)) }
 {
-    let split = split_of(rt.alloc(), words_of(rt)?)?;
-    let Split { plain, settings } = split;
+    asked_of(rt.alloc(), words_of(rt)?)
+}
+
+/// The task of the words, of which the first is the program's name, and what its options say.
+fn asked_of(alloc: Global, words: Args) -> Result<Asked, Exit>
+    ensures { ReadsAll (spec.texts words) result }
+{
+    let Split { plain, settings } = split_of(alloc, words)?;
     let task = task_of(plain.into_iter())?;
-    if settings.kind() > options_of(&task) {
+    if !settings.kind().is_among(options_of(&task)) {
         return Err(Exit::Usage);
     }
     Ok(Asked { task, settings })
 }
 
 /// Which options a task takes.
-fn options_of(task: &Task) -> OptionKind {
+fn options_of(task: &Task) -> OptionKind
+    ensures { result ≡ spec.options_of task.now }
+{
     match task {
         Task::OnDatabase {
             job: Job::Serve { .. } | Job::ServeBoth { .. },

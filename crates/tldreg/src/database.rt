@@ -1,6 +1,8 @@
 //! The database of a command line, and the policy that it is opened under.
-ghost use Rattle.std.specs.Prelude.{◌≡◌, false, IfErr, IfOk, bytes_eq, codes};
+ghost use Rattle.std.specs.Prelude.{◌≡◌, false, IfErr, IfOk, bytes_eq, codes, string_bytes};
+ghost use Rattle.script.specs.declared.exit.Exit.TheVariants as exits;
 ghost use Rattle.script.specs.Exits.{exit_of_book};
+ghost use Rattle.tldreg.specs.inner.Databases as spec;
 
 use books::{Book, BookFault};
 use policy::{Policy, PolicyFile};
@@ -18,7 +20,10 @@ pub fn is_in_memory(database: &str) -> bool
 }
 
 /// The file of a database's log, which lies beside the database's own; the empty name for one in memory.
-pub fn log_file_of(alloc: Global, database: &str) -> Result<String, Exit> {
+pub fn log_file_of(alloc: Global, database: &str) -> Result<String, Exit>
+    ensures file { IfOk result (λ file. string_bytes file ≡ spec.log_file_of database.now) }
+    ensures memory { IfErr result (λ exit. exit ≡ exits.Memory) }
+{
     if is_in_memory(database) {
         return Ok(format!(in alloc; "")?);
     }

@@ -1,11 +1,13 @@
 //! The program `tldreg`: the registry of a top-level domain.
 #![tactic(auto)]
 
-ghost use Rattle.std.specs.Prelude.{◌≡◌, false, IfErr, IfOk};
+ghost use Rattle.std.specs.Prelude.{◌≡◌, false, IfErr, IfOk, IfSome, option_copied};
 ghost use Rattle.protocol.specs.declared.order.OperatorRequest.TheVariants as requests;
 ghost use Rattle.protocol.specs.declared.order.Order.TheVariants as orders;
+ghost use Rattle.tldreg.specs.inner.Databases as databases;
 ghost use Rattle.tldreg.specs.inner.Ends as spec;
-ghost use Rattle.tldreg.specs.inner.Ends.{EndsJob, EndsOrder, EndsRequest, EndsZone};
+ghost use Rattle.tldreg.specs.inner.Ends.{EndsOrder, EndsRequest, EndsZone};
+ghost use Rattle.tldreg.specs.inner.Words as words;
 
 mod command_line;
 mod database;
@@ -29,6 +31,8 @@ use script::{Exit, deposit_on, order_on};
 use server::{MachineClock, ZoneExportFault, zone_on};
 use settings::Settings;
 use sqlite::{Alter, Connection, Start, Unknown, Wary};
+use std::alloc::Global;
+use std::io::Write;
 use std::net::{Ipv4Addr, TcpListener};
 use std::process::ExitCode;
 use std::rt::Files;
@@ -140,7 +144,9 @@ fn work<B: Book + Drop>(
 }
 
 /// The moment of a job. That of `serve` is the machine's.
-fn moment_of(machine: &impl time::Clock, job: &Job) -> Moment {
+fn moment_of(machine: &impl time::Clock, job: &Job) -> Moment
+    ensures { IfSome (words.moment_of job.now) (λ moment. result ≡ moment) }
+{
     match job {
         Job::Serve { .. } | Job::ServeBoth { .. } => MachineClock::new(machine).moment(),
         Job::Zone { moment } | Job::Deposit { moment, .. } | Job::Order { moment, .. } => *moment,
@@ -153,9 +159,7 @@ fn work_then<B: Book + Drop>(
     registry: Registry<B>,
     job: &Job,
     means: &Means<'_>,
-) -> Result<(), Exit>
-    ensures { EndsJob registry.policy job.now (B.state registry.book) result }
-{
+) -> Result<(), Exit> {
     match job {
         Job::Serve { port } => serve(rt, registry, *port, means),
         Job::ServeBoth {
@@ -224,7 +228,9 @@ fn serve_both<B: Book + Drop>(
 }
 
 /// The file of a name; the empty name is that of none.
-fn file_named(name: &str) -> Option<&str> {
+fn file_named(name: &str) -> Option<&str>
+    ensures { option_copied result ≡ databases.file_named name.now }
+{
     if name.is_empty() { None } else { Some(name) }
 }
 
@@ -254,13 +260,24 @@ fn zone<B: Book + Drop>(
     rt: &(impl Print + AllocGlobal),
     registry: Registry<B>,
     moment: Moment,
-) -> Result<(), Exit>
-    ensures { EndsZone registry.policy moment (B.state registry.book) result }
-{
+) -> Result<(), Exit> {
     let mut registry = registry;
-    let written = zone_on(rt.alloc(), &mut registry, moment, &mut io::writer(rt));
+    let ended = zone_to(rt.alloc(), &mut registry, moment, &mut io::writer(rt));
     drop(registry);
-    zone_end(written)
+    ended
+}
+
+/// Writes the zone at a moment, and says how the program ends.
+fn zone_to<B: Book + Drop, W: Write>(
+    alloc: Global,
+    registry: &mut Registry<B>,
+    moment: Moment,
+    out: &mut W,
+) -> Result<(), Exit>
+    ensures { EndsZone registry.old.policy moment (B.state registry.old.book)
+        (B.state registry.new.book) (W.contents out.old) (W.contents out.new) result }
+{
+    zone_end(zone_on(alloc, registry, moment, out))
 }
 
 /// How the program ends after a zone.
@@ -282,13 +299,10 @@ fn deposit<B: Book + Drop>(
     moment: Moment,
     registrar: &str,
     cents: i64,
-) -> Result<(), Exit>
-    ensures { EndsRequest registry.policy
-        (requests.Order (orders.Deposit registrar.now cents)) moment (B.state registry.book) result }
-{
+) -> Result<(), Exit> {
     let mut registry = registry;
     let mut out = io::writer(rt);
-    let answered = deposit_on(
+    let ended = deposit_to(
         rt.alloc(),
         &mut registry,
         moment,
@@ -297,7 +311,23 @@ fn deposit<B: Book + Drop>(
         &mut out,
     );
     drop(registry);
-    request_end(answered)
+    ended
+}
+
+/// The same, with the answer written, and how the program ends.
+fn deposit_to<B: Book + Drop, W: Write>(
+    alloc: Global,
+    registry: &mut Registry<B>,
+    moment: Moment,
+    registrar: &str,
+    cents: i64,
+    out: &mut W,
+) -> Result<(), Exit>
+    ensures { EndsRequest registry.old.policy
+        (requests.Order (orders.Deposit registrar.now cents)) moment (B.state registry.old.book)
+        (B.state registry.new.book) (W.contents out.old) (W.contents out.new) result }
+{
+    request_end(deposit_on(alloc, registry, moment, registrar, cents, out))
 }
 
 /// Carries out what the operator sends at a moment, and prints the answer.
@@ -306,14 +336,25 @@ fn order<B: Book + Drop>(
     registry: Registry<B>,
     moment: Moment,
     json: &str,
-) -> Result<(), Exit>
-    ensures { EndsOrder registry.policy json.now moment (B.state registry.book) result }
-{
+) -> Result<(), Exit> {
     let mut registry = registry;
-    let mut out = io::writer(rt);
-    let answered = order_on(rt.alloc(), &mut registry, moment, json.as_bytes(), &mut out);
+    let ended = order_to(rt.alloc(), &mut registry, moment, json, &mut io::writer(rt));
     drop(registry);
-    request_end(answered)
+    ended
+}
+
+/// The same, with the answer written, and how the program ends.
+fn order_to<B: Book + Drop, W: Write>(
+    alloc: Global,
+    registry: &mut Registry<B>,
+    moment: Moment,
+    json: &str,
+    out: &mut W,
+) -> Result<(), Exit>
+    ensures { EndsOrder registry.old.policy json.now moment (B.state registry.old.book)
+        (B.state registry.new.book) (W.contents out.old) (W.contents out.new) result }
+{
+    request_end(order_on(alloc, registry, moment, json.as_bytes(), out))
 }
 
 /// How the program ends after what the operator sent.

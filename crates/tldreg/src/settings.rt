@@ -1,8 +1,7 @@
 //! The options of a command line: `--NAME VALUE`, and `--quiet`, among its other words.
-ghost use Rattle.std.specs.Prelude.{◌≡◌, ◌⊎◌, IfErr};
-ghost use Rattle.script.specs.declared.exit.Exit.TheVariants as exits;
+ghost use Rattle.std.specs.Prelude.{◌≡◌, ◌∷◌, string_bytes};
 ghost use Rattle.tldreg.specs.inner.Options as spec;
-ghost use Rattle.tldreg.specs.inner.Words.{Reads};
+ghost use Rattle.tldreg.specs.inner.Words.{Reads, texts};
 
 use script::Exit;
 use std::alloc::Global;
@@ -27,6 +26,15 @@ pub enum OptionKind {
     Serving,
 }
 
+impl OptionKind {
+    /// Whether a task that takes options of another kind takes these.
+    pub fn is_among(self, taken: OptionKind) -> bool
+        ensures { result ≡ spec.is_among self taken }
+    {
+        self <= taken
+    }
+}
+
 /// What the options of a command line say.
 #[derive(Clone, Copy)]
 pub struct Settings {
@@ -41,7 +49,9 @@ pub struct Settings {
 
 impl Settings {
     /// Those of a command line without options.
-    fn usual() -> Settings {
+    fn usual() -> Settings
+        ensures { spec.IsUsual result }
+    {
         Settings {
             within: None,
             is_quiet: false,
@@ -51,19 +61,36 @@ impl Settings {
     }
 
     /// Which options there were.
-    pub fn kind(&self) -> OptionKind {
+    pub fn kind(&self) -> OptionKind
+        ensures { result ≡ self.now.kind }
+    {
         self.kind
     }
 
     /// Takes an option with its value.
+    #[tactic(auto, using(crate::proofs::OptionLemmas::limit_set))]
     fn set(&mut self, name: &str, value: &str) -> Result<(), Exit>
-        ensures { IfErr result (λ exit. (exit ≡ exits.Usage) ⊎ (exit ≡ exits.Memory)) }
+        ensures { spec.IsSet (spec.Says self.old name.now value.now) self.new result }
     {
         if name == "--within" {
-            self.within = Some(number_of(value, MOST_DAYS)?);
-            self.kind = self.kind.max(OptionKind::OnDatabase);
-            return Ok(());
+            return self.set_days(value);
         }
+        self.set_limit(name, value)
+    }
+
+    /// Takes how many days a moment may be from the registry's clock.
+    fn set_days(&mut self, value: &str) -> Result<(), Exit>
+        ensures { spec.IsSet (spec.SaysDays self.old value.now) self.new result }
+    {
+        self.within = Some(number_of(value, MOST_DAYS)?);
+        self.kind = self.kind.max(OptionKind::OnDatabase);
+        Ok(())
+    }
+
+    /// Takes a limit of a connection.
+    fn set_limit(&mut self, name: &str, value: &str) -> Result<(), Exit>
+        ensures { spec.IsSet (spec.SaysLimit self.old name.now value.now) self.new result }
+    {
         let time = Duration::from_secs(u64::from(number_of(value, MOST_SECONDS)?));
         let Some(limits) = with_limit(self.limits, name, time) else {
             return Err(Exit::Usage);
@@ -74,7 +101,9 @@ impl Settings {
     }
 
     /// Takes an option without a value.
-    fn set_quiet(&mut self) {
+    fn set_quiet(&mut self)
+        ensures { self.new ≡ spec.quiet self.old }
+    {
         self.is_quiet = true;
         self.kind = OptionKind::Serving;
     }
@@ -89,25 +118,25 @@ pub struct Split {
 
 /// Takes the options out of the words of a command line.
 pub fn split_of(alloc: Global, words: Args) -> Result<Split, Exit>
-    ensures { IfErr result (λ exit. (exit ≡ exits.Usage) ⊎ (exit ≡ exits.Memory)) }
+    ensures { spec.Splits (texts words) result }
 {
     let mut words = words;
     let mut split = Split {
         plain: Vec::new(alloc),
         settings: Settings::usual(),
     };
-    'words: for _ in 0..u64::MAX {
+    'words: for _ in 0..words.len() {
         let Some(word) = words.next() else {
             return Ok(split);
         };
         take_word(&mut split, word, &mut words)?;
     }
-    Err(Exit::Usage)
+    Ok(split)
 }
 
 /// Takes one word, and its value where it is an option that has one.
 fn take_word(split: &mut Split, word: String, words: &mut Args) -> Result<(), Exit>
-    ensures { IfErr result (λ exit. (exit ≡ exits.Usage) ⊎ (exit ≡ exits.Memory)) }
+    ensures { spec.TakesWord (string_bytes word ∷ texts words.old) split.old (texts words.new) split.new result }
 {
     if !is_option(word.as_str()) {
         split.plain.push(word)?;
@@ -124,8 +153,10 @@ fn take_word(split: &mut Split, word: String, words: &mut Args) -> Result<(), Ex
 }
 
 /// Whether a word is an option. Those that ask for a text alone are words.
-fn is_option(word: &str) -> bool {
-    word.starts_with("--") && word != "--help" && word != "--version"
+fn is_option(word: &str) -> bool
+    ensures { result ≡ spec.is_option word.now }
+{
+    word.as_bytes().starts_with(b"--") && word != "--help" && word != "--version"
 }
 
 /// The limits where an option of this name says another time, if there is such an option.

@@ -21,7 +21,9 @@ pub enum Unfit {
 
 impl Unfit {
     /// The line of standard error.
-    pub fn text(self) -> &'static str {
+    pub fn text(self) -> &'static str
+        ensures { result.now ≡ spec.text_of self }
+    {
         match self {
             Unfit::Open => "token: others may read it",
             Unfit::Short => "token: short",
@@ -50,7 +52,9 @@ impl From<io::Error> for End {
 }
 
 /// The same end, of what can end so alone.
-pub fn ended(done: Result<(), Exit>) -> Result<(), End> {
+pub fn ended(done: Result<(), Exit>) -> Result<(), End>
+    ensures { result ≡ spec.ended done }
+{
     match done {
         Ok(()) => Ok(()),
         Err(exit) => Err(End::Exit(exit)),

@@ -1,5 +1,5 @@
 -- How the program ends, by what its calls answered.
-use Rattle.std.specs.Prelude.{◌≡◌, ℕ, Bool, true, not, nat_eq, bit_and, List, Option, Result, Ok, Err, OnOk, OnErr, IfOk, IfErr, ⊤, string_bytes}
+use Rattle.std.specs.Prelude.{◌≡◌, ℕ, Bool, true, not, nat_eq, bit_and, List, Option, Result, Ok, Err, OnOk, IfOk, IfErr, ⊤, codes}
 use Rattle.std.specs.Io.KnownBytes.{Appends}
 use Rattle.books.specs.Book.{BookState}
 use Rattle.operator.specs.declared.token.TokenFault.{TokenFault}
@@ -8,22 +8,18 @@ use Rattle.policy.specs.Rules.{PolicyRules}
 use Rattle.protocol.specs.declared.code.Code.{Code}
 use Rattle.protocol.specs.declared.code.Code.TheVariants.{Completed}
 use Rattle.protocol.specs.declared.order.OperatorRequest.{OperatorRequest}
-use Rattle.protocol.specs.declared.order.OperatorRequest.TheVariants as requests
-use Rattle.protocol.specs.declared.order.Order.TheVariants as orders
-use Rattle.script.specs.Deposits.{EndsUnprinted, IsCarriedOut}
+use Rattle.script.specs.Deposits.{EndsUnprinted}
 use Rattle.script.specs.Orders.{EndsUnanswered, IsOrdered, PrintsAnswer}
 use Rattle.script.specs.declared.exit.Exit.{Exit}
 use Rattle.script.specs.declared.exit.Exit.TheVariants as exits
 use Rattle.server.specs.Http.{Passes}
-use Rattle.server.specs.ZoneExport.{zone_at}
+use Rattle.server.specs.ZoneExport.{StopsAs, zone_at}
 use Rattle.server.specs.declared.zone.ZoneExportFault.{ZoneExportFault}
 use Rattle.server.specs.declared.zone.ZoneExportFault.TheVariants as exports
-use Rattle.zonefile.specs.ZoneText.{AppendsBeginning}
 use Rattle.zonefile.specs.declared.fault.ZoneFault.TheVariants as zones
-use Rattle.tldreg.specs.declared.command_line.Job.{Job}
-use Rattle.tldreg.specs.declared.command_line.Job.TheVariants as jobs
 use Rattle.tldreg.specs.declared.token.End.{End}
 use Rattle.tldreg.specs.declared.token.End.TheVariants as ends
+use Rattle.tldreg.specs.declared.token.Unfit.{Unfit}
 use Rattle.tldreg.specs.declared.token.Unfit.TheVariants as unfit
 
 -- an order that was answered another code than 1000 was refused
@@ -37,18 +33,18 @@ request_end (Ok code) = end_of code
 request_end (Err exit) = Err exit
 
 -- What the operator sends is carried out in a book, and the program ends as that was answered.
-abbrev pub EndsRequest : PolicyRules → OperatorRequest → ℕ → BookState → Result ⊤ Exit → Type 0
-EndsRequest p request moment old result =
-    (answered : Result Code Exit) × (new : BookState) × (before : Option (List ℕ))
-    × (after : Option (List ℕ)) × (result ≡ request_end answered)
+abbrev pub EndsRequest : PolicyRules → OperatorRequest → ℕ → (old new : BookState)
+    → (before after : Option (List ℕ)) → Result ⊤ Exit → Type 0
+EndsRequest p request moment old new before after result =
+    (answered : Result Code Exit) × (result ≡ request_end answered)
     × IfOk answered (λ code. PrintsAnswer p request moment code old new before after)
-    × IfErr answered (EndsUnprinted (IsCarriedOut p request moment) old new before after)
+    × IfErr answered (EndsUnprinted p request moment old new before after)
 
 -- the same of a payload
-abbrev pub EndsOrder : PolicyRules → List ℕ → ℕ → BookState → Result ⊤ Exit → Type 0
-EndsOrder p payload moment old result =
-    (answered : Result Code Exit) × (new : BookState) × (before : Option (List ℕ))
-    × (after : Option (List ℕ)) × (result ≡ request_end answered)
+abbrev pub EndsOrder : PolicyRules → List ℕ → ℕ → (old new : BookState)
+    → (before after : Option (List ℕ)) → Result ⊤ Exit → Type 0
+EndsOrder p payload moment old new before after result =
+    (answered : Result Code Exit) × (result ≡ request_end answered)
     × IfOk answered (λ code. IsOrdered payload (λ request.
     PrintsAnswer p request moment code old new before after))
     × IfErr answered (EndsUnanswered p payload moment old new before after)
@@ -61,26 +57,28 @@ zone_end (Err (exports.Zone zones.Memory)) = Err exits.Memory
 zone_end (Err (exports.Zone zones.Write)) = Err exits.File
 
 -- The zone of a book is written, and the program ends as that ended.
-abbrev pub EndsZone : PolicyRules → ℕ → BookState → Result ⊤ Exit → Type 0
-EndsZone p moment old result =
-    (written : Result ⊤ ZoneExportFault) × (new : BookState) × (before : Option (List ℕ))
-    × (after : Option (List ℕ)) × (result ≡ zone_end written)
+abbrev pub EndsZone : PolicyRules → ℕ → (old new : BookState) → (before after : Option (List ℕ))
+    → Result ⊤ Exit → Type 0
+EndsZone p moment old new before after result =
+    (written : Result ⊤ ZoneExportFault) × (result ≡ zone_end written)
     × OnOk written (new.is_clean ≡ true
     → Appends before after (zone_at p moment old.content.registry))
-    × OnErr written (new.is_clean ≡ true
-    → AppendsBeginning before after (zone_at p moment old.content.registry))
+    × IfErr written (λ fault. new.is_clean ≡ true
+    → StopsAs fault before after (zone_at p moment old.content.registry))
     × Passes p moment old new
 
--- ---- jobs
+-- ---- the operator's token
 
--- a job with a book; that of a port ends where there is none
-abbrev pub EndsJob : PolicyRules → Job → BookState → Result ⊤ Exit → Type 0
-EndsJob p (jobs.Serve port) old result = result ≡ Err exits.Network
-EndsJob p (jobs.ServeBoth port operator_port token_file) old result = result ≡ Err exits.Network
-EndsJob p (jobs.Zone moment) old result = EndsZone p moment old result
-EndsJob p (jobs.Deposit moment registrar cents) old result =
-    EndsRequest p (requests.Order (orders.Deposit (string_bytes registrar) cents)) moment old result
-EndsJob p (jobs.Order moment json) old result = EndsOrder p (string_bytes json) moment old result
+-- the line of standard error, where a file isn't fit to hold the token
+abbrev pub text_of : Unfit → List ℕ
+text_of unfit.Open = codes "token: others may read it"
+text_of unfit.Short = codes "token: short"
+text_of unfit.Form = codes "token: form"
+
+-- the same end, of what can't end by the token
+abbrev pub ended : Result ⊤ Exit → Result ⊤ End
+ended (Ok done) = Ok done
+ended (Err exit) = Err (ends.Exit exit)
 
 -- a file that isn't fit to hold the token
 abbrev pub token_end : TokenFault → End

@@ -1,5 +1,5 @@
 -- What the words of a command line ask for. Words that ask for nothing are a wrong command line.
-use Rattle.std.specs.Prelude.{◌≡◌, ◌<◌, ℕ, ℤ, List, [], ◌∷◌, Result, Ok, Err, ⊤, FitsSigned, codes, map, string_bytes}
+use Rattle.std.specs.Prelude.{◌≡◌, ◌<◌, ℕ, ℤ, List, [], ◌∷◌, Option, None, Some, Result, Ok, Err, ⊤, FitsSigned, codes, map, string_bytes}
 use Rattle.std.specs.Int.{w64}
 use Rattle.std.specs.Str.Parse.{IsNumeral, digits_value, signed_digits_value, without_leading_plus, without_leading_sign}
 use Rattle.std.specs.Vec.Iter.{into_iter_items}
@@ -12,6 +12,8 @@ use Rattle.script.specs.declared.exit.Exit.{Exit}
 use Rattle.script.specs.declared.exit.Exit.TheVariants.{Usage}
 use Rattle.tldreg.specs.declared.command_line.Job.{Job}
 use Rattle.tldreg.specs.declared.command_line.Job.TheVariants.{Serve, ServeBoth, Zone, Deposit, Order}
+use Rattle.tldreg.specs.declared.settings.OptionKind.{OptionKind}
+use Rattle.tldreg.specs.declared.settings.OptionKind.TheVariants as kinds
 use Rattle.tldreg.specs.declared.command_line.Task.{Task}
 use Rattle.tldreg.specs.declared.command_line.Task.TheVariants.{Help, Version, Run, Migrate, OnDatabase}
 
@@ -70,6 +72,26 @@ Asks words (Migrate policy from to) =
     words ≡ codes "migrate" ∷ string_bytes policy ∷ string_bytes from ∷ string_bytes to ∷ []
 Asks words (OnDatabase policy database job) =
     AsksJob words (string_bytes policy) (string_bytes database) job
+
+-- the moment that a job is given; that of serving is the machine's
+abbrev pub moment_of : Job → Option ℕ
+moment_of (Serve port) = None
+moment_of (ServeBoth port operator_port token_file) = None
+moment_of (Zone moment) = Some moment
+moment_of (Deposit moment registrar cents) = Some moment
+moment_of (Order moment json) = Some moment
+
+-- which options a task takes
+abbrev pub options_of : Task → OptionKind
+options_of Help = kinds.None
+options_of Version = kinds.None
+options_of (Run policy) = kinds.None
+options_of (Migrate policy from to) = kinds.None
+options_of (OnDatabase policy database (Serve port)) = kinds.Serving
+options_of (OnDatabase policy database (ServeBoth port operator_port token_file)) = kinds.Serving
+options_of (OnDatabase policy database (Zone moment)) = kinds.OnDatabase
+options_of (OnDatabase policy database (Deposit moment registrar cents)) = kinds.OnDatabase
+options_of (OnDatabase policy database (Order moment json)) = kinds.OnDatabase
 
 -- ---- how they are read
 
