@@ -35,10 +35,9 @@ FROM host LEFT JOIN domain ON domain.name = host.above WHERE host.sponsor IS NOT
 SELECT 'contact', name, 'due', contact.due, (SELECT ac_date FROM transfer WHERE transfer.contact = contact.id AND state = 0) AS owed
 FROM contact WHERE contact.due IS NOT owed;
 
--- when time next changes a domain, which its column may say earlier and not later: it expires, a pending
--- transfer is approved, or it is purged. Of a deleted domain the column is the end of pendingDelete, which
--- begins when it can't be redeemed any more and a restoration that was asked for isn't reported; or the last
--- moment, where that lies past it. Each period has the length that was in force when it began.
+-- when time next changes a domain: it expires, a pending transfer is approved, or it is purged at the end of
+-- pendingDelete, which begins when it can't be redeemed any more and a restoration that was asked for isn't
+-- reported; or the last moment, where that lies past it. Each period has the length that was in force when it began.
 WITH ends AS (
   SELECT domain.*, strftime('%s', created, 'unixepoch', years || ' years',
       CASE WHEN strftime('%d', created, 'unixepoch') <> strftime('%d', created, 'unixepoch', years || ' years') THEN '-1 day' ELSE '+0 days' END) + 0 AS expiry,
@@ -50,8 +49,8 @@ begun AS (SELECT ends.*, max(redeemed, coalesce(restored, 0)) AS begins FROM end
 dated AS (
   SELECT begun.*, min(7258118399, begins + 86400 * coalesce((SELECT days_pending_delete FROM days WHERE starts <= begins ORDER BY id DESC LIMIT 1), meta.days_pending_delete)) AS purged
   FROM begun, meta)
-SELECT 'domain', name, 'due', due, CASE WHEN deleted IS NULL THEN min(expiry, coalesce(completed, expiry)) ELSE purged END AS owed
-FROM dated WHERE due > owed OR deleted IS NOT NULL AND due <> owed;
+SELECT 'domain', name, 'due', due, CASE WHEN deleted IS NULL THEN min(7258118399, expiry, coalesce(completed, expiry)) ELSE purged END AS owed
+FROM dated WHERE due <> owed;
 
 -- the same, beside each contact and host that a domain names
 SELECT 'link', link.id, 'due', link.due, domain.due AS owed

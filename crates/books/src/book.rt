@@ -4,9 +4,9 @@ ghost use Rattle.books.specs.Book.{BookBegins, BookEnds, BookFinds, BookFindsIn,
 ghost use Rattle.books.specs.Book.{Follows, IsBack, LeavesHeld, LeavesSame, NoRefusal};
 ghost use Rattle.books.specs.Book.{with_changes, with_terms};
 ghost use Rattle.concerns.specs.Names.{named_by, named_of};
-ghost use Rattle.model.specs.DueBy.{due_by};
 ghost use Rattle.concerns.specs.DueFor.{due_for};
 ghost use Rattle.books.specs.Faces.{contact_face_at, domain_face_at, host_face_at};
+ghost use Rattle.books.specs.Lookups.{first_due};
 ghost use Rattle.facts.specs.Facts.{facts};
 ghost use Rattle.model.specs.Objects.{object_at};
 ghost use Rattle.model.specs.Registry.{account_of};
@@ -100,10 +100,16 @@ pub trait Book {
         ensures { BookFindsIn result (λ s. (account_of registrar s).lines)
             (state self.old) (state self.new) };
 
-    /// The objects that time changes or removes up to a moment, by the moment of the first change,
-    /// then contacts first, then by name.
-    fn due(&mut self, moment: Moment, policy: &Policy) -> Result<Seq<Due>, BookFault>
-        ensures { BookFindsIn result (due_by policy.now moment) (state self.old) (state self.new) };
+    /// The objects that time changes or removes up to a moment, so many at most if a number is given,
+    /// by the moment of the first change, then contacts first, then by name.
+    fn due(
+        &mut self,
+        moment: Moment,
+        most: Option<u32>,
+        policy: &Policy,
+    ) -> Result<Seq<Due>, BookFault>
+        ensures { BookFindsIn result (first_due policy.now moment most)
+            (state self.old) (state self.new) };
 
     /// Of what is due by a moment, in the same order, the part that concerns a command. That is what its
     /// caller, if one is given, sponsors, and what a pending transfer brings to it or takes away. It is

@@ -182,8 +182,13 @@ impl<R: Records> Book for Kept<R> {
         }
     }
 
-    fn due(&mut self, moment: Moment, policy: &Policy) -> Result<Seq<Due>, BookFault> {
-        match self.records.due(moment, policy) {
+    fn due(
+        &mut self,
+        moment: Moment,
+        most: Option<u32>,
+        policy: &Policy,
+    ) -> Result<Seq<Due>, BookFault> {
+        match self.records.due(moment, most, policy) {
             Ok(due) => Ok(due),
             Err(fault) => Err(self.rollback_and_count(fault)),
         }

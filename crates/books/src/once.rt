@@ -193,11 +193,16 @@ impl<B: Book> Book for OnceBook<B> {
         self.inner.lines(registrar)
     }
 
-    fn due(&mut self, moment: Moment, policy: &Policy) -> Result<Seq<Due>, BookFault> {
+    fn due(
+        &mut self,
+        moment: Moment,
+        most: Option<u32>,
+        policy: &Policy,
+    ) -> Result<Seq<Due>, BookFault> {
         if self.is_next() {
             return self.rollback_and_count();
         }
-        self.inner.due(moment, policy)
+        self.inner.due(moment, most, policy)
     }
 
     fn due_for(

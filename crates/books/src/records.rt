@@ -6,10 +6,9 @@ ghost use Rattle.accounts.specs.Lines as lines;
 ghost use Rattle.facts.specs.Facts as facts;
 ghost use Rattle.model.specs.Registry.{account_of};
 ghost use Rattle.books.specs.Book.{with_terms};
-ghost use Rattle.model.specs.DueBy.{due_by};
 ghost use Rattle.model.specs.Zone.{delegations, host_addresses_at};
 ghost use Rattle.accounts.specs.Counters.{counters_of};
-ghost use Rattle.books.specs.Lookups.{has_contact, has_host, superordinate_at};
+ghost use Rattle.books.specs.Lookups.{first_due, has_contact, has_host, superordinate_at};
 ghost use Rattle.books.specs.Records.{AreSwaps, FindsIn, FindsSomeIn, IsDueNear, MakesOf};
 ghost use Rattle.states.specs.States.{Begins, Closes, Ends, Finds};
 ghost use Rattle.books.specs.Tables as tables;
@@ -157,10 +156,16 @@ pub trait Records {
         ensures { FindsIn result (λ s. nat_le HOLDING_LIMIT (facts.held registrar s))
             (kept self.old) (kept self.new) };
 
-    /// The objects that time changes or removes up to a moment, by the moment of the first change, then
-    /// contacts first, then by name.
-    fn due(&mut self, moment: Moment, policy: &Policy) -> Result<Seq<Due>, BookFault>
-        ensures { FindsIn result (due_by policy.now moment) (kept self.old) (kept self.new) };
+    /// The objects that time changes or removes up to a moment, so many at most if a number is given, by
+    /// the moment of the first change, then contacts first, then by name.
+    fn due(
+        &mut self,
+        moment: Moment,
+        most: Option<u32>,
+        policy: &Policy,
+    ) -> Result<Seq<Due>, BookFault>
+        ensures { FindsIn result (first_due policy.now moment most)
+            (kept self.old) (kept self.new) };
 
     /// Some of what is due by a moment, in the same order: all that concerns a registrar, if one is given,
     /// and some names is among it. What isn't near these isn't looked at, where there is a way around it.

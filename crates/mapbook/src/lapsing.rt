@@ -1,6 +1,7 @@
 //! What of a registry in ordered maps is due.
 ghost use Rattle.std.specs.Prelude.{◌≡◌, Some, option_map, IfOk, OnOk};
 ghost use Rattle.std.specs.FinMap.{entries};
+ghost use Rattle.books.specs.Lookups.{up_to};
 ghost use Rattle.lifecycle.specs.DueObjects as spec;
 ghost use Rattle.model.specs.DueBy.{due_by};
 ghost use Rattle.mapbook.specs.Quiet.{NoneBefore};
@@ -160,4 +161,16 @@ fn listed(alloc: Global, found: BTreeSet<Due>) -> Result<Seq<Due>, AllocError>
         due.push(it)?;
     }
     Ok(Seq::from_vec(due))
+}
+
+/// So many of a list at most, or all of it.
+pub(crate) fn cut(due: Seq<Due>, most: Option<u32>) -> Seq<Due>
+    ensures { result ≡ up_to most due }
+{
+    let Some(most) = most else {
+        return due;
+    };
+    let mut due = due.into_vec();
+    due.truncate(most as usize);
+    Seq::from_vec(due)
 }

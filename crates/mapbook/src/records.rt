@@ -3,6 +3,7 @@ ghost use Rattle.std.specs.Prelude.{◌≡◌, false};
 ghost use Rattle.mapbook.specs.Plain as spec;
 
 use crate::edit::{Edit, copy_contact, copy_domain, copy_host, copy_terms};
+use crate::lapsing::cut;
 use crate::plain::Plain;
 use accounts::{Account, Counters, Line, LineChange, LineSwap, Lines, Message};
 use basis::list::Seq;
@@ -162,13 +163,15 @@ impl Records for Plain {
         Ok(self.content.is_at_holding_limit(registrar))
     }
 
-    fn due(&mut self, moment: Moment, policy: &Policy) -> Result<Seq<Due>, BookFault> {
-        self.settle()?;
-        if self.is_quiet(moment, policy) {
-            return Ok(Seq::new(self.content.alloc));
-        }
-        self.learn_quiet(policy);
-        Ok(self.content.due_by(moment, policy)?)
+    /// All that is due is found, and then cut.
+    fn due(
+        &mut self,
+        moment: Moment,
+        most: Option<u32>,
+        policy: &Policy,
+    ) -> Result<Seq<Due>, BookFault> {
+        let due = self.all_due(moment, policy)?;
+        Ok(cut(due, most))
     }
 
     /// All that is due: each object is looked at in any case.
@@ -179,12 +182,7 @@ impl Records for Plain {
         moment: Moment,
         policy: &Policy,
     ) -> Result<Seq<Due>, BookFault> {
-        self.settle()?;
-        if self.is_quiet(moment, policy) {
-            return Ok(Seq::new(self.content.alloc));
-        }
-        self.learn_quiet(policy);
-        Ok(self.content.due_by(moment, policy)?)
+        self.all_due(moment, policy)
     }
 
     fn set_clock(&mut self, moment: Moment) -> Result<(), BookFault> {

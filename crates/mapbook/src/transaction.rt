@@ -7,6 +7,7 @@ ghost use Rattle.mapbook.specs.Edits.{edited, undone_all};
 ghost use Rattle.mapbook.specs.Plain.{IsSettled, LatestUndoes, content_of, at_begin, plain_records, plain_state, without_latest};
 ghost use Rattle.mapbook.specs.Quiet.{IsQuiet};
 ghost use Rattle.states.specs.States.{Makes, Stays};
+ghost use Rattle.books.specs.Records.{FindsIn};
 ghost use Rattle.books.specs.Tables.{domain_put};
 
 use crate::content::Content;
@@ -20,7 +21,7 @@ use basis::maps::NameMap;
 use basis::text::Text;
 use books::Kept;
 use calendar::Moment;
-use lifecycle::due_by;
+use lifecycle::{Due, due_by};
 use objects::Domain;
 use policy::Policy;
 use states::BookFault;
@@ -194,6 +195,19 @@ impl Plain {
             return None;
         }
         Some(sooner(until, due_by(domain, until, policy)))
+    }
+
+    /// All that is due by a moment, in the order in which it lapses.
+    pub(crate) fn all_due(&mut self, moment: Moment, policy: &Policy) -> Result<Seq<Due>, BookFault>
+        ensures { FindsIn result (due_by policy.now moment)
+            (plain_records self.old) (plain_records self.new) }
+    {
+        self.settle()?;
+        if self.is_quiet(moment, policy) {
+            return Ok(Seq::new(self.content.alloc));
+        }
+        self.learn_quiet(policy);
+        Ok(self.content.due_by(moment, policy)?)
     }
 
     /// Learns until when nothing is due under a policy, where that is one that the book was opened under.

@@ -35,7 +35,7 @@ impl Work for BacklogWork {
         policy: &Policy,
     ) -> Result<Backlog, BookFault> {
         let clock = book.clock()?;
-        let due = book.due(self.moment.later(clock), policy)?;
+        let due = book.due(self.moment.later(clock), None, policy)?;
         Ok(backlog_of(clock, &due))
     }
 }

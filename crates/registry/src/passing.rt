@@ -90,7 +90,7 @@ fn due_in<B: Book>(
         Scope::Object(kind, name) => book.due_at(kind, name, moment, policy),
         Scope::Named(kind, Some(name)) => book.due_at(kind, name, moment, policy),
         Scope::Named(_, None) => Ok(Seq::new(alloc)),
-        Scope::All => book.due(moment, policy),
+        Scope::All => book.due(moment, None, policy),
     }
 }
 

@@ -1,5 +1,5 @@
 //! How some of what is due lapses: a settlement.
-ghost use Rattle.std.specs.Prelude.{◌≡◌, min, length, take};
+ghost use Rattle.std.specs.Prelude.{◌≡◌, min, length};
 ghost use Rattle.registry.specs.Execution.{IsSettlement};
 
 use crate::lapse::lapse_each;
@@ -33,20 +33,16 @@ impl Work for SettlementWork {
         policy: &Policy,
     ) -> Result<u32, BookFault> {
         let now = move_clock(book, alloc, self.moment, policy)?;
-        let due = book.due(now, policy)?;
-        let (first, count) = first_of(due, self.at_most);
-        lapse_each(book, alloc, first, now, policy)?;
+        let due = book.due(now, Some(self.at_most), policy)?;
+        let count = count_of(&due, self.at_most);
+        lapse_each(book, alloc, due, now, policy)?;
         Ok(count)
     }
 }
 
-/// The first so many of what is due, and how many they are.
-fn first_of(due: Seq<Due>, at_most: u32) -> (Seq<Due>, u32)
-    ensures first { result.0 ≡ take at_most due }
-    ensures count { result.1 ≡ min at_most (length due) }
+/// How many of what is due lapse: so many at most, also where a book gave more than it was asked for.
+fn count_of(due: &Seq<Due>, at_most: u32) -> u32
+    ensures { result ≡ min at_most (length due.now) }
 {
-    let mut due = due.into_vec();
-    due.truncate(at_most as usize);
-    let count = due.len() as u32;
-    (Seq::from_vec(due), count)
+    due.as_slice().len().min(at_most as usize) as u32
 }

@@ -1,15 +1,10 @@
 -- What a domain put over rows is to a book, with the domains that registrars hold counted anew before.
-use Rattle.std.proofs.Common.{◌≡◌, ℕ, true, ◌&&◌, ◌==◌, cond, length, List, [], filter, Option, Some, None, refl, sym, ap, subst, ◌∙◌}
+use Rattle.std.proofs.Common.{◌≡◌, ℕ, Bool, true, ◌==◌, cond, length, List, [], filter, Option, Some, None, refl, sym, ap, subst, ◌∙◌}
 use Rattle.std.specs.FinMap.{get}
 use Rattle.std.specs.List.{list_all}
-use Rattle.std.specs.Option.{option_map_or}
-use Rattle.std.specs.Prelude.{int_le, pos}
 use Rattle.sqlite_rules.specs.Lists.{Has}
 use Rattle.sqlite_typed.specs.Tests.{bytes_eq}
-use Rattle.lifecycle.specs.Lapse.{due_at}
-use Rattle.lifecycle.specs.Periods.{rules_with}
 use Rattle.objects.specs.declared.domain.Domain.{Domain}
-use Rattle.policy.specs.declared.schedule.Schedule.{Schedule}
 use Rattle.books.specs.Ledgers as store
 use Rattle.books.specs.Tables.{domain_put}
 use Rattle.sqltables.specs.Account as account_table
@@ -27,19 +22,15 @@ use Rattle.sqlderived.proofs.KeptLemmas.{held-kept}
 use Rattle.sqlobjects.specs.Objects.{contacts_of, hosts_of}
 use Rattle.sqlterms.specs.Clock.{clock_of}
 use Rattle.sqlterms.specs.Meta.{meta_of}
-use Rattle.sqlterms.specs.Terms.{days_of, ids_in, prices_in, reserved_in, schedule_in, terms_in, terms_made, terms_of}
-use Rattle.sqlderived.specs.Dues.{dues_are_right, is_due_right}
+use Rattle.sqlterms.specs.Terms.{ids_in, prices_in, reserved_in, schedule_in, terms_in, terms_made, terms_of}
 use Rattle.sqlbook.specs.Meaning.{stored_of}
 use Rattle.sqlbook.proofs.AccountLemmas.{ident_in, same-ids}
-use Rattle.sqlbook.proofs.ObjectLemmas.{same-put}
+use Rattle.sqlbook.proofs.ObjectLemmas.{IsOfReading, same-put}
 
 -- ---- a domain put
 
--- What was there under the name had a right column, if it was there, and so has what is there now.
 module _ (name : List ℕ) (before after : Option Domain) (due : Option ℕ) (old mid new : Content) (consistent : IsConsistent old) (counted : IsRecounted before after old mid) (there : get (domains_of old) name ≡ before)
-    (it : IsDomainPut name after due mid new)
-    (was : (days : Schedule) → days_of old ≡ Some days → (row : table.Domain) → Has old.domains row → row.name ≡ name → is_due_right days old row ≡ true)
-    (is : (days : Schedule) → days_of old ≡ Some days → (row : table.Domain) → Has new.domains row → row.name ≡ name → is_due_right days new row ≡ true) where
+    (it : IsDomainPut name after due mid new) where
   reads-mid : (row : table.Domain) → domain_of mid row ≡ domain_of old row
   reads-mid row = ap (λ (xs : Content). domain_of xs row) counted.rest
 
@@ -52,31 +43,20 @@ module _ (name : List ℕ) (before after : Option Domain) (due : Option ℕ) (ol
   days-now : new.days ≡ old.days
   days-now = it.days ∙ ap (λ (xs : Content). xs.days) counted.rest
 
-  dues-put : dues_are_right new ≡ dues_are_right old
-  dues-put =
-      (λ i. option_map_or (λ days. list_all (is_due_right days new) new.domains) (days_of (record new { metas = metas-now i; days = days-now i })) true)
-      ∙ go (days_of old) refl
-    where
-      one : (days : Schedule) → days_of old ≡ Some days → list_all (is_due_right days new) new.domains ≡ list_all (is_due_right days old) old.domains
-      one days here =
-          same-verdict (λ (r : table.Domain). r.name) name old.domains new.domains (is_due_right days old) (is_due_right days new)
-          (λ q e. it.others q e ∙ ap (filter (λ (r : table.Domain). bytes_eq r.name q)) domains-mid)
-          (λ row there now other. ap (λ d. option_map_or (λ x. int_le row.due (pos (due_at (rules_with days) x))) d true) (it.readings row (subst (λ l. Has l row) (sym domains-mid) there) now other ∙ reads-mid row))
-          (was days here) (is days here)
+  -- the row of the name, if there was one, was right, and is right, if there is one; and all others are as right as they were
+  pub rights-put : (right : Content → table.Domain → Bool) → IsOfReading right → ((row : table.Domain) → Has old.domains row → row.name ≡ name → right old row ≡ true)
+      → ((row : table.Domain) → Has new.domains row → row.name ≡ name → right new row ≡ true) → list_all (right new) new.domains ≡ list_all (right old) old.domains
+  rights-put right by was is =
+      same-verdict (λ (r : table.Domain). r.name) name old.domains new.domains (right old) (right new)
+      (λ q e. it.others q e ∙ ap (filter (λ (r : table.Domain). bytes_eq r.name q)) domains-mid)
+      (λ row there now other. by old new metas-now days-now row (it.readings row (subst (λ l. Has l row) (sym domains-mid) there) now other ∙ reads-mid row))
+      was is
 
-      go : (days : Option Schedule) → days_of old ≡ days → option_map_or (λ d. list_all (is_due_right d new) new.domains) days true ≡ option_map_or (λ d. list_all (is_due_right d old) old.domains) days true
-      go None e = refl
-      go (Some days) e = one days e
-
-  sums-put : sums_are_right new ≡ sums_are_right old
+  pub sums-put : sums_are_right new ≡ sums_are_right old
   sums-put = (λ i. sums_are_right (record new { accounts = it.accounts i; lines = it.lines i; messages = it.messages i })) ∙ counted.sums
 
-  held-put : helds_are_right new ≡ helds_are_right old
+  pub held-put : helds_are_right new ≡ helds_are_right old
   held-put = held-kept old mid new before after name counted there it.domains it.accounts
-
-  -- the sums, but for the sponsors of hosts
-  pub domain-right : (sums_are_right new && (helds_are_right new && dues_are_right new)) ≡ (sums_are_right old && (helds_are_right old && dues_are_right old))
-  domain-right = λ i. sums-put i && (held-put i && dues-put i)
 
   alike-ident : (o n : Option account_table.Account) → AreAlike o n → ident_in n ≡ ident_in o
   alike-ident None None e = refl

@@ -1,15 +1,19 @@
 -- What a contact or a host put over rows is to a book.
-use Rattle.std.proofs.Common.{◌≡◌, inl, inr, ℕ, Bool, true, ◌&&◌, List, [], ◌∷◌, Option, Some, None, refl, ap, ◌∙◌}
+use Rattle.std.proofs.Common.{◌≡◌, inl, inr, ℕ, Bool, true, false, ◌&&◌, List, [], ◌∷◌, Option, Some, None, refl, ap, ◌∙◌}
 use Rattle.std.specs.Cmp.Lexicographic.{slice_cmp}
 use Rattle.std.specs.FinMap.{FinMap}
 use Rattle.std.specs.List.{list_all}
 use Rattle.std.specs.Option.{option_map_or}
 use Rattle.std.specs.Ordering.{nat_cmp}
-use Rattle.std.specs.Prelude.{int_le, pos}
+use Rattle.std.specs.Ordering.{int_eq}
+use Rattle.std.specs.Prelude.{◌||◌, is_some, pos}
+use Rattle.calendar.specs.Moment.{capped}
 use Rattle.sqlite_rules.specs.Lists.{Has}
-use Rattle.lifecycle.specs.Lapse.{due_at}
+use Rattle.lifecycle.specs.Lapse.{completes_at, due_at, earlier}
 use Rattle.lifecycle.specs.Periods.{rules_with}
+use Rattle.objects.specs.Domains.{expiry}
 use Rattle.objects.specs.declared.contact.Contact.{Contact}
+use Rattle.objects.specs.declared.domain.Domain.{Domain}
 use Rattle.objects.specs.declared.host.Host.{Host}
 use Rattle.policy.specs.declared.schedule.Schedule.{Schedule}
 use Rattle.books.specs.Ledgers as store
@@ -23,9 +27,11 @@ use Rattle.sqldomains.proofs.FrameLemmas.{contact-leaves-domains, contact-leaves
 use Rattle.sqldomains.proofs.SponsorLemmas.{contact-sponsors, host-sponsors}
 use Rattle.sqlderived.proofs.KeptLemmas.{accounts-kept}
 use Rattle.sqlobjects.specs.inner.Changes.{IsContactPut, IsHostPut, put}
+use Rattle.sqlobjects.proofs.VerdictLemmas.{all-alike}
 use Rattle.sqlterms.specs.Clock.{clock_of}
 use Rattle.sqlterms.specs.Terms.{days_of, terms_of}
-use Rattle.sqlderived.specs.Dues.{dues_are_right, is_due_right}
+use Rattle.sqlderived.specs.Dues.{dues_are_right, has_right_due, is_due_right}
+use Rattle.sqlderived.specs.Redates.{is_live_right}
 use Rattle.sqlbook.specs.Meaning.{are_right, stored_of}
 
 -- a put over rows is a put of a map by name
@@ -33,25 +39,35 @@ pub same-put : {X : Type 0} (m : FinMap (slice_cmp nat_cmp) X) (name : List ℕ)
 same-put m name None = refl
 same-put m name (Some x) = refl
 
-all-where : {A : Type 0} (p q : A → Bool) (rows : List A) → ((row : A) → Has rows row → p row ≡ q row) → list_all p rows ≡ list_all q rows
-all-where p q [] same = refl
-all-where p q (row ∷ rows) same = λ i. same row (inl refl) i && all-where p q rows (λ r h. same r (inr h)) i
+-- ---- rows of domains that are as right as they were
 
--- the columns of domains are as right as they were where the rows are the same and each column is
-pub dues-alike : (old new : Content) → new.metas ≡ old.metas → new.days ≡ old.days → new.domains ≡ old.domains → ((days : Schedule) (row : table.Domain) → Has old.domains row → is_due_right days new row ≡ is_due_right days old row) → dues_are_right new ≡ dues_are_right old
-dues-alike old new metas tables domains alike =
-    (λ i. option_map_or (λ days. list_all (is_due_right days new) new.domains) (days_of (record new { metas = metas i; days = tables i })) true)
-    ∙ go (days_of old)
-  where
-    go : (days : Option Schedule) → option_map_or (λ d. list_all (is_due_right d new) new.domains) days true ≡ option_map_or (λ d. list_all (is_due_right d old) old.domains) days true
-    go None = refl
-    go (Some days) =
-        ap (list_all (is_due_right days new)) domains
-        ∙ all-where (is_due_right days new) (is_due_right days old) old.domains (alike days)
+-- whether a row is right hangs on what it reads as, and on the lengths that were put down
+abbrev pub IsOfReading : (Content → table.Domain → Bool) → Type 0
+IsOfReading right =
+    (old new : Content) → new.metas ≡ old.metas → new.days ≡ old.days → (row : table.Domain) → domain_of new row ≡ domain_of old row → right new row ≡ right old row
 
--- and where they read as before
+pub due-of-reading : IsOfReading has_right_due
+due-of-reading old new metas days row reads = λ i.
+    option_map_or (λ ds. option_map_or (λ d. int_eq row.due (pos (capped (due_at (rules_with ds) d)))) (reads i) false) (days_of (record new { metas = metas i; days = days i })) true
+
+pub live-of-reading : IsOfReading is_live_right
+live-of-reading old new metas days row reads =
+    ap (λ o. option_map_or (λ (d : Domain). is_some d.deletion || int_eq row.due (pos (capped (earlier (expiry d) (completes_at d.transfer))))) o false) reads
+
+-- where the rows are the same and read as before
+pub rights-where : (right : Content → table.Domain → Bool) → IsOfReading right → (old new : Content) → new.metas ≡ old.metas → new.days ≡ old.days → new.domains ≡ old.domains
+    → ((row : table.Domain) → Has old.domains row → domain_of new row ≡ domain_of old row) → list_all (right new) new.domains ≡ list_all (right old) old.domains
+rights-where right by old new metas days domains reads =
+    ap (list_all (right new)) domains ∙ all-alike (right old) (right new) old.domains (λ row there. by old new metas days row (reads row there))
+
 pub dues-where : (old new : Content) → new.metas ≡ old.metas → new.days ≡ old.days → new.domains ≡ old.domains → ((row : table.Domain) → Has old.domains row → domain_of new row ≡ domain_of old row) → dues_are_right new ≡ dues_are_right old
-dues-where old new metas tables domains reads = dues-alike old new metas tables domains (λ days row there. ap (λ d. option_map_or (λ x. int_le row.due (pos (due_at (rules_with days) x))) d true) (reads row there))
+dues-where = rights-where has_right_due due-of-reading
+
+-- and where each is due as before
+pub dues-alike : (old new : Content) → new.metas ≡ old.metas → new.days ≡ old.days → new.domains ≡ old.domains → ((days : Schedule) (row : table.Domain) → is_due_right days new row ≡ is_due_right days old row) → dues_are_right new ≡ dues_are_right old
+dues-alike old new metas days domains alike =
+    ap (list_all (has_right_due new)) domains
+    ∙ all-alike (has_right_due old) (has_right_due new) old.domains (λ row there i. option_map_or (λ ds. alike ds row i) (days_of (record new { metas = metas i; days = days i })) true)
 
 module _ (name : List ℕ) (value : Option Contact) (old new : Content) (it : IsContactPut name value old new) where
   pub contact-right : are_right new ≡ are_right old

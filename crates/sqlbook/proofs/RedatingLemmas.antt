@@ -1,22 +1,31 @@
--- A domain that is put again beside another moment.
-use Rattle.std.proofs.Common.{◌≡◌, ℕ, true, pos, int_le, List, Some, sym, ap, ◌∙◌}
+-- A deleted domain that is put again beside another moment.
+use Rattle.std.proofs.Common.{◌≡◌, ◌||◌, ℕ, Bool, true, false, int_eq, is_some, pos, List, Option, Some, None, option_map, refl, sym, ap, subst, ◌∙◌}
 use Rattle.std.specs.Cmp.Lexicographic.{nat_list_cmp_total, slice_cmp}
 use Rattle.std.specs.FinMap.{FinMap, get, nat_cmp-IsAntisymmetric, slice_cmp-IsAntisymmetric}
+use Rattle.std.specs.Option.{option_map_or}
 use Rattle.std.specs.Ordering.{nat_cmp}
-use Rattle.sqlcolumns.specs.Numbers.{moment_column}
-use Rattle.lifecycle.specs.Lapse.{due_at}
+use Rattle.calendar.specs.Moment.{capped}
+use Rattle.sqlite_rules.specs.Lists.{Has}
+use Rattle.lifecycle.specs.Lapse.{completes_at, earlier}
 use Rattle.lifecycle.specs.Periods.{rules_with}
+use Rattle.lifecycle.specs.Phases.{purge_at}
+use Rattle.objects.specs.Domains.{expiry}
+use Rattle.objects.specs.declared.domain.Deletion.{Deletion}
 use Rattle.objects.specs.declared.domain.Domain.{Domain}
 use Rattle.policy.specs.declared.schedule.Schedule.{Schedule}
 use Rattle.books.specs.Ledgers.{put}
 use Rattle.books.specs.Tables.{with_domains}
 use Rattle.books.proofs.PutLemmas.{put-back, put-put}
 use Rattle.sqltables.specs.Content.{Content}
-use Rattle.sqldomains.specs.Domains.{domains_of}
+use Rattle.sqltables.specs.Domain as table
+use Rattle.sqltables.specs.inner.Consistent.{IsConsistent}
+use Rattle.sqldomains.specs.Domains.{domain_of, domains_of}
+use Rattle.sqlderived.specs.Redates.{is_live_right}
 use Rattle.sqlbook.specs.Meaning.{stored_of}
-use Rattle.sqlbook.specs.inner.Replacing.{IsReplaced}
-use Rattle.sqlbook.specs.inner.Suiting.{MeansSame}
-use Rattle.sqlbook.proofs.ReplacingLemmas.{early-of, replaced, replaced-days, replaced-lines, replaced-right}
+use Rattle.sqlbook.specs.inner.Replacing.{IsCheckedDomain, IsReplaced}
+use Rattle.sqlbook.specs.inner.Suiting.{IsDeleted, MeansSame, end_of}
+use Rattle.sqlbook.proofs.ObjectLemmas.{live-of-reading}
+use Rattle.sqlbook.proofs.ReplacingLemmas.{reading-is, reads-after, replaced, replaced-days, replaced-lines, replaced-right}
 
 -- what is put where it stands
 found-put : (m : FinMap (slice_cmp nat_cmp) Domain) (name : List ℕ) (d : Domain) → get m name ≡ Some d → put m name (Some d) ≡ m
@@ -25,13 +34,32 @@ found-put m name d is =
     ∙ ap (put (put m name (Some d)) name) (sym is)
     ∙ put-back (slice_cmp nat_cmp) nat_list_cmp_total (slice_cmp-IsAntisymmetric nat_cmp-IsAntisymmetric) m name (Some d)
 
-pub put-again : (name : List ℕ) (days : Schedule) (d : Domain) (due : ℕ) (old new : Content) → IsReplaced name days (Some d) due old new
-    → get (domains_of old) name ≡ Some d → int_le (moment_column due) (pos (due_at (rules_with days) d)) ≡ true → MeansSame old new
-put-again name days d due old new it there by_end =
-    let early = early-of days due d by_end in
+-- the row of a deleted domain is right by any lengths
+deleted-right : (xs : Content) (row : table.Domain) (o : Option Domain) → domain_of xs row ≡ o → IsDeleted o → is_live_right xs row ≡ true
+deleted-right xs row None reads is = absurd is
+deleted-right xs row (Some d) reads is =
+    ap (λ o. option_map_or (λ (x : Domain). is_some x.deletion || int_eq row.due (pos (capped (earlier (expiry x) (completes_at x.transfer))))) o false) reads
+    ∙ ap (λ b. b || int_eq row.due (pos (capped (earlier (expiry d) (completes_at d.transfer))))) is
+
+pub deleted-checked : (name : List ℕ) (xs : Content) (o : Option Domain) → IsConsistent xs → get (domains_of xs) name ≡ o → IsDeleted o → IsCheckedDomain name is_live_right xs o
+deleted-checked name xs o consistent there is = record {
+  domain_is = there;
+  right_is = λ row here named. deleted-right xs row o (reading-is xs row consistent here ∙ ap (get (domains_of xs)) named ∙ there) is;
+}
+
+-- what has an end is deleted
+pub ended-deleted : (days : Schedule) (d : Domain) (due : ℕ) → end_of days d ≡ Some due → is_some d.deletion ≡ true
+ended-deleted days d due e = go d.deletion e
+  where
+    go : (o : Option Deletion) → option_map (λ (x : Deletion). capped (purge_at (rules_with days) x)) o ≡ Some due → is_some o ≡ true
+    go None f = cc
+    go (Some x) f = refl
+
+pub put-again : (name : List ℕ) (d : Domain) (due : ℕ) (old new : Content) → IsReplaced name is_live_right (Some d) due old new → get (domains_of old) name ≡ Some d → is_some d.deletion ≡ true → MeansSame old new
+put-again name d due old new it there deleted =
     record {
-      stored = replaced name days (Some d) due old new it early ∙ ap (λ m. with_domains m (stored_of old)) (found-put (domains_of old) name d there);
-      sums = replaced-right name days (Some d) due old new it early;
-      days = replaced-days name days (Some d) due old new it early;
-      lines = replaced-lines name days (Some d) due old new it early;
+      stored = replaced name is_live_right (Some d) due old new it ∙ ap (λ m. with_domains m (stored_of old)) (found-put (domains_of old) name d there);
+      sums = replaced-right name is_live_right (Some d) due old new it live-of-reading (λ row here named. deleted-right new row (Some d) (reads-after name is_live_right (Some d) due old new it row here named) deleted);
+      days = replaced-days name is_live_right (Some d) due old new it;
+      lines = replaced-lines name is_live_right (Some d) due old new it;
     }

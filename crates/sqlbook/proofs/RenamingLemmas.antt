@@ -4,8 +4,8 @@ use Rattle.std.specs.Cmp.Lexicographic.{nat_list_cmp_total, slice_cmp}
 use Rattle.std.specs.FinMap.{FinMap, entries, same_map, values}
 use Rattle.std.specs.List.{list_all}
 use Rattle.std.specs.Option.{option_map_or}
+use Rattle.calendar.specs.Moment.{capped}
 use Rattle.std.specs.Ordering.{int_eq, nat_cmp}
-use Rattle.std.specs.Prelude.{int_le}
 use Rattle.basis.specs.Maps.{map_values}
 use Rattle.basis.proofs.MapLemmas.{entries-map_values, get-map_values, names_apart}
 use Rattle.sqlcolumns.specs.Numbers.{registrar_in}
@@ -75,15 +75,15 @@ module _ (from : List ℕ) (h : Host) (xs ys : Content) (it : IsRowRenamed from 
 
   -- and each is due when it was
   dues : dues_are_right ys ≡ dues_are_right xs
-  dues = dues-alike xs ys it.metas it.days it.domains (λ days row there. ap (λ o. option_map_or (λ d. int_le row.due (pos (due_at (rules_with days) d))) o true) (reading row) ∙ go days row (domain_of xs row))
+  dues = dues-alike xs ys it.metas it.days it.domains (λ days row. ap (λ o. option_map_or (λ d. int_eq row.due (pos (capped (due_at (rules_with days) d)))) o false) (reading row) ∙ go days row (domain_of xs row))
     where
       same : (days : Schedule) (d : Domain) (o : Option Deletion) → due_of (rules_with days) o (after d) ≡ due_of (rules_with days) o d
       same days d None = refl
       same days d (Some x) = refl
 
-      go : (days : Schedule) (row : table.Domain) (o : Option Domain) → option_map_or (λ d. int_le row.due (pos (due_at (rules_with days) d))) (option_map after o) true ≡ option_map_or (λ d. int_le row.due (pos (due_at (rules_with days) d))) o true
+      go : (days : Schedule) (row : table.Domain) (o : Option Domain) → option_map_or (λ d. int_eq row.due (pos (capped (due_at (rules_with days) d)))) (option_map after o) false ≡ option_map_or (λ d. int_eq row.due (pos (capped (due_at (rules_with days) d)))) o false
       go days row None = refl
-      go days row (Some d) = ap (λ n. int_le row.due (pos n)) (same days d d.deletion)
+      go days row (Some d) = ap (λ n. int_eq row.due (pos (capped n))) (same days d d.deletion)
 
   pub row-right : are_right ys ≡ are_right xs
   row-right = λ i.

@@ -1,11 +1,14 @@
 -- What one domain in the place of another is to a book.
-use Rattle.std.proofs.Common.{◌≡◌, ℕ, Bool, true, false, ◌&&◌, cond, List, Option, Some, None, IfSome, option_map, refl, sym, ap, ◌∙◌}
+use Rattle.std.proofs.Common.{◌≡◌, ℕ, ℤ, Bool, true, false, ◌&&◌, cond, int_eq, List, Option, Some, None, IfSome, Result, Ok, Err, option_map, refl, sym, ap, subst, ◌∙◌, arith}
+use Rattle.std.proofs.lemmas.Int.{ints}
+use Rattle.std.specs.List.{list_all}
 use Rattle.std.specs.Cmp.{eq_by_cmp_equiv}
 use Rattle.std.specs.Cmp.Lexicographic.{nat_list_cmp_total, slice_cmp}
 use Rattle.std.specs.FinMap.{FinMap, get, get-insert, get-remove}
 use Rattle.std.specs.Option.{option_map_or}
 use Rattle.std.specs.Ordering.{eq_by_cmp, nat_cmp}
-use Rattle.std.specs.Prelude.{int_le, pos}
+use Rattle.std.specs.Prelude.{pos}
+use Rattle.calendar.specs.Moment.{capped}
 use Rattle.sqlite_rules.specs.Lists.{Has}
 use Rattle.sqlcolumns.specs.Numbers.{moment_column}
 use Rattle.sqlcolumns.proofs.ReadLemmas.{same_some}
@@ -34,21 +37,20 @@ use Rattle.sqlobjects.specs.inner.Changes.{put}
 use Rattle.sqlobjects.specs.Objects.{contacts_of}
 use Rattle.sqlobjects.specs.Sponsors.{sponsors_are_right}
 use Rattle.sqlterms.specs.Clock.{clock_of}
-use Rattle.sqlderived.specs.Dues.{dues_are_right, is_due_right}
+use Rattle.sqlderived.specs.Dues.{has_right_due, is_due_right}
 use Rattle.sqlterms.specs.Terms.{days_of, terms_of}
 use Rattle.sqlbook.specs.Meaning.{are_right, stored_of}
-use Rattle.sqlbook.specs.inner.Replacing.{IsExchangedThere, IsReplaced, due_with}
-use Rattle.sqlbook.proofs.DomainLemmas.{domain-changed, domain-right}
-use Rattle.sqlbook.proofs.ObjectLemmas.{dues-where}
-
--- where days are there they are these
-days-are : (o : Option Schedule) (days these : Schedule) → IfSome o (λ d. d ≡ these) → o ≡ Some days → days ≡ these
-days-are None days these is e = cc
-days-are (Some d) days these is e = sym (same_some d days e) ∙ is
+use Rattle.states.specs.declared.fault.BookFault.{BookFault}
+use Rattle.states.specs.States.{FindsSome, Reads, StateOf}
+use Rattle.sqlrows.proofs.StateLemmas.{reads-on, stays-on}
+use Rattle.sqlbook.specs.inner.Replacing.{IsCheckedDomain, IsExchangedThere, IsReplaced, IsUnder, due_with}
+use Rattle.sqlbook.specs.inner.Suiting.{are_right_by}
+use Rattle.sqlbook.proofs.DomainLemmas.{domain-changed, held-put, rights-put, sums-put}
+use Rattle.sqlbook.proofs.ObjectLemmas.{IsOfReading, due-of-reading, rights-where}
 
 -- ---- what the row of a name reads as
 
-reading-is : (xs : Content) (row : table.Domain) → IsConsistent xs → Has xs.domains row → domain_of xs row ≡ get (domains_of xs) row.name
+pub reading-is : (xs : Content) (row : table.Domain) → IsConsistent xs → Has xs.domains row → domain_of xs row ≡ get (domains_of xs) row.name
 reading-is xs row consistent there =
     let alone = only_named inner_table.domains.key (λ (r : table.Domain). r.name) xs.domains row consistent.keyed.domains consistent.named.domains there in
     sym (alone-read (domain_of xs row)) ∙ sym (ap (first_read (domain_of xs)) alone) ∙ domain-named xs row.name
@@ -64,47 +66,23 @@ get-put : (m : FinMap (slice_cmp nat_cmp) Domain) (name : List ℕ) (value : Opt
 get-put m name None = get-remove nat_list_cmp_total m name name ∙ ap (λ b. cond b None (get m name)) (at-itself name)
 get-put m name (Some d) = get-insert nat_list_cmp_total m name d name ∙ ap (λ b. cond b (Some d) (get m name)) (at-itself name)
 
--- ---- moments that aren't later than a domain is due
-
-abbrev pub IsEarly : Schedule → ℕ → Option Domain → Type 0
-IsEarly days due after = (d : Domain) → after ≡ Some d → int_le (moment_column due) (pos (due_at (rules_with days) d)) ≡ true
-
-pub early-of : (days : Schedule) (due : ℕ) (domain : Domain) → int_le (moment_column due) (pos (due_at (rules_with days) domain)) ≡ true → IsEarly days due (Some domain)
-early-of days due domain is d e = ap (λ x. int_le (moment_column due) (pos (due_at (rules_with days) x))) (sym (same_some domain d e)) ∙ is
-
-pub none-early : (days : Schedule) (due : ℕ) → IsEarly days due None
-none-early days due d e = cc
-
 -- ---- one in the place of another
 
-module _ (name : List ℕ) (days : Schedule) (after : Option Domain) (due : ℕ) (old new : Content) (it : IsReplaced name days after due old new)
-    (early : IsEarly days due after) where
+module _ (name : List ℕ) (right : Content → table.Domain → Bool) (after : Option Domain) (due : ℕ) (old new : Content) (it : IsReplaced name right after due old new) where
   abbrev moved : Content
   moved = it.moved
 
-  there : IsExchangedThere name days after due moved new
+  there : IsExchangedThere name right after due moved new
   there = it.exchanged
 
   put-it : IsDomainPut name after (due_with after due) there.exchanged.mid new
   put-it = there.exchanged.put
 
-  was : (these : Schedule) → days_of moved ≡ Some these → (row : table.Domain) → Has moved.domains row → row.name ≡ name → is_due_right these moved row ≡ true
-  was these e row here named = ap (λ ds. is_due_right ds moved row) (days-are (days_of moved) these days there.checked.days_are e) ∙ there.checked.due row here named
-
-  reads-after : (row : table.Domain) → Has new.domains row → row.name ≡ name → domain_of new row ≡ after
+  pub reads-after : (row : table.Domain) → Has new.domains row → row.name ≡ name → domain_of new row ≡ after
   reads-after row here named = reading-is new row put-it.consistent.1 here ∙ ap (get (domains_of new)) named ∙ ap (λ m. get m name) put-it.domains ∙ get-put (domains_of there.exchanged.mid) name after
 
-  early-enough : (row : table.Domain) → Has new.domains row → row.name ≡ name → (o : Option Domain) → after ≡ o → option_map_or (λ d. int_le row.due (pos (due_at (rules_with days) d))) o true ≡ true
-  early-enough row here named None e = refl
-  early-enough row here named (Some d) e =
-      let column : Some row.due ≡ Some (moment_column due) = put-it.due_is row here named ∙ ap (λ o. option_map moment_column (due_with o due)) e in
-      ap (λ z. int_le z (pos (due_at (rules_with days) d))) (same_some row.due (moment_column due) column) ∙ early d e
-
-  is : (these : Schedule) → days_of moved ≡ Some these → (row : table.Domain) → Has new.domains row → row.name ≡ name → is_due_right these new row ≡ true
-  is these e row here named =
-      ap (λ ds. is_due_right ds new row) (days-are (days_of moved) these days there.checked.days_are e)
-      ∙ ap (λ o. option_map_or (λ d. int_le row.due (pos (due_at (rules_with days) d))) o true) (reads-after row here named)
-      ∙ early-enough row here named after refl
+  pub due-after : (row : table.Domain) → Has new.domains row → row.name ≡ name → Some row.due ≡ option_map moment_column (due_with after due)
+  due-after = put-it.due_is
 
   -- the hosts that take a sponsor leave the other sums, and all that a book sees
   rest-moved : (field : Content → Bool) → ((xs : Content) (hosts : List host_table.Host) → field (record xs { hosts = hosts }) ≡ field xs) → field moved ≡ field old
@@ -115,14 +93,6 @@ module _ (name : List ℕ) (days : Schedule) (after : Option Domain) (due : ℕ)
 
   held-moved : helds_are_right moved ≡ helds_are_right old
   held-moved = accounts-kept old moved domains-moved (ap (λ (xs : Content). xs.accounts) it.followed.rest)
-
-  dues-moved : dues_are_right moved ≡ dues_are_right old
-  dues-moved =
-      dues-where old moved (ap (λ (xs : Content). xs.metas) it.followed.rest) (ap (λ (xs : Content). xs.days) it.followed.rest) (ap (λ (xs : Content). xs.domains) it.followed.rest)
-      (sponsors-leave-reading name (sponsor_in after) old moved it.followed)
-
-  sums-moved : (sums_are_right moved && (helds_are_right moved && dues_are_right moved)) ≡ (sums_are_right old && (helds_are_right old && dues_are_right old))
-  sums-moved = λ i. rest-moved sums_are_right (λ xs hosts. refl) i && (held-moved i && dues-moved i)
 
   stored-moved : stored_of moved ≡ stored_of old
   stored-moved = λ i. record {
@@ -136,28 +106,31 @@ module _ (name : List ℕ) (days : Schedule) (after : Option Domain) (due : ℕ)
     terms = terms_of (it.followed.rest i);
   }
 
-  others-right : (sums_are_right new && (helds_are_right new && dues_are_right new)) ≡ (sums_are_right old && (helds_are_right old && dues_are_right old))
-  others-right = domain-right name there.before after (due_with after due) moved there.exchanged.mid new there.consistent there.exchanged.counted there.checked.domain_is put-it was is ∙ sums-moved
-
   sponsors-right : sponsors_are_right new ≡ sponsors_are_right old
   sponsors-right = domain-sponsors name after (due_with after due) old moved there.exchanged.mid new it.followed there.exchanged.counted.rest put-it
 
-  pub replaced-right : are_right new ≡ are_right old
-  replaced-right = λ i. may_be_numbered (metas-same i) && (split new ∙ (λ k. others-right k && sponsors-right k) ∙ sym (split old)) i
-    where
-      metas-same : new.metas ≡ old.metas
-      metas-same = put-it.metas ∙ ap (λ (xs : Content). xs.metas) there.exchanged.counted.rest ∙ ap (λ (xs : Content). xs.metas) it.followed.rest
+  metas-same : new.metas ≡ old.metas
+  metas-same = put-it.metas ∙ ap (λ (xs : Content). xs.metas) there.exchanged.counted.rest ∙ ap (λ (xs : Content). xs.metas) it.followed.rest
 
-      three : (a b c d : Bool) → (a && (b && (c && d))) ≡ ((a && (b && c)) && d)
-      three true true c d = refl
-      three true false c d = refl
-      three false b c d = refl
+  sums-same : sums_are_right new ≡ sums_are_right old
+  sums-same = sums-put name there.before after (due_with after due) moved there.exchanged.mid new there.consistent there.exchanged.counted there.checked.domain_is put-it ∙ rest-moved sums_are_right (λ xs hosts. refl)
 
-      split : (xs : Content) → (sums_are_right xs && (helds_are_right xs && (dues_are_right xs && sponsors_are_right xs))) ≡ ((sums_are_right xs && (helds_are_right xs && dues_are_right xs)) && sponsors_are_right xs)
-      split xs = three (sums_are_right xs) (helds_are_right xs) (dues_are_right xs) (sponsors_are_right xs)
+  held-same : helds_are_right new ≡ helds_are_right old
+  held-same = held-put name there.before after (due_with after due) moved there.exchanged.mid new there.consistent there.exchanged.counted there.checked.domain_is put-it ∙ held-moved
+
+  -- where the row that is there now is right
+  module _ (by : IsOfReading right) (is : (row : table.Domain) → Has new.domains row → row.name ≡ name → right new row ≡ true) where
+    rights-same : list_all (right new) new.domains ≡ list_all (right old) old.domains
+    rights-same =
+        rights-put name there.before after (due_with after due) moved there.exchanged.mid new there.consistent there.exchanged.counted there.checked.domain_is put-it right by there.checked.right_is is
+        ∙ rights-where right by old moved (ap (λ (xs : Content). xs.metas) it.followed.rest) (ap (λ (xs : Content). xs.days) it.followed.rest) (ap (λ (xs : Content). xs.domains) it.followed.rest)
+        (λ row here. sponsors-leave-reading name (sponsor_in after) old moved it.followed row here)
+
+    pub replaced-right : are_right_by right new ≡ are_right_by right old
+    replaced-right = λ i. may_be_numbered (metas-same i) && (sums-same i && (held-same i && (rights-same i && sponsors-right i)))
 
   pub replaced : stored_of new ≡ domain_put name after (stored_of old)
-  replaced = domain-changed name there.before after (due_with after due) moved there.exchanged.mid new there.consistent there.exchanged.counted there.checked.domain_is put-it was is ∙ ap (domain_put name after) stored-moved
+  replaced = domain-changed name there.before after (due_with after due) moved there.exchanged.mid new there.consistent there.exchanged.counted there.checked.domain_is put-it ∙ ap (domain_put name after) stored-moved
 
   pub replaced-days : days_of new ≡ days_of old
   replaced-days = λ i. days_of (record new {
@@ -167,3 +140,61 @@ module _ (name : List ℕ) (days : Schedule) (after : Option Domain) (due : ℕ)
 
   pub replaced-lines : new.lines ≡ old.lines
   replaced-lines = put-it.lines ∙ ap (λ (xs : Content). xs.lines) there.exchanged.counted.rest ∙ ap (λ (xs : Content). xs.lines) it.followed.rest
+
+-- ---- a domain that is due when its row says
+
+pub under-right : (days : Schedule) (xs : Content) (row : table.Domain) → IsUnder days xs → is_due_right days xs row ≡ true → has_right_due xs row ≡ true
+under-right days xs row under is = go (days_of xs) under
+  where
+    go : (o : Option Schedule) → IfSome o (λ d. d ≡ days) → option_map_or (λ ds. is_due_right ds xs row) o true ≡ true
+    go None e = refl
+    go (Some these) e = ap (λ ds. is_due_right ds xs row) e ∙ is
+
+itself : (a : ℤ) → int_eq a a ≡ true
+itself a = grind (arith, ints)
+
+equal-columns : (a : ℤ) (n : ℕ) → a ≡ pos n → int_eq a (pos n) ≡ true
+equal-columns a n e = ap (λ z. int_eq z (pos n)) e ∙ itself (pos n)
+
+-- the domain, if one is put, is due then
+abbrev pub IsDueThen : Schedule → ℕ → Option Domain → Type 0
+IsDueThen days due after = (d : Domain) → after ≡ Some d → due ≡ capped (due_at (rules_with days) d)
+
+module _ (name : List ℕ) (days : Schedule) (after : Option Domain) (due : ℕ) (old new : Content) (under : IsUnder days old) (it : IsReplaced name has_right_due after due old new) (is_due : IsDueThen days due after) where
+  row-is : (row : table.Domain) → Has new.domains row → row.name ≡ name → is_due_right days new row ≡ true
+  row-is row here named = go after refl
+    where
+      go : (o : Option Domain) → after ≡ o → is_due_right days new row ≡ true
+      go None e =
+          let column : Some row.due ≡ None = due-after name has_right_due after due old new it row here named ∙ ap (λ o. option_map moment_column (due_with o due)) e in
+          cc
+      go (Some d) e =
+          let column : Some row.due ≡ Some (moment_column due) = due-after name has_right_due after due old new it row here named ∙ ap (λ o. option_map moment_column (due_with o due)) e in
+          ap (λ o. option_map_or (λ x. int_eq row.due (pos (capped (due_at (rules_with days) x)))) o false) (reads-after name has_right_due after due old new it row here named ∙ e)
+          ∙ equal-columns row.due (capped (due_at (rules_with days) d)) (same_some row.due (moment_column due) column ∙ ap moment_column (is_due d e))
+
+  pub put-right : are_right new ≡ are_right old
+  put-right =
+      replaced-right name has_right_due after due old new it due-of-reading
+      (λ row here named. under-right days new row (subst (λ o. IfSome o (λ d. d ≡ days)) (sym (replaced-days name has_right_due after due old new it)) under) (row-is row here named))
+
+-- a domain that was found under lengths that are those that were put down
+pub found-under : (name : List ℕ) (days : Schedule) (a b c : StateOf Content) → Reads a b × (b.is_clean ≡ true → IsUnder days a.content) → (r : Result (Option Domain) BookFault)
+    → FindsSome r (λ domain. (get (domains_of b.content) name ≡ domain) × ((row : table.Domain) → Has b.content.domains row → row.name ≡ name → is_due_right days b.content row ≡ true)) b c
+    → FindsSome r (λ domain. IsUnder days a.content × IsCheckedDomain name has_right_due a.content domain) a c
+found-under name days a b c asked (Err fault) met = stays-on a b c asked.0 met
+found-under name days a b c asked (Ok domain) met = (
+  reads-on a b c asked.0 met.0,
+  λ e.
+      let w = met.0.clean e in
+      let same : b.content ≡ a.content = asked.0.content w in
+      let under = asked.1 w in
+      let it = met.1 e in (
+        under,
+        record {
+          domain_is = sym (ap (λ (xs : Content). get (domains_of xs) name) same) ∙ it.0;
+          right_is = λ row here named.
+              under-right days a.content row under (sym (ap (λ (xs : Content). is_due_right days xs row) same) ∙ it.1 row (subst (λ (xs : Content). Has xs.domains row) (sym same) here) named);
+        },
+      ),
+)

@@ -9,6 +9,8 @@ use Rattle.books.specs.Book.{with_terms}
 use Rattle.books.specs.Tables.{clock_set}
 use Rattle.sqltables.specs.Account as table
 use Rattle.sqltables.specs.Content.{Content}
+use Rattle.sqltables.specs.Domain as domain_table
+use Rattle.sqltables.specs.Readiness.{may_be_numbered}
 use Rattle.sqlaccounts.specs.Accounts.{accounts_of, sums_are_right}
 use Rattle.sqldomains.specs.Domains.{domains_of}
 use Rattle.sqlderived.specs.Held.{helds_are_right}
@@ -17,18 +19,17 @@ use Rattle.sqlobjects.specs.Objects.{contacts_of, hosts_of}
 use Rattle.sqlobjects.specs.Sponsors.{sponsors_are_right}
 use Rattle.sqlterms.specs.inner.Changes.{IsClockSet, IsTermsSet, nameless}
 use Rattle.sqlterms.specs.Terms.{days_of}
-use Rattle.sqlderived.specs.Dues.{dues_are_right, is_due_right}
+use Rattle.sqlderived.specs.Dues.{dues_are_right, has_right_due, is_due_right}
 use Rattle.sqlbook.specs.Meaning.{are_right, stored_of}
-use Rattle.sqlderived.proofs.RedateLemmas.{dues-by-both}
-use Rattle.sqlderived.specs.Redates.{ends_are, ends_are_right}
-use Rattle.sqlobjects.proofs.StepLemmas.{asked-then, asked-turns}
+use Rattle.sqlderived.proofs.RedateLemmas.{dues-live}
+use Rattle.sqlderived.specs.Redates.{ends_are, is_live_right, lives_are_right}
+use Rattle.sqlobjects.proofs.StepLemmas.{asked-turns}
 use Rattle.sqlrows.specs.Meanings.{HasChanged, Changes}
-use Rattle.sqlrows.proofs.StateLemmas.{reads-on}
 use Rattle.states.specs.declared.fault.BookFault.{BookFault}
 use Rattle.states.specs.States.{Reads, StateOf}
 use Rattle.states.proofs.LeavingLemmas.{leaves-on}
 use Rattle.sqlbook.specs.Suiting.{AreRedated}
-use Rattle.sqlbook.specs.inner.Suiting.{IsSetDown, IsSetOver, MeansSame, SuitDomains}
+use Rattle.sqlbook.specs.inner.Suiting.{IsSetDown, IsSetOver, MeansSame, SuitDomains, are_right_by}
 use Rattle.sqlbook.proofs.AccountLemmas.{key}
 
 -- ---- another clock
@@ -38,7 +39,7 @@ module _ (m : ℕ) (old new : Content) (it : IsClockSet m old new) where
   clock-right = λ i.
       it.numbered i
       && (sums_are_right (it.others i)
-      && (helds_are_right (it.others i) && (option_map_or (λ days. list_all (is_due_right days (it.others i)) (it.others i).domains) (it.days i) true && sponsors_are_right (it.others i))))
+      && (helds_are_right (it.others i) && (list_all (λ row. option_map_or (λ days. is_due_right days (it.others i) row) (it.days i) true) (it.others i).domains && sponsors_are_right (it.others i))))
 
   pub clock-changed : stored_of new ≡ clock_set m (stored_of old)
   clock-changed = λ i. record {
@@ -69,31 +70,26 @@ nameless-held (row ∷ rows) id = go (int_eq row.id id) (nameless-held rows id)
 same-column : (xs ys : List table.Account) → map nameless ys ≡ map nameless xs → (id : ℤ) → held_in (get_by key ys id) ≡ held_in (get_by key xs id)
 same-column xs ys same id = sym (nameless-held ys id) ∙ ap (λ rows. held_in (get_by key rows id)) same ∙ nameless-held xs id
 
-module _ (value : Terms) (old new : Content) (it : IsTermsSet value old new) (suits : SuitDomains value.days old) where
+module _ (value : Terms) (old new : Content) (it : IsTermsSet value old new) where
   same-domains : domains_of new ≡ domains_of old
   same-domains = λ i. domains_of (it.others i)
 
-  abbrev right-under : Option Schedule → Bool
-  right-under o = option_map_or (λ days. list_all (is_due_right days old) old.domains) o true
+  -- all sums are as right where the rows of domains are
+  terms-right : (right : Content → domain_table.Domain → Bool) → list_all (right new) new.domains ≡ list_all (right old) old.domains → are_right_by right new ≡ are_right_by right old
+  terms-right right same = λ i. it.numbered i && (it.sums i && (columns-kept old new same-domains (same-column old.accounts new.accounts it.rows) i && (same i && sponsors_are_right (it.others i))))
 
-  nothing : (o : Option Schedule) → option_map_or (λ days. list_all (is_due_right days old) []) o true ≡ true
-  nothing None = refl
-  nothing (Some days) = refl
+  nothing : (test : domain_table.Domain → Bool) (rows : List domain_table.Domain) → rows ≡ [] → list_all test rows ≡ true
+  nothing test rows none = ap (list_all test) none
 
-  as-right : SuitDomains value.days old → list_all (is_due_right value.days old) old.domains ≡ dues_are_right old
-  as-right (inl same) = ap right-under (sym same)
-  as-right (inr (inl none)) =
-      ap (list_all (is_due_right value.days old)) none
-      ∙ sym (ap (λ rows. option_map_or (λ days. list_all (is_due_right days old) rows) (days_of old) true) none ∙ nothing (days_of old))
-  as-right (inr (inr others)) = dues-by-both others.before value.days old others.right_before others.right_after ∙ ap right-under (sym others.were)
+  same-dues : SuitDomains value.days old → dues_are_right new ≡ dues_are_right old
+  same-dues (inl same) = λ i. list_all (λ row. option_map_or (λ days. is_due_right days (it.others i) row) ((it.days ∙ sym same) i) true) (it.others i).domains
+  same-dues (inr none) =
+      nothing (has_right_due new) new.domains (ap (λ (xs : Content). xs.domains) it.others ∙ none)
+      ∙ sym (nothing (has_right_due old) old.domains none)
 
-  dues-set : dues_are_right new ≡ dues_are_right old
-  dues-set =
-      (λ i. option_map_or (λ days. list_all (is_due_right days (it.others i)) (it.others i).domains) (it.days i) true)
-      ∙ as-right suits
-
-  pub terms-right : are_right new ≡ are_right old
-  terms-right = λ i. it.numbered i && (it.sums i && (columns-kept old new same-domains (same-column old.accounts new.accounts it.rows) i && (dues-set i && sponsors_are_right (it.others i))))
+  -- no length bears on the rows of domains that aren't deleted
+  pub lives-same : are_right_by is_live_right new ≡ are_right_by is_live_right old
+  lives-same = terms-right is_live_right (λ i. lives_are_right (it.others i))
 
   pub terms-changed : stored_of new ≡ with_terms value (stored_of old)
   terms-changed = λ i. record {
@@ -107,48 +103,46 @@ module _ (value : Terms) (old new : Content) (it : IsTermsSet value old new) (su
     terms = it.terms i;
   }
 
-  pub set-down : IsSetDown value old new
-  set-down = record { stored = terms-changed; sums = terms-right; days = it.days; lines = ap (λ (xs : Content). xs.lines) it.others }
+  pub same-lines : new.lines ≡ old.lines
+  same-lines = ap (λ (xs : Content). xs.lines) it.others
+
+  pub set-down : SuitDomains value.days old → IsSetDown value old new
+  set-down suits = record { stored = terms-changed; sums = terms-right has_right_due (same-dues suits); days = it.days; lines = same-lines }
 
 -- ---- other days, where domains are there
 
--- rows that mean the same are put down under, and then mean the same again
-set-between : (value : Terms) (a b c d : Content) → MeansSame a b → IsSetDown value b c → MeansSame c d → IsSetDown value a d
-set-between value a b c d before it after = record {
-  stored = after.stored ∙ it.stored ∙ ap (with_terms value) before.stored;
-  sums = after.sums ∙ it.sums ∙ before.sums;
-  days = after.days ∙ it.days;
-  lines = after.lines ∙ it.lines ∙ before.lines;
+-- where deleted domains' columns are the ends of their deletions all sums are right if those are that hang on no length
+ends-right : (days : Schedule) (xs : Content) → ends_are days xs ≡ true → days_of xs ≡ Some days → are_right xs ≡ are_right_by is_live_right xs
+ends-right days xs are put_down = λ i. may_be_numbered xs.metas && (sums_are_right xs && (helds_are_right xs && (dues-live days xs are put_down i && sponsors_are_right xs)))
+
+-- rows that mean the same are put down under
+set-between : (before : Schedule) (value : Terms) (a b c : Content) → ends_are before a ≡ true → days_of a ≡ Some before → MeansSame a b → IsTermsSet value b c → ends_are value.days c ≡ true → IsSetDown value a c
+set-between before value a b c were put_down same it are = record {
+  stored = terms-changed value b c it ∙ ap (with_terms value) same.stored;
+  sums = ends-right value.days c are it.days ∙ lives-same value b c it ∙ same.sums ∙ sym (ends-right before a were put_down);
+  days = it.days;
+  lines = same-lines value b c it ∙ same.lines;
 }
 
--- each deleted domain is put again before and after, and then looked at
-pub others-set : (before : Schedule) (value : Terms) (a b c d e : StateOf Content) → HasChanged MeansSame a b → HasChanged (λ x y. days_of x ≡ Some before → IsSetDown value x y) b c → HasChanged MeansSame c d
-    → Reads d e → (e.is_clean ≡ true → ends_are value.days d.content ≡ true) → HasChanged (λ x y. days_of x ≡ Some before → IsSetOver (Some before) value x y) a e
-others-set before value a b c d e one two three reads are = record {
-  clean = λ t. one.clean (two.clean (three.clean (reads.clean t)));
-  before = λ t. let w = reads.clean t in reads.before t ∙ three.before w ∙ two.before (three.clean w) ∙ one.before (two.clean (three.clean w));
-  opened = reads.opened ∙ three.opened;
+-- deleted domains are looked at, put again, and after the terms were put down looked at again
+pub others-set : (before : Schedule) (value : Terms) (a b c d e : StateOf Content) → Reads a b × (b.is_clean ≡ true → ends_are before a.content ≡ true) → HasChanged MeansSame b c → HasChanged (IsTermsSet value) c d
+    → Reads d e × (e.is_clean ≡ true → ends_are value.days d.content ≡ true) → HasChanged (λ x y. days_of x ≡ Some before → IsSetOver (Some before) value x y) a e
+others-set before value a b c d e first redated set last = record {
+  clean = λ t. first.0.clean (redated.clean (set.clean (last.0.clean t)));
+  before = λ t. let w = last.0.clean t in let w2 = set.clean w in last.0.before t ∙ set.before w ∙ redated.before w2 ∙ first.0.before (redated.clean w2);
+  opened = last.0.opened ∙ set.opened;
   content = λ t were.
-      let w3 = reads.clean t in
-      let w2 = three.clean w3 in
-      let first = one.content (two.clean w2) in
+      let w3 = last.0.clean t in
+      let w2 = set.clean w3 in
+      let w1 = redated.clean w2 in
+      let same : MeansSame a.content c.content = subst (λ (xs : Content). MeansSame xs c.content) (first.0.content w1) (redated.content w2) in
       record {
-        set = subst (IsSetDown value a.content) (sym (reads.content t)) (set-between value a.content b.content c.content d.content first (two.content w2 (first.days ∙ were)) (three.content w3));
-        ends = inr (ap (ends_are value.days) (reads.content t) ∙ are t);
+        set = subst (IsSetDown value a.content) (sym (last.0.content t)) (set-between before value a.content c.content d.content (first.1 w1) were same (set.content w3) (last.1 t));
+        ends = inr (ap (ends_are value.days) (last.0.content t) ∙ last.1 t);
       };
-  answers = λ was. reads.answers (three.answers (two.answers (one.answers was)));
-  leaves = leaves-on a d e (leaves-on a c d (leaves-on a b c one.leaves two.leaves) three.leaves) reads.leaves;
+  answers = λ was. last.0.answers (set.answers (redated.answers (first.0.answers was)));
+  leaves = leaves-on a d e (leaves-on a c d (leaves-on a b c first.0.leaves redated.leaves) set.leaves) last.0.leaves;
 }
-
--- the columns of deleted domains are looked at twice, and then terms are put down
-pub suited-set : (before : Schedule) (value : Terms) (a b c d : StateOf Content) → Reads a b × (b.is_clean ≡ true → ends_are_right before a.content ≡ true)
-    → Reads b c × (c.is_clean ≡ true → ends_are_right value.days b.content ≡ true) → HasChanged (IsTermsSet value) c d → HasChanged (λ x y. days_of x ≡ Some before → IsSetDown value x y) a d
-suited-set before value a b c d first second made =
-    asked-then (IsTermsSet value) (λ x y. days_of x ≡ Some before → IsSetDown value x y) a c d (reads-on a b c first.0 second.0) made
-    (λ t it were.
-    let w2 = made.clean t in
-    let w1 = second.0.clean w2 in
-    set-down value a.content d.content it (inr (inr (record { before = before; were = were; right_before = first.1 w1; right_after = ap (ends_are_right value.days) (sym (first.0.content w1)) ∙ second.1 w2 }))))
 
 -- ---- one way of a change is another
 

@@ -13,7 +13,7 @@ ghost use Rattle.sqlterms.specs.Terms.{days_of};
 use crate::redating::redate;
 use calendar::Moment;
 use policy::{Schedule, Terms};
-use sqlderived::{ends_are, ends_come};
+use sqlderived::ends_are;
 use sqlite::Alter;
 use sqltables::RowStore;
 use states::BookFault;
@@ -126,8 +126,8 @@ fn set_same<S: Alter>(
     Ok(())
 }
 
-/// Puts terms down under other days. Before, no column of a deleted domain may be later than its end by
-/// either days; afterwards each is its end by the new ones.
+/// Puts terms down under other days. Before, each column of a deleted domain has to be its end by the days that
+/// were put down; afterwards it is the end by the others.
 fn set_others<S: Alter>(
     store: &mut RowStore<S>,
     alloc: Global,
@@ -138,26 +138,9 @@ fn set_others<S: Alter>(
     ensures { Changes result (λ old new. days_of old ≡ Some before.now
         → IsSetOver (Some before.now) terms.now old new) store.old store.new }
 {
-    redate(store, alloc, before, &terms.days)?;
-    set_suited(store, alloc, before, terms)?;
-    redate(store, alloc, &terms.days, &terms.days)?;
-    ends_are(store, &terms.days)?;
-    Ok(())
-}
-
-/// Puts terms down under other days, where the columns of deleted domains suit both.
-fn set_suited<S: Alter>(
-    store: &mut RowStore<S>,
-    alloc: Global,
-    before: &Schedule,
-    terms: &Terms,
-) -> Result<(), BookFault>
-    requires { store.old.is_open ≡ true }
-    ensures { Changes result (λ old new. days_of old ≡ Some before.now
-        → IsSetDown terms.now old new) store.old store.new }
-{
-    ends_come(store, before)?;
-    ends_come(store, &terms.days)?;
+    ends_are(store, before)?;
+    redate(store, alloc, &terms.days)?;
     sqlterms::set_terms(store, alloc, terms)?;
+    ends_are(store, &terms.days)?;
     Ok(())
 }

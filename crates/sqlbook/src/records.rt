@@ -210,8 +210,13 @@ impl<S: Alter, O: Provenance<S>> Records for SqlRecords<S, O> {
         rollback_on_fault::<S, O, _>(&mut self.store, said)
     }
 
-    fn due(&mut self, moment: Moment, policy: &Policy) -> Result<Seq<Due>, BookFault> {
-        let said = sqlderived::due(&mut self.store, self.alloc, moment, policy);
+    fn due(
+        &mut self,
+        moment: Moment,
+        most: Option<u32>,
+        policy: &Policy,
+    ) -> Result<Seq<Due>, BookFault> {
+        let said = questions::due(&mut self.store, self.alloc, moment, most, policy);
         rollback_on_fault::<S, O, _>(&mut self.store, said)
     }
 

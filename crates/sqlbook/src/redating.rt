@@ -1,38 +1,34 @@
 //! When deleted domains are due, computed anew: rows that mean the same.
-ghost use Rattle.std.specs.Prelude.{◌≡◌, true, int_le, pos, IfSome, Some};
-ghost use Rattle.sqlcolumns.specs.Numbers as numbers;
-ghost use Rattle.lifecycle.specs.Lapse as lapse;
-ghost use Rattle.lifecycle.specs.Periods.{rules_with};
+ghost use Rattle.std.specs.Prelude.{◌≡◌, true};
 ghost use Rattle.sqlrows.specs.Meanings.{Changes};
 ghost use Rattle.states.specs.States.{FindsSome};
+ghost use Rattle.sqlderived.specs.Redates.{is_live_right};
 ghost use Rattle.sqlbook.specs.inner.Replacing.{IsCheckedDomain, IsExchangedThere, IsReplaced};
-ghost use Rattle.sqlbook.specs.inner.Suiting.{MeansSame, earlier_end};
+ghost use Rattle.sqlbook.specs.inner.Suiting.{IsDeleted, MeansSame, end_of};
 
 use crate::changed_domains::{exchange, sponsor_of};
 use basis::text::Text;
 use calendar::Moment;
 use objects::Domain;
 use policy::Schedule;
-use sqlderived::{deleted, deleted_names, end_of_deletion, same_days};
+use sqlderived::{deleted_names, end_of_deletion};
 use sqlite::Alter;
 use sqlobjects::set_sponsor_below;
 use sqltables::RowStore;
 use states::BookFault;
 use std::alloc::Global;
 
-/// Gives the row of each deleted domain the moment when it is purged, by the lengths that were put down or
-/// by these others, whichever is earlier.
+/// Gives the row of each deleted domain the moment when it is purged by these lengths.
 pub(crate) fn redate<S: Alter>(
     store: &mut RowStore<S>,
     alloc: Global,
     days: &Schedule,
-    others: &Schedule,
 ) -> Result<(), BookFault>
     requires { store.old.is_open ≡ true }
     ensures { Changes result MeansSame store.old store.new }
 {
     let names = deleted_names(store, alloc)?;
-    let redated = redate_all(store, alloc, names.as_slice(), days, others);
+    let redated = redate_all(store, alloc, names.as_slice(), days);
     drop(names);
     redated?;
     Ok(())
@@ -43,13 +39,12 @@ fn redate_all<S: Alter>(
     alloc: Global,
     names: &[Text],
     days: &Schedule,
-    others: &Schedule,
 ) -> Result<(), BookFault>
     requires { store.old.is_open ≡ true }
     ensures { Changes result MeansSame store.old store.new }
 {
     for name in names {
-        redate_one(store, alloc, name, days, others)?;
+        redate_one(store, alloc, name, days)?;
     }
     Ok(())
 }
@@ -60,7 +55,6 @@ fn redate_one<S: Alter>(
     alloc: Global,
     name: &Text,
     days: &Schedule,
-    others: &Schedule,
 ) -> Result<(), BookFault>
     requires { store.old.is_open ≡ true }
     ensures { Changes result MeansSame store.old store.new }
@@ -68,26 +62,24 @@ fn redate_one<S: Alter>(
     let Some(domain) = sqldomains::domain(store, alloc, name)? else {
         return Err(BookFault::Store);
     };
-    let Some(due) = earlier_end(&domain, days, others) else {
+    let Some(due) = end_of(&domain, days) else {
         return Err(BookFault::Store);
     };
     let same = Some(domain);
-    let replaced = replace(store, alloc, name, &same, due, days);
+    let replaced = replace(store, alloc, name, &same, due);
     drop(same);
     replaced?;
     Ok(())
 }
 
-/// The earlier of the two ends of a domain's deletion, if it is deleted.
-fn earlier_end(domain: &Domain, days: &Schedule, others: &Schedule) -> Option<Moment>
-    ensures exactly { result ≡ earlier_end days.now others.now domain.now }
-    ensures bound { IfSome result (λ due. int_le (numbers.moment_column due)
-        (pos (lapse.due_at (rules_with days.now) domain.now)) ≡ true) }
+/// When a domain is purged, if it is deleted.
+fn end_of(domain: &Domain, days: &Schedule) -> Option<Moment>
+    ensures { result ≡ end_of days.now domain.now }
 {
     let Some(deletion) = &domain.deletion else {
         return None;
     };
-    Some(end_of_deletion(deletion, days).min(end_of_deletion(deletion, others)))
+    Some(end_of_deletion(deletion, days))
 }
 
 /// A deleted domain takes the place of itself, and the hosts below have its sponsor.
@@ -97,13 +89,12 @@ fn replace<S: Alter>(
     name: &Text,
     after: &Option<Domain>,
     due: Moment,
-    days: &Schedule,
 ) -> Result<(), BookFault>
     requires { store.old.is_open ≡ true }
-    ensures { Changes result (IsReplaced name.now days.now after.now due) store.old store.new }
+    ensures { Changes result (IsReplaced name.now is_live_right after.now due) store.old store.new }
 {
     set_sponsor_below(store, name, sponsor_of(after))?;
-    exchange_there(store, alloc, name, after, due, days)?;
+    exchange_there(store, alloc, name, after, due)?;
     Ok(())
 }
 
@@ -113,28 +104,41 @@ fn exchange_there<S: Alter>(
     name: &Text,
     after: &Option<Domain>,
     due: Moment,
-    days: &Schedule,
 ) -> Result<(), BookFault>
     requires { store.old.is_open ≡ true }
-    ensures { Changes result (IsExchangedThere name.now days.now after.now due) store.old store.new }
+    ensures { Changes result (IsExchangedThere name.now is_live_right after.now due) store.old
+        store.new }
 {
     store.show_consistent();
-    let before = found(store, alloc, name, days)?;
+    let before = found(store, alloc, name)?;
     let exchanged = exchange(store, alloc, name, &before, after, due);
     drop(before);
     exchanged?;
     Ok(())
 }
 
-/// The deleted domain under a name, whose row was right, under the days that were put down.
+/// The deleted domain under a name.
 fn found<S: Alter>(
     store: &mut RowStore<S>,
     alloc: Global,
     name: &Text,
-    days: &Schedule,
 ) -> Result<Option<Domain>, BookFault>
-    ensures { FindsSome result (IsCheckedDomain name.now days.now store.old.content) store.old store.new }
+    ensures { FindsSome result (IsCheckedDomain name.now is_live_right store.old.content) store.old
+        store.new }
 {
-    same_days(store, alloc, days)?;
-    deleted(store, alloc, name, days)
+    store.show_consistent();
+    let found = sqldomains::domain(store, alloc, name)?;
+    if !is_deleted(&found) {
+        return Err(BookFault::Store);
+    }
+    Ok(found)
+}
+
+fn is_deleted(domain: &Option<Domain>) -> bool
+    ensures { result ≡ true → IsDeleted domain.now }
+{
+    match domain {
+        None => false,
+        Some(domain) => domain.deletion.is_some(),
+    }
 }

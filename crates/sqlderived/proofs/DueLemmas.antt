@@ -1,11 +1,13 @@
 -- The rows found by their columns are those of all that is due.
-use Rattle.std.proofs.Common.{◌≡◌, ◌⊎◌, inl, inr, ℕ, ℤ, pos, Bool, true, false, cond, ◌&&◌, int_le, nat_lt, List, [], ◌∷◌, filter, Option, Some, None, option_and_then, refl, sym, ap, subst, ◌∙◌, arith}
+use Rattle.std.proofs.Common.{◌≡◌, ◌⊎◌, inl, inr, ℕ, ℤ, pos, ◌<◌, Bool, true, false, cond, ◌&&◌, int_eq, int_le, nat_lt, List, [], ◌∷◌, filter, Option, Some, None, option_and_then, option_map, refl, sym, ap, subst, ◌∙◌, true≢false, arith}
 use Rattle.std.proofs.lemmas.Bool.Decides.{nat_tests}
+use Rattle.std.proofs.lemmas.Int.{ints}
 use Rattle.std.specs.FinMap.{entries, get}
 use Rattle.std.specs.List.{list_all}
 use Rattle.std.specs.Option.{option_map_or}
 use Rattle.std.specs.Ordering.{is_gt}
 use Rattle.std.specs.declared.cmp.Ordering.{Ordering}
+use Rattle.calendar.specs.Moment.{capped}
 use Rattle.sqlite_keyed.specs.Lists.{insert_sorted, sort_by}
 use Rattle.sqlite_rules.specs.Lists.{Has}
 use Rattle.lifecycle.specs.Lapse.{completes_at, due_at, due_of}
@@ -23,6 +25,7 @@ use Rattle.sqlcolumns.specs.Transfers.{is_same, maybe_due_column}
 use Rattle.sqlcolumns.proofs.ReadLemmas.{kept, step}
 use Rattle.sqlcolumns.proofs.TransferLemmas.{same_is_equal}
 use Rattle.policy.specs.Rules.{PolicyRules}
+use Rattle.policy.specs.declared.schedule.Schedule.{Schedule}
 use Rattle.sqlrows.specs.inner.Layouts.{by_then_key}
 use Rattle.lifecycle.specs.declared.due_object.Due.{Due}
 use Rattle.lifecycle.specs.DueObjects.{contact_due, domain_due, due_then, found_due}
@@ -37,6 +40,7 @@ use Rattle.sqlrows.specs.Read.{first_read, or_else}
 use Rattle.sqlobjects.specs.Objects.{contact_of, contacts_of, last_transfer}
 use Rattle.sqlobjects.proofs.NameLemmas.{contact-named}
 use Rattle.sqlobjects.proofs.PutLemmas.{bytes_is, filter-has, has-filter, only_named}
+use Rattle.sqlobjects.proofs.VerdictLemmas.{all-pass, each-passes}
 use Rattle.sqldomains.specs.Domains.{domain_of, domains_of}
 use Rattle.sqldomains.proofs.LinkedLemmas.{first-has}
 use Rattle.sqldomains.proofs.NameOrderLemmas.{name-read, row-under, stands-there}
@@ -170,28 +174,51 @@ same-due p d = go d.deletion
     go None = refl
     go (Some x) = refl
 
-all-has : {X : Type 0} (test : X → Bool) (xs : List X) (x : X) → list_all test xs ≡ true → Has xs x → test x ≡ true
-all-has test [] x all there = absurd there
-all-has test (y ∷ ys) x all there = go (test y) (list_all test ys) refl refl all there (all-has test ys x)
-  where
-    go : (a b : Bool) → test y ≡ a → list_all test ys ≡ b → (a && b) ≡ true → Has (y ∷ ys) x → (list_all test ys ≡ true → Has ys x → test x ≡ true) → test x ≡ true
-    go true true is rest e (inl same) more = ap test same ∙ is
-    go true true is rest e (inr later) more = more rest later
-    go true false is rest e here more = cc
-    go false b is rest e here more = cc
-
 no-later : (a b c : ℤ) → int_le a b ≡ true → int_le b c ≡ true → int_le a c ≡ true
 no-later a b c e f = grind (arith, e, f)
 
+-- ---- a right column
+
+-- under the days that were put down
+pub all-under : (days : Schedule) (xs : Content) → days_of xs ≡ Some days → dues_are_right xs ≡ true → list_all (is_due_right days xs) xs.domains ≡ true
+all-under days xs are right = sym (λ i. list_all (λ row. option_map_or (λ ds. is_due_right ds xs row) (are i) true) xs.domains) ∙ right
+
+-- those of some of the rows
+pub some-right : {X : Type 0} (test : X → Bool) (xs rows : List X) → ((row : X) → Has rows row → Has xs row) → list_all test xs ≡ true → list_all test rows ≡ true
+some-right test xs rows among all = all-pass test rows (λ row there. each-passes test xs all row (among row there))
+
+column-comes : (a : ℤ) (m : ℕ) → int_eq a (pos (capped m)) ≡ true → int_le a (pos m) ≡ true
+column-comes a m e = grind (arith, ints, e)
+
+column-is : (n m : ℕ) → n < 7_258_118_399 → int_eq (pos n) (pos (capped m)) ≡ true → m ≡ n
+column-is n m before e = grind (arith, ints, e)
+
+-- where it isn't the last moment it is when the domain is due
+pub due-by-column : (p : PolicyRules) (t : ℕ) (xs : Content) (row : domain_table.Domain) (n : ℕ) → row.due ≡ pos n → n < 7_258_118_399 → is_due_right p.days xs row ≡ true
+    → spec.domain_in p t xs row ≡ Some (due_then kinds.Domain row.name (passed t n))
+due-by-column p t xs row n column before right = go (domain_of xs row) refl
+  where
+    go : (o : Option Domain) → domain_of xs row ≡ o → option_map (λ (d : Domain). domain_due p t (d.name, d)) o ≡ Some (due_then kinds.Domain row.name (passed t n))
+    go None reads = absurd (true≢false (sym right ∙ ap (λ o. option_map_or (λ x. int_eq row.due (pos (capped (due_at (rules_with p.days) x)))) o false) reads))
+    go (Some d) reads =
+        let is : int_eq (pos n) (pos (capped (due_at (rules_with p.days) d))) ≡ true =
+        ap (λ z. int_eq z (pos (capped (due_at (rules_with p.days) d)))) (sym column) ∙ sym (ap (λ o. option_map_or (λ x. int_eq row.due (pos (capped (due_at (rules_with p.days) x)))) o false) reads) ∙ right in
+        let due : due_at p d ≡ n = sym (same-due p d) ∙ column-is n (due_at (rules_with p.days) d) before is in
+        λ i. Some (due_then kinds.Domain (name-read xs row d reads i) (passed t (due i)))
+
+pub until-there : (xs : Content) (t : ℕ) (row : domain_table.Domain) → Has (spec.domains_until t xs) row → Has xs.domains row
+until-there xs t row there =
+    (has-filter (inner_domain_table.domain_within_due (pos t)) xs.domains row (has-sorted (by_then_key inner_domain_table.domains inner_domain_table.by_due) (filter (inner_domain_table.domain_within_due (pos t)) xs.domains) row there)).0
+
 module _ (xs : Content) (p : PolicyRules) (t : ℕ) (consistent : IsConsistent xs) (days : days_of xs ≡ Some p.days) (right : dues_are_right xs ≡ true) where
   row-right : (row : domain_table.Domain) → Has xs.domains row → is_due_right p.days xs row ≡ true
-  row-right row there = all-has (is_due_right p.days xs) xs.domains row (sym (ap (λ o. option_map_or (λ ds. list_all (is_due_right ds xs) xs.domains) o true) days) ∙ right) there
+  row-right row there = each-passes (is_due_right p.days xs) xs.domains (all-under p.days xs days right) row there
 
   -- a domain that is due has a row that may be
   pub domain-within : (row : domain_table.Domain) (d : Domain) (it : Due) → Has xs.domains row → domain_of xs row ≡ Some d → domain_due p t (row.name, d) ≡ Some it → inner_domain_table.domain_within_due (pos t) row ≡ true
   domain-within row d it there reads due =
       let moment = some-due kinds.Domain row.name (passed t (due_at p d)) it due in
-      let column : int_le row.due (pos (due_at (rules_with p.days) d)) ≡ true = sym (ap (λ o. option_map_or (λ x. int_le row.due (pos (due_at (rules_with p.days) x))) o true) reads) ∙ row-right row there in
+      let column : int_le row.due (pos (due_at (rules_with p.days) d)) ≡ true = column-comes row.due (due_at (rules_with p.days) d) (sym (ap (λ o. option_map_or (λ x. int_eq row.due (pos (capped (due_at (rules_with p.days) x)))) o false) reads) ∙ row-right row there) in
       no-later row.due (pos (due_at p d)) (pos t) (ap (λ m. int_le row.due (pos m)) (sym (same-due p d)) ∙ column) (has-come t (due_at p d) moment.0 moment.1)
 
   domain-asked : (row : domain_table.Domain) (d : Domain) (it : Due) → Has xs.domains row → domain_of xs row ≡ Some d → domain_due p t (row.name, d) ≡ Some it → Has (spec.domains_until t xs) row
@@ -205,7 +232,7 @@ module _ (xs : Content) (p : PolicyRules) (t : ℕ) (consistent : IsConsistent x
       (name-read xs)
       (λ row d there reads. stands-there xs row d consistent there reads)
       (row-under xs)
-      (λ row there. (has-filter (inner_domain_table.domain_within_due (pos t)) xs.domains row (has-sorted (by_then_key inner_domain_table.domains inner_domain_table.by_due) (filter (inner_domain_table.domain_within_due (pos t)) xs.domains) row there)).0)
+      (until-there xs t)
       domain-asked
       found all rise e
 

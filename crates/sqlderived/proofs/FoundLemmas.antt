@@ -177,7 +177,7 @@ module _ {R X : Type 0} (name : R → List ℕ) (its : X → List ℕ) (read : R
 
 -- what passes a test of a list in order is in order
 module _ (pick : Due → Bool) where
-  picked-rises : (ds : List Due) → InOrder ds → InOrder (filter pick ds)
+  pub picked-rises : (ds : List Due) → InOrder ds → InOrder (filter pick ds)
   picked-rises [] rise = tt
   picked-rises (d ∷ ds) rise = go (pick d) (picked-rises ds rise.1)
     where

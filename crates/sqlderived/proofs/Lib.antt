@@ -11,4 +11,5 @@ pub mod LeavingLemmas
 pub mod RecountLemmas
 pub mod KeptLemmas
 pub mod NobodyLemmas
+pub mod PageLemmas
 pub mod HolderLemmas

@@ -5,7 +5,7 @@ use Rattle.std.proofs.lemmas.List.Folds.{list_any-append}
 use Rattle.std.proofs.lemmas.Slice.Eq.{bytes_eq-Decides}
 use Rattle.std.specs.Cmp.Lexicographic.{slice_cmp}
 use Rattle.std.specs.FinMap.{FinMap, entries, get}
-use Rattle.std.specs.List.{cons_option, filter_map, list_any}
+use Rattle.std.specs.List.{cons_option, filter_map, list_all, list_any}
 use Rattle.std.specs.Ordering.{int_eq, nat_cmp}
 use Rattle.std.specs.Str as str
 use Rattle.sqlite_keyed.proofs.KeyedLemmas.{same_int}
@@ -58,11 +58,11 @@ use Rattle.sqldomains.proofs.LeadingLemmas.{LinksContact, names-contact, names-h
 use Rattle.sqldomains.proofs.NameOrderLemmas.{name-read, row-under, stands-there}
 use Rattle.sqldomains.proofs.SponsorLemmas.{parts, sponsor-read}
 use Rattle.sqlterms.specs.Terms.{days_of}
-use Rattle.sqlderived.specs.Dues.{dues_are_right}
+use Rattle.sqlderived.specs.Dues.{dues_are_right, is_due_right}
 use Rattle.sqlderived.specs.inner.Finding as spec
 use Rattle.sqlderived.specs.inner.Near.{HasAllNear, IsFoundNear, concerned_in, contact_numbered, contact_of_transfer, contacts_asked, contacts_found, contacts_named, contacts_near, contacts_sponsored, domain_numbered, domain_of_link, domain_of_transfer, domains_alike, domains_asked, domains_by_names, domains_found, domains_named, domains_near, domains_sponsored, domains_to_contact, domains_to_contacts, domains_to_host, domains_to_hosts, each_of, hosts_named, is_any, is_behind, pending_of}
 use Rattle.sqlderived.proofs.FoundLemmas.{InOrder, found-rises, objects-found, rows-found, rows-read, same-picked, shown}
-use Rattle.sqlderived.proofs.DueLemmas.{all-found, contact-row, contact-stands, contact-under, contact-within, domain-within, never-before}
+use Rattle.sqlderived.proofs.DueLemmas.{all-found, all-under, contact-row, contact-stands, contact-under, contact-within, domain-within, never-before, some-right}
 
 -- ---- rows found one after another
 
@@ -518,15 +518,15 @@ pub near-told : (s a b c d e : StateOf Content) (p : PolicyRules) (r : Option �
     → second ≡ pending
     → Reads c d × (d.is_clean ≡ true → dfound ≡ domains_found r second g m c.content)
     → drows ≡ filter (inner_domain_table.domain_within_due (pos m)) dfound
-    → Reads d e × (e.is_clean ≡ true → spec.with_rows (spec.domain_in p m d.content) contacts drows ≡ Some all)
+    → Reads d e × (e.is_clean ≡ true → list_all (is_due_right p.days d.content) drows ≡ true → spec.with_rows (spec.domain_in p m d.content) contacts drows ≡ Some all)
     → list ≡ all
-    → Reads s e × (e.is_clean ≡ true → IsFoundNear p r g m s.content list)
+    → Reads s e × (e.is_clean ≡ true → list_all (is_due_right p.days s.content) s.content.domains ≡ true → IsFoundNear p r g m s.content list)
 near-told s a b c d e p r g m pending first second cfound crows contacts dfound drows all list asked one cgot ckept cread two dgot dkept dread is =
     let sb = reads-on s a b asked.0 cgot.0 in
     let sc = reads-on s b c sb cread.0 in
     let sd = reads-on s c d sc dgot.0 in (
       reads-on s d e sd dread.0,
-      λ clean.
+      λ clean right.
           let at_d = dread.0.clean clean in
           let at_c = dgot.0.clean at_d in
           let at_b = cread.0.clean at_c in
@@ -540,10 +540,14 @@ near-told s a b c d e p r g m pending first second cfound crows contacts dfound 
           let there : second ≡ pending_of r s.content = two ∙ pend in
           let cs : crows ≡ contacts_asked r g m s.content = ckept ∙ ap (filter (contact_table.contact_within_due (pos m))) (cgot.1 at_b ∙ (λ i. contacts_found r (here i) g m (of_a i))) in
           let ds : drows ≡ domains_asked r g m s.content = dkept ∙ ap (filter (inner_domain_table.domain_within_due (pos m))) (dgot.1 at_d ∙ (λ i. domains_found r (there i) g m (of_c i))) in
+          let asked_right : list_all (is_due_right p.days d.content) drows ≡ true =
+          (λ i. list_all (is_due_right p.days (of_d i)) (ds i))
+          ∙ some-right (is_due_right p.days s.content) s.content.domains (domains_asked r g m s.content)
+          (λ row has. domain-there s.content r g m row (in-filter (inner_domain_table.domain_within_due (pos m)) (domains_near r g m s.content) row has)) right in
           record {
             contacts = contacts;
             first = sym (λ i. spec.with_rows (spec.contact_in m (of_b i)) [] (cs i)) ∙ cread.1 at_c;
-            second = sym (λ i. spec.with_rows (spec.domain_in p m (of_d i)) contacts (ds i)) ∙ dread.1 clean ∙ ap Some (sym is);
+            second = sym (λ i. spec.with_rows (spec.domain_in p m (of_d i)) contacts (ds i)) ∙ dread.1 clean asked_right ∙ ap Some (sym is);
           },
     )
 
@@ -561,7 +565,8 @@ module _ (s a b : StateOf Content) (p : PolicyRules) (r : Option ℕ) (g : Names
         ap (filter chosen) (none ∙ nothing-due s.content p m (subst IsConsistent same (consistent at_a)) (days.1 at_a) right (sym (ap (is_behind m) same) ∙ sym (asked.1 clean) ∙ still)),
   )
 
-  pub near-picked : (c : StateOf Content) (found : Result (List Due) BookFault) → FindsSome found (IsFoundNear p r g m b.content) b c → FindsSome found (λ due. dues_are_right s.content ≡ true → HasAllNear p r g m s.content due) s c
+  pub near-picked : (c : StateOf Content) (found : Result (List Due) BookFault)
+      → FindsSome found (λ due. list_all (is_due_right p.days b.content) b.content.domains ≡ true → IsFoundNear p r g m b.content due) b c → FindsSome found (λ due. dues_are_right s.content ≡ true → HasAllNear p r g m s.content due) s c
   near-picked c (Err fault) met = stays-on s b c (reads-on s a b days.0 asked.0) met
   near-picked c (Ok due) met =
       let sb = reads-on s a b days.0 asked.0 in (
@@ -569,6 +574,7 @@ module _ (s a b : StateOf Content) (p : PolicyRules) (r : Option ℕ) (g : Names
         λ clean right.
             let at_b = met.0.clean clean in
             let at_a = asked.0.clean at_b in
-            let it : IsFoundNear p r g m s.content due = subst (λ xs. IsFoundNear p r g m xs due) (sb.content at_b) (met.1 clean) in
+            let it : IsFoundNear p r g m s.content due =
+            subst (λ (xs : Content). list_all (is_due_right p.days xs) xs.domains ≡ true → IsFoundNear p r g m xs due) (sb.content at_b) (met.1 clean) (all-under p.days s.content (days.1 at_a) right) in
             near-found s.content p m r g (subst IsConsistent (days.0.content at_a) (consistent at_a)) (days.1 at_a) right it.contacts it.first due it.second,
       )

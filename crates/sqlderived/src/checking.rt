@@ -1,5 +1,6 @@
-//! Whether the column of a domain's row is no later than it is due.
-ghost use Rattle.std.specs.Prelude.{◌≡◌, true, int_le, pos, IfOk, Some};
+//! Whether the column of a domain's row is the moment when it is due.
+ghost use Rattle.std.specs.Prelude.{◌≡◌, ◌==◌, true, IfOk, Some};
+ghost use Rattle.calendar.specs.Moment.{capped};
 ghost use Rattle.std.specs.FinMap.{get};
 ghost use Rattle.sqlcolumns.specs.Numbers as numbers;
 ghost use Rattle.lifecycle.specs.Lapse as lapse;
@@ -25,10 +26,18 @@ use sqltables::{DomainRow, RowStore};
 use states::BookFault;
 use std::alloc::Global;
 
+/// The last moment, in seconds since 1970: 2199-12-31T23:59:59Z.
+const LAST: i64 = 7_258_118_399;
+
+pub(crate) fn last_moment() -> Moment
+    ensures { result ≡ 7_258_118_399 }
+{
+    Moment::of_secs(LAST).unwrap_or(Moment::first())
+}
+
 /// When a domain's row is due: when the domain is, or at the last moment where that lies past it.
 pub fn due_of_domain(domain: &Domain, policy: &Policy) -> Moment
-    ensures { int_le (numbers.moment_column result)
-        (pos (lapse.due_at (rules_with policy.now.days) domain.now)) ≡ true }
+    ensures { result ≡ capped (lapse.due_at (rules_with policy.now.days) domain.now) }
 {
     let last = last_moment();
     match due_by(domain, last, policy) {
@@ -37,11 +46,7 @@ pub fn due_of_domain(domain: &Domain, policy: &Policy) -> Moment
     }
 }
 
-fn last_moment() -> Moment {
-    Moment::first().plus_years_capped(u32::MAX)
-}
-
-/// The domain under a name. Refused is a row whose column is later than the domain is due.
+/// The domain under a name. Refused is a row whose column says another moment than the domain is due.
 pub fn checked_domain<S: Alter>(
     store: &mut RowStore<S>,
     alloc: Global,
@@ -73,7 +78,7 @@ fn first_right<S: Alter>(
     Ok(Some(right_domain(store, alloc, row, policy)?))
 }
 
-/// The domain of a row whose column isn't later than it is due.
+/// The domain of a row whose column is when it is due.
 fn right_domain<S: Alter>(
     store: &mut RowStore<S>,
     alloc: Global,
@@ -85,7 +90,7 @@ fn right_domain<S: Alter>(
 {
     let due = due_in(&row)?;
     let domain = domain_of(store, alloc, row)?;
-    if !is_no_later(due, &domain, policy) {
+    if !is_due_then(due, &domain, policy) {
         return Err(BookFault::Store);
     }
     Ok(domain)
@@ -98,10 +103,8 @@ pub(crate) fn due_in(row: &DomainRow) -> Result<Moment, BookFault>
     or_fault(moment_of_column(row.due))
 }
 
-fn is_no_later(due: Moment, domain: &Domain, policy: &Policy) -> bool
-    ensures { result ≡ true
-        → int_le (numbers.moment_column due)
-        (pos (lapse.due_at (rules_with policy.now.days) domain.now)) ≡ true }
+fn is_due_then(due: Moment, domain: &Domain, policy: &Policy) -> bool
+    ensures { result ≡ (due == capped (lapse.due_at (rules_with policy.now.days) domain.now)) }
 {
-    due <= due_of_domain(domain, policy)
+    due == due_of_domain(domain, policy)
 }

@@ -1,15 +1,16 @@
 //! What is due by a moment.
-ghost use Rattle.std.specs.Prelude.{◌≡◌, [], Some, IfOk};
-ghost use Rattle.std.specs.FinMap.{entries};
+ghost use Rattle.std.specs.Prelude.{◌≡◌, true, [], Some, IfOk, string_bytes};
+ghost use Rattle.std.specs.List.{list_all};
 ghost use Rattle.sqlcolumns.specs.Numbers.{moment_column};
 ghost use Rattle.sqlrows.specs.Meanings.{FindsIfRight};
-ghost use Rattle.sqldomains.specs.Domains.{domains_of};
-ghost use Rattle.sqlderived.specs.Dues.{dues_are_right};
+ghost use Rattle.sqlderived.specs.Dues.{dues_are_right, is_due_right};
 ghost use Rattle.sqlderived.specs.inner.Finding as spec;
-ghost use Rattle.sqlobjects.specs.Objects.{contacts_of};
 ghost use Rattle.lifecycle.specs.DueObjects as dues;
+ghost use Rattle.lifecycle.specs.Periods.{passed};
+ghost use Rattle.model.specs.DueBy as model;
 ghost use Rattle.states.specs.States.{Finds, FindsSome};
 
+use crate::checking::{due_in, last_moment};
 use crate::length::have_days;
 use basis::list::Seq;
 use basis::text::Text;
@@ -27,8 +28,8 @@ use std::alloc::{AllocError, Global};
 use std::collections::BTreeSet;
 
 /// The contacts and domains that time changes or removes up to a moment, in the order in which they
-/// lapse. Only rows whose column is no later than the moment are looked at; one that doesn't read is
-/// refused, and so is a policy that has other days than the rows.
+/// lapse. Only rows whose column is no later than the moment are looked at, and of domains nothing else
+/// is. A contact that doesn't read is refused, and so is a policy that has other days than the rows.
 pub fn due<S: Alter>(
     store: &mut RowStore<S>,
     alloc: Global,
@@ -36,9 +37,7 @@ pub fn due<S: Alter>(
     policy: &Policy,
 ) -> Result<Seq<Due>, BookFault>
     ensures { FindsIfRight result (dues_are_right store.old.content)
-        (dues.found_due (dues.domain_due policy.now moment)
-        (dues.found_due (dues.contact_due moment) [] (entries (contacts_of store.old.content)))
-        (entries (domains_of store.old.content))) store.old store.new }
+        (model.due_by policy.now moment (spec.objects_in store.old.content)) store.old store.new }
 {
     have_days(store, alloc, policy)?;
     store.show_consistent();
@@ -116,8 +115,9 @@ fn with_domains_due<S: Alter>(
     policy: &Policy,
     found: BTreeSet<Due>,
 ) -> Result<BTreeSet<Due>, BookFault>
-    ensures { FindsSome result
-        (λ all. spec.with_rows (spec.domain_in policy.now moment store.old.content) found.keys
+    ensures { FindsSome result (λ all. list_all (is_due_right policy.now.days store.old.content)
+        (spec.domains_until moment store.old.content) ≡ true
+        → spec.with_rows (spec.domain_in policy.now moment store.old.content) found.keys
         (spec.domains_until moment store.old.content) ≡ Some all.keys) store.old store.new }
 {
     let rows = domain_rows(store, moment)?;
@@ -134,6 +134,7 @@ fn domain_rows<S: Alter>(
     store.domains_until_due(number(moment))
 }
 
+/// With those of these rows' domains that are due, where the rows' columns are right.
 pub(crate) fn with_domains<S: Alter>(
     store: &mut RowStore<S>,
     alloc: Global,
@@ -143,7 +144,8 @@ pub(crate) fn with_domains<S: Alter>(
     rows: Seq<DomainRow>,
 ) -> Result<BTreeSet<Due>, BookFault>
     ensures { FindsSome result
-        (λ all. spec.with_rows (spec.domain_in policy.now moment store.old.content) found.keys rows
+        (λ all. list_all (is_due_right policy.now.days store.old.content) rows ≡ true
+        → spec.with_rows (spec.domain_in policy.now moment store.old.content) found.keys rows
         ≡ Some all.keys) store.old store.new }
 {
     let mut found = found;
@@ -153,7 +155,49 @@ pub(crate) fn with_domains<S: Alter>(
     Ok(found)
 }
 
+/// A right column says when the domain is due. At the last moment it may stand for a later one: then the
+/// domain is read.
 fn with_domain<S: Alter>(
+    store: &mut RowStore<S>,
+    alloc: Global,
+    moment: Moment,
+    policy: &Policy,
+    found: BTreeSet<Due>,
+    row: DomainRow,
+) -> Result<BTreeSet<Due>, BookFault>
+    ensures { FindsSome result
+        (λ more. is_due_right policy.now.days store.old.content row ≡ true
+        → spec.with_row found.keys (spec.domain_in policy.now moment store.old.content row)
+        ≡ Some more.keys) store.old store.new }
+{
+    let column = due_in(&row)?;
+    if column < last_moment() {
+        return Ok(with_due_at(found, row.name, column, moment)?);
+    }
+    with_domain_read(store, alloc, moment, policy, found, row)
+}
+
+/// With the domain of a name that is due at a moment, if that is by another.
+fn with_due_at(
+    found: BTreeSet<Due>,
+    name: String,
+    due: Moment,
+    moment: Moment,
+) -> Result<BTreeSet<Due>, AllocError>
+    ensures { IfOk result (λ more. more.keys ≡ dues.with_due
+        (dues.due_then ObjectKind.Domain (string_bytes name) (passed moment due)) found.keys) }
+{
+    with_due(found, ObjectKind::Domain, Text::from_string(name), come(due, moment))
+}
+
+/// The first moment, if it is no later than the second.
+fn come(due: Moment, moment: Moment) -> Option<Moment>
+    ensures { result ≡ passed moment due }
+{
+    if moment < due { None } else { Some(due) }
+}
+
+fn with_domain_read<S: Alter>(
     store: &mut RowStore<S>,
     alloc: Global,
     moment: Moment,

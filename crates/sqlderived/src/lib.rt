@@ -3,8 +3,9 @@
 //!
 //! The row of an object has a column for the moment when it is due, so what is due by a moment is found
 //! without a look at other rows. A contact is read only if its column is right. A domain's column
-//! depends on the periods too: it is no later than the moment when time next changes the domain. Each
-//! call refuses periods other than those under which the rows were written.
+//! depends on the periods too: it is the moment when time next changes the domain. Each call refuses
+//! periods other than those under which the rows were written. So what is due is known by the rows of
+//! domains alone.
 //!
 //! An account's row has the number of domains that the registrar holds, so no call counts them. The
 //! question is answered where these numbers are right. A change of a domain keeps them right, with one
@@ -20,6 +21,7 @@ mod holding;
 mod joining;
 mod length;
 mod near;
+mod page;
 mod recounting;
 mod redating;
 
@@ -28,5 +30,6 @@ pub use finding::due;
 pub use holding::is_at_holding_limit;
 pub use length::same_days;
 pub use near::due_near;
+pub use page::first_due;
 pub use recounting::recount;
-pub use redating::{deleted, deleted_names, end_of_deletion, ends_are, ends_come};
+pub use redating::{deleted_names, end_of_deletion, ends_are};

@@ -1,7 +1,8 @@
 //! What is due of that which concerns a registrar and some names, found by indexes.
 ghost use Rattle.std.specs.Prelude.{◌≡◌, true, filter, take, IfOk};
+ghost use Rattle.std.specs.List.{list_all};
 ghost use Rattle.sqlcolumns.specs.Numbers.{moment_column};
-ghost use Rattle.sqlderived.specs.Dues.{dues_are_right};
+ghost use Rattle.sqlderived.specs.Dues.{dues_are_right, is_due_right};
 ghost use Rattle.sqlderived.specs.inner.Finding as finding;
 ghost use Rattle.sqlderived.specs.inner.Near as spec;
 ghost use Rattle.sqltables.specs.Contact.{contact_within_due};
@@ -28,8 +29,8 @@ use std::alloc::{AllocError, Global};
 
 /// Part of what is due by a moment, in the order in which it lapses: all that concerns a registrar, if one is
 /// given, and some names is in it. Where no column says that anything is due, nothing else is looked at; else
-/// what the registrar and the names lead to by indexes, and of that only rows that may be due are read. One that
-/// doesn't read is refused, and so is a policy that has other days than the rows.
+/// what the registrar and the names lead to by indexes, and of that only rows that may be due are looked at. A
+/// contact that doesn't read is refused, and so is a policy that has other days than the rows.
 pub fn due_near<S: Alter>(
     store: &mut RowStore<S>,
     alloc: Global,
@@ -66,7 +67,7 @@ fn is_contact_behind<S: Alter>(store: &mut RowStore<S>, moment: Moment) -> Resul
     ensures { Finds result (spec.is_any (take 1 (finding.contacts_until moment store.old.content)))
         store.old store.new }
 {
-    let rows = store.first_contacts_until_due(number(moment))?;
+    let rows = store.first_contacts_until_due(number(moment), 1)?;
     Ok(!rows.is_empty())
 }
 
@@ -74,13 +75,13 @@ fn is_domain_behind<S: Alter>(store: &mut RowStore<S>, moment: Moment) -> Result
     ensures { Finds result (spec.is_any (take 1 (finding.domains_until moment store.old.content)))
         store.old store.new }
 {
-    let rows = store.first_domains_until_due(number(moment))?;
+    let rows = store.first_domains_until_due(number(moment), 1)?;
     Ok(!rows.is_empty())
 }
 
 // ---- what is found by the registrar and the names
 
-/// What is due of the rows that are found.
+/// What is due of the rows that are found, where the columns of domains are right.
 fn found_near<S: Alter>(
     store: &mut RowStore<S>,
     alloc: Global,
@@ -89,8 +90,10 @@ fn found_near<S: Alter>(
     moment: Moment,
     policy: &Policy,
 ) -> Result<Seq<Due>, BookFault>
-    ensures { FindsSome result (spec.IsFoundNear policy.now caller.now names.now moment
-        store.old.content) store.old store.new }
+    ensures { FindsSome result (λ due. list_all (is_due_right policy.now.days store.old.content)
+        store.old.content.domains ≡ true
+        → spec.IsFoundNear policy.now caller.now names.now moment store.old.content due) store.old
+        store.new }
 {
     let pending = pending_of(store, alloc, caller)?;
     let contact_rows = contacts_near(store, alloc, caller, pending.as_slice(), names, moment)?;

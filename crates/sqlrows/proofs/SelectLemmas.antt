@@ -1,5 +1,5 @@
 -- Rows by a test.
-use Rattle.std.proofs.Common.{◌≡◌, ◌^◌, ◌-◌, negsuc, Err, ℕ, Bool, true, false, List, [], ◌∷◌, map, filter, unwrap_or, cond, nat_le, slice_get, None, Result, Ok, refl, sym, ap₂, ◌∙◌, int_cmp, map-id, ℤ, Option, Ordering, Less}
+use Rattle.std.proofs.Common.{◌≡◌, ◌^◌, ◌-◌, Err, ℕ, Bool, true, false, List, [], ◌∷◌, map, filter, unwrap_or, cond, nat_le, slice_get, None, Result, Ok, refl, sym, ap₂, ◌∙◌, int_cmp, map-id, ℤ, Option, Ordering, Less}
 use Rattle.std.specs.List.{list_all}
 use Rattle.sqlite_value.specs.declared.value.Value.TheVariants.{Int}
 use Rattle.sqlite_value.specs.Order.{Row, value_cmp}
@@ -17,7 +17,7 @@ use Rattle.sqlite.proofs.Callers as callers
 use Rattle.sqlite_resolve.specs.declared.compiled.Compiled.{Compiled}
 use Rattle.sqlite_resolve.specs.declared.error.CompileError.{CompileError}
 use Rattle.sqlrows.specs.Layouts.{Layout}
-use Rattle.sqlrows.specs.inner.Layouts.{Holds, select_query, limited_query, sorted_query, by_then_key, command_of}
+use Rattle.sqlrows.specs.inner.Layouts.{Holds, select_query, limited_query, no_limit, sorted_query, by_then_key, command_of}
 
 pub same_command : (r : Result Compiled CompileError) → callers.command_of r ≡ command_of r
 same_command (Ok c) = refl
@@ -26,7 +26,7 @@ same_command (Err e) = refl
 pub overlay_none : (db : Trees) (t : ℕ) → overlay db [] t ≡ db t
 overlay_none db t = elim (nat_le (2 ^ 31) t) as (λ b. unwrap_or (cond b (slice_get [] (t - 2 ^ 31)) None) (db t) ≡ db t) [ true ↦ refl | false ↦ refl ]
 
-module _ {X : Type 0} (L : Layout X) (filters project : List Term) (limit : ℤ) (params : Row) (p : X → Bool) (shown : X → Row)
+module _ {X : Type 0} (L : Layout X) (filters project : List Term) (limit : Term) (params : Row) (p : X → Bool) (shown : X → Row)
     (tests : (x : X) → list_all (holds (params ∷ L.to_row x ∷ [])) filters ≡ p x)
     (shows : (x : X) → eval_all project (params ∷ L.to_row x ∷ []) ≡ shown x) where
   -- the first of the rows, by key
@@ -45,7 +45,7 @@ module _ {X : Type 0} (L : Layout X) (filters project : List Term) (params : Row
     (tests : (x : X) → list_all (holds (params ∷ L.to_row x ∷ [])) filters ≡ p x)
     (shows : (x : X) → eval_all project (params ∷ L.to_row x ∷ []) ≡ shown x) where
   pub selects : (db : Trees) (xs : List X) (rows : List Row) → Holds L db xs → IsAnswer (select_query L.tree filters project) (overlay db []) params rows → rows ≡ map shown (filter p xs)
-  selects = limits L filters project (negsuc 0) params p shown tests shows
+  selects = limits L filters project no_limit params p shown tests shows
 
 -- a key of ORDER BY that may be NULL
 pub value_cmp-maybe_int : (a b : Option ℤ) → value_cmp (or_null Int a) (or_null Int b) ≡ nulls_first int_cmp a b
@@ -56,7 +56,7 @@ untied : {X : Type 0} (L : Layout X) (by : List (X → X → Ordering)) (x y : X
 untied L [] x y h = no_tie h
 untied L (cmp ∷ more) x y h = no_tie_after (cmp x y) (untied L more x y h)
 
-module _ {X : Type 0} (L : Layout X) (filters project columns : List Term) (limit : ℤ) (params : Row) (p : X → Bool) (shown : X → Row) (by : List (X → X → Ordering))
+module _ {X : Type 0} (L : Layout X) (filters project columns : List Term) (limit : Term) (params : Row) (p : X → Bool) (shown : X → Row) (by : List (X → X → Ordering))
     (tests : (x : X) → list_all (holds (params ∷ L.to_row x ∷ [])) filters ≡ p x)
     (shows : (x : X) → eval_all project (params ∷ L.to_row x ∷ []) ≡ shown x)
     (orders : (x y : X) → output_cmp (sorted_query L.tree filters project columns limit) (output (sorted_query L.tree filters project columns limit) (params ∷ L.to_row x ∷ []))

@@ -1,17 +1,17 @@
 -- The statements that there are on several tables, on one of them.
-use Rattle.std.proofs.Common.{◌≡◌, ◌+◌, ℕ, ℤ, pos, negsuc, zero, suc, Bool, true, List, [], ◌∷◌, map, filter, take, drop, ◌∙◌, refl, ap, Ordering}
+use Rattle.std.proofs.Common.{◌≡◌, ◌+◌, ℕ, ℤ, pos, zero, suc, Bool, true, Option, Some, List, [], ◌∷◌, map, filter, take, drop, ◌∙◌, refl, ap, Ordering}
 use Rattle.std.specs.List.{list_all, take-map}
 use Rattle.sqlite_value.specs.declared.value.Value.TheVariants.{Null, Int}
 use Rattle.sqlite_value.specs.declared.keys.Collation.TheVariants.{Binary}
 use Rattle.sqlite_value.specs.Order.{Row}
-use Rattle.sqlite_sql.specs.declared.ops.CompareOp.TheVariants.{Eq, Ge, Le}
+use Rattle.sqlite_sql.specs.declared.ops.CompareOp.TheVariants.{Eq, Ge, Gt, Le}
 use Rattle.sqlite_sql.specs.declared.ops.BinaryOp.TheVariants.{Compare}
-use Rattle.sqlite_sql.specs.Query.{Query, output, output_cmp}
-use Rattle.sqlite_sql.specs.Term.{Term, lit, col, op2, eval_all, holds}
+use Rattle.sqlite_sql.specs.Query.{Query, as_count, limited, output, output_cmp}
+use Rattle.sqlite_sql.specs.Term.{Term, lit, col, op2, eval, eval_all, holds}
 use Rattle.sqlite_keyed.specs.Keyed.{insert_by, next_key}
 use Rattle.sqlite_keyed.specs.Lists.{delete_where, sort_by, update_where}
 use Rattle.sqlite_keyed.proofs.ListLemmas.{filter_all, all_of}
-use Rattle.sqlrows.specs.inner.Layouts.{writes_tables, Gives, Numbers, IsSelect, IsPut, IsAppend, IsDelete, IsUpdate, Renews, select_query, limited_query, sorted_query, by_then_key, appended}
+use Rattle.sqlrows.specs.inner.Layouts.{writes_tables, Gives, Numbers, IsSelect, IsPut, IsAppend, IsDelete, IsUpdate, Renews, select_query, limited_query, no_limit, sorted_query, by_then_key, appended}
 use Rattle.sqlrows.proofs.SelectLemmas.{selects, limits, sorts}
 use Rattle.sqlrows.proofs.PutLemmas.{puts}
 use Rattle.sqlrows.proofs.AppendLemmas.{appends, appends_last}
@@ -54,8 +54,28 @@ equals column param = op2 (Compare Eq Binary) (col 1 column) (col 0 param)
 abbrev pub at_most : ℕ → ℕ → Term
 at_most column param = op2 (Compare Le Binary) (col 1 column) (col 0 param)
 
+abbrev pub above : ℕ → ℕ → Term
+above column param = op2 (Compare Gt Binary) (col 1 column) (col 0 param)
+
 abbrev pub from_zero : ℕ → Term
 from_zero column = op2 (Compare Ge Binary) (col 1 column) (lit (Int (pos 0)))
+
+-- ---- limits
+
+-- what LIMIT says is this number
+abbrev pub Counts : Row → Term → ℕ → Type 0
+Counts params limit count = as_count (eval limit (params ∷ [])) ≡ Some count
+
+-- the first row alone, and as many as a parameter says
+abbrev pub one : Term
+one = lit (Int (pos 1))
+
+abbrev pub given : ℕ → Term
+given param = col 0 param
+
+first-shown : {X : Type 0} (params : Row) (limit : Term) (count : ℕ) → Counts params limit count → (shown : X → Row) (xs : List X)
+    → limited (as_count (eval limit (params ∷ []))) (map shown xs) ≡ map shown (take count xs)
+first-shown params limit count counts shown xs = ap (λ (o : Option ℕ). limited o (map shown xs)) counts ∙ take-map shown count xs
 
 -- ---- statements
 
@@ -73,28 +93,35 @@ module _ {X : Type 0} (T : Part X) where
   asks_all {sql} {shown} n is shows = asks T shown sql [] _ (λ xs. xs) is refl (λ db xs rows h answer.
       selects T.layout [] (all_columns n) [] (λ _. true) shown (λ x. refl) shows db xs rows h answer ∙ ap (map shown) (filter_all (λ _. true) xs (all_of _ (λ x. refl) xs)))
 
+  pub asks_first_of_all : {sql : List ℕ} {params : Row} {shown : X → Row} (n : ℕ) (limit : Term) (count : ℕ) → Counts params limit count → IsSelect registry sql (limited_query T.layout.tree [] (all_columns n) limit)
+      → Shows params (all_columns n) shown → Asks T.layout.tree shown sql params (λ c. take count (T.rows c))
+  asks_first_of_all {sql} {params} {shown} n limit count counts is shows = asks T shown sql params _ (take count) is refl (λ db xs rows h answer.
+      limits T.layout [] (all_columns n) limit params (λ _. true) shown (λ x. refl) shows db xs rows h answer ∙ first-shown params limit count counts shown (filter (λ _. true) xs)
+      ∙ ap (λ l. map shown (take count l)) (filter_all (λ _. true) xs (all_of _ (λ x. refl) xs)))
+
   module _ {sql : List ℕ} {params : Row} {shown : X → Row} {p : X → Bool} (n : ℕ) (filters : List Term) where
     pub asks_where : IsSelect registry sql (select_query T.layout.tree filters (all_columns n)) → Tests params filters p → Shows params (all_columns n) shown
         → Asks T.layout.tree shown sql params (λ c. filter p (T.rows c))
     asks_where is tests shows = asks T shown sql params _ (filter p) is refl (selects T.layout filters (all_columns n) params p shown tests shows)
 
-    -- the first alone
-    pub asks_first : IsSelect registry sql (limited_query T.layout.tree filters (all_columns n) (pos 1)) → Tests params filters p → Shows params (all_columns n) shown
-        → Asks T.layout.tree shown sql params (λ c. take 1 (filter p (T.rows c)))
-    asks_first is tests shows = asks T shown sql params _ (λ xs. take 1 (filter p xs)) is refl (λ db xs rows h answer.
-        limits T.layout filters (all_columns n) (pos 1) params p shown tests shows db xs rows h answer ∙ take-map shown 1 (filter p xs))
+    -- the first, as many as LIMIT says
+    pub asks_first : (limit : Term) (count : ℕ) → Counts params limit count → IsSelect registry sql (limited_query T.layout.tree filters (all_columns n) limit) → Tests params filters p
+        → Shows params (all_columns n) shown → Asks T.layout.tree shown sql params (λ c. take count (filter p (T.rows c)))
+    asks_first limit count counts is tests shows = asks T shown sql params _ (λ xs. take count (filter p xs)) is refl (λ db xs rows h answer.
+        limits T.layout filters (all_columns n) limit params p shown tests shows db xs rows h answer ∙ first-shown params limit count counts shown (filter p xs))
 
     -- in the order of some columns
     module _ (order : List Term) (by : List (X → X → Ordering)) where
-      pub asks_sorted : IsSelect registry sql (sorted_query T.layout.tree filters (all_columns n) order (negsuc 0)) → Tests params filters p → Shows params (all_columns n) shown
-          → Orders params (sorted_query T.layout.tree filters (all_columns n) order (negsuc 0)) by → Asks T.layout.tree shown sql params (λ c. sort_by (by_then_key T.layout by) (filter p (T.rows c)))
+      pub asks_sorted : IsSelect registry sql (sorted_query T.layout.tree filters (all_columns n) order no_limit) → Tests params filters p → Shows params (all_columns n) shown
+          → Orders params (sorted_query T.layout.tree filters (all_columns n) order no_limit) by → Asks T.layout.tree shown sql params (λ c. sort_by (by_then_key T.layout by) (filter p (T.rows c)))
       asks_sorted is tests shows orders = asks T shown sql params _ (λ xs. sort_by (by_then_key T.layout by) (filter p xs)) is refl
-          (sorts T.layout filters (all_columns n) order (negsuc 0) params p shown by tests shows orders)
+          (sorts T.layout filters (all_columns n) order no_limit params p shown by tests shows orders)
 
-      pub asks_first_sorted : IsSelect registry sql (sorted_query T.layout.tree filters (all_columns n) order (pos 1)) → Tests params filters p → Shows params (all_columns n) shown
-          → Orders params (sorted_query T.layout.tree filters (all_columns n) order (pos 1)) by → Asks T.layout.tree shown sql params (λ c. take 1 (sort_by (by_then_key T.layout by) (filter p (T.rows c))))
-      asks_first_sorted is tests shows orders = asks T shown sql params _ (λ xs. take 1 (sort_by (by_then_key T.layout by) (filter p xs))) is refl (λ db xs rows h answer.
-          sorts T.layout filters (all_columns n) order (pos 1) params p shown by tests shows orders db xs rows h answer ∙ take-map shown 1 (sort_by (by_then_key T.layout by) (filter p xs)))
+      pub asks_first_sorted : (limit : Term) (count : ℕ) → Counts params limit count → IsSelect registry sql (sorted_query T.layout.tree filters (all_columns n) order limit) → Tests params filters p
+          → Shows params (all_columns n) shown → Orders params (sorted_query T.layout.tree filters (all_columns n) order limit) by
+          → Asks T.layout.tree shown sql params (λ c. take count (sort_by (by_then_key T.layout by) (filter p (T.rows c))))
+      asks_first_sorted limit count counts is tests shows orders = asks T shown sql params _ (λ xs. take count (sort_by (by_then_key T.layout by) (filter p xs))) is refl (λ db xs rows h answer.
+          sorts T.layout filters (all_columns n) order limit params p shown by tests shows orders db xs rows h answer ∙ first-shown params limit count counts shown (sort_by (by_then_key T.layout by) (filter p xs)))
 
   pub put_by : {sql : List ℕ} (shown : X → Row) (n : ℕ) → IsPut registry sql T.at T.layout.tree (suc n) (put_terms n) (set_terms n) → Gives T.layout registry T.table (suc n) (put_terms n) (set_terms n) shown
       → (x : X) → Alters T.layout.tree sql (shown x) (T.to (λ xs. insert_by T.layout.key xs x))

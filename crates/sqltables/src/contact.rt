@@ -28,7 +28,7 @@ const UNTIL_DUE: &str =
     "SELECT id, name, creator, serial, sponsor, created, transferred, updated, statuses, secret, postal_name, org, street, city, state, postal_code, country, voice, due, mail FROM contact WHERE due >= 0 AND due <= ?1 ORDER BY due, id";
 
 const FIRST_UNTIL_DUE: &str =
-    "SELECT id, name, creator, serial, sponsor, created, transferred, updated, statuses, secret, postal_name, org, street, city, state, postal_code, country, voice, due, mail FROM contact WHERE due >= 0 AND due <= ?1 ORDER BY due, id LIMIT 1";
+    "SELECT id, name, creator, serial, sponsor, created, transferred, updated, statuses, secret, postal_name, org, street, city, state, postal_code, country, voice, due, mail FROM contact WHERE due >= 0 AND due <= ?1 ORDER BY due, id LIMIT ?2";
 
 const BY_SPONSOR_UNTIL_DUE: &str =
     "SELECT id, name, creator, serial, sponsor, created, transferred, updated, statuses, secret, postal_name, org, street, city, state, postal_code, country, voice, due, mail FROM contact WHERE sponsor = ?1 AND due >= 0 AND due <= ?2 ORDER BY id";
@@ -213,14 +213,18 @@ impl<S: Alter> RowStore<S> {
         self.select(TREE, UNTIL_DUE, params![due])
     }
 
-    /// The first of those whose `due` is this moment or one before, in the order in which they are due, if
-    /// there is any.
-    pub fn first_contacts_until_due(&mut self, due: Number) -> Result<Seq<ContactRow>, BookFault>
-        ensures { Finds result
-            (take 1 (contacts_by_due (filter (contact_within_due due) self.old.content.contacts)))
-            self.old self.new }
+    /// The first of those whose `due` is this moment or one before, in the order in which they are due, and
+    /// no more than so many.
+    pub fn first_contacts_until_due(
+        &mut self,
+        due: Number,
+        at_most: u32,
+    ) -> Result<Seq<ContactRow>, BookFault>
+        ensures { Finds result (take at_most
+            (contacts_by_due (filter (contact_within_due due) self.old.content.contacts))) self.old
+            self.new }
     {
-        self.select(TREE, FIRST_UNTIL_DUE, params![due])
+        self.select(TREE, FIRST_UNTIL_DUE, params![due, at_most])
     }
 
     /// Those whose `sponsor` is this and whose `due` is this moment or one before.

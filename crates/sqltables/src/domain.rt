@@ -6,7 +6,7 @@ ghost use Rattle.sqltables.specs.inner.Content.{domains_to};
 ghost use Rattle.states.specs.States.{Finds, Makes};
 ghost use Rattle.sqlrows.specs.inner.Layouts.{appended};
 ghost use Rattle.sqltables.specs.Domain.{Domain, domain_with_name};
-ghost use Rattle.sqltables.specs.inner.Domain.{domains, domain_with_id, domain_with_registrant, domain_within_due, domain_of_sponsor_within, domain_of_registrant_within, domain_with_roid, domains_by_due};
+ghost use Rattle.sqltables.specs.inner.Domain.{domains, domain_after_id, domain_with_id, domain_with_registrant, domain_within_due, domain_of_sponsor_within, domain_of_registrant_within, domain_with_roid, domains_by_due};
 
 use crate::store::RowStore;
 use basis::list::Seq;
@@ -22,6 +22,12 @@ const TREE: u64 = 5;
 const ALL: &str =
     "SELECT id, name, creator, serial, sponsor, created, years, transferred, updated, statuses, secret, registrant, deleted, restore_requested, due FROM domain ORDER BY id";
 
+const FIRST: &str =
+    "SELECT id, name, creator, serial, sponsor, created, years, transferred, updated, statuses, secret, registrant, deleted, restore_requested, due FROM domain ORDER BY id LIMIT ?1";
+
+const AFTER: &str =
+    "SELECT id, name, creator, serial, sponsor, created, years, transferred, updated, statuses, secret, registrant, deleted, restore_requested, due FROM domain WHERE id > ?1 ORDER BY id LIMIT ?2";
+
 const BY_ID: &str =
     "SELECT id, name, creator, serial, sponsor, created, years, transferred, updated, statuses, secret, registrant, deleted, restore_requested, due FROM domain WHERE id = ?1 ORDER BY id";
 
@@ -35,7 +41,7 @@ const UNTIL_DUE: &str =
     "SELECT id, name, creator, serial, sponsor, created, years, transferred, updated, statuses, secret, registrant, deleted, restore_requested, due FROM domain WHERE due <= ?1 ORDER BY due, id";
 
 const FIRST_UNTIL_DUE: &str =
-    "SELECT id, name, creator, serial, sponsor, created, years, transferred, updated, statuses, secret, registrant, deleted, restore_requested, due FROM domain WHERE due <= ?1 ORDER BY due, id LIMIT 1";
+    "SELECT id, name, creator, serial, sponsor, created, years, transferred, updated, statuses, secret, registrant, deleted, restore_requested, due FROM domain WHERE due <= ?1 ORDER BY due, id LIMIT ?2";
 
 const BY_SPONSOR_UNTIL_DUE: &str =
     "SELECT id, name, creator, serial, sponsor, created, years, transferred, updated, statuses, secret, registrant, deleted, restore_requested, due FROM domain WHERE sponsor = ?1 AND due <= ?2 ORDER BY id";
@@ -141,6 +147,21 @@ impl<S: Alter> RowStore<S> {
         self.select(TREE, ALL, &[])
     }
 
+    /// The first of all, by their numbers, and no more than so many.
+    pub fn first_domains(&mut self, at_most: u32) -> Result<Seq<DomainRow>, BookFault>
+        ensures { Finds result (take at_most self.old.content.domains) self.old self.new }
+    {
+        self.select(TREE, FIRST, params![at_most])
+    }
+
+    /// The first of those with a greater number, by their numbers, and no more than so many.
+    pub fn domains_after(&mut self, id: Number, at_most: u32) -> Result<Seq<DomainRow>, BookFault>
+        ensures { Finds result (take at_most (filter (domain_after_id id) self.old.content.domains))
+            self.old self.new }
+    {
+        self.select(TREE, AFTER, params![id, at_most])
+    }
+
     /// Those with this number.
     pub fn domains_by_id(&mut self, id: Number) -> Result<Seq<DomainRow>, BookFault>
         ensures { Finds result (filter (domain_with_id id) self.old.content.domains) self.old
@@ -178,14 +199,18 @@ impl<S: Alter> RowStore<S> {
         self.select(TREE, UNTIL_DUE, params![due])
     }
 
-    /// The first of those whose `due` is this moment or one before, in the order in which they are due, if
-    /// there is any.
-    pub fn first_domains_until_due(&mut self, due: Number) -> Result<Seq<DomainRow>, BookFault>
-        ensures { Finds result
-            (take 1 (domains_by_due (filter (domain_within_due due) self.old.content.domains)))
-            self.old self.new }
+    /// The first of those whose `due` is this moment or one before, in the order in which they are due, and
+    /// no more than so many.
+    pub fn first_domains_until_due(
+        &mut self,
+        due: Number,
+        at_most: u32,
+    ) -> Result<Seq<DomainRow>, BookFault>
+        ensures { Finds result (take at_most
+            (domains_by_due (filter (domain_within_due due) self.old.content.domains))) self.old
+            self.new }
     {
-        self.select(TREE, FIRST_UNTIL_DUE, params![due])
+        self.select(TREE, FIRST_UNTIL_DUE, params![due, at_most])
     }
 
     /// Those whose `sponsor` is this and whose `due` is this moment or one before.

@@ -1,5 +1,6 @@
 -- Which days may be put down, and what is then.
-use Rattle.std.specs.Prelude.{◌≡◌, ◌⊎◌, ℕ, min, true, [], Option, Some, option_map}
+use Rattle.std.specs.Prelude.{◌≡◌, ◌⊎◌, ◌&&◌, ℕ, Bool, true, is_some, [], Option, Some, None, option_map}
+use Rattle.std.specs.List.{list_all}
 use Rattle.calendar.specs.Moment.{capped}
 use Rattle.lifecycle.specs.Periods.{rules_with}
 use Rattle.lifecycle.specs.Phases.{purge_at}
@@ -9,26 +10,30 @@ use Rattle.policy.specs.declared.schedule.Schedule.{Schedule}
 use Rattle.policy.specs.declared.terms.Terms.{Terms}
 use Rattle.books.specs.Book.{with_terms}
 use Rattle.sqltables.specs.Content.{Content}
-use Rattle.sqlderived.specs.Redates.{ends_are_right}
+use Rattle.sqltables.specs.Domain as table
+use Rattle.sqltables.specs.Readiness.{may_be_numbered}
+use Rattle.sqlaccounts.specs.Accounts.{sums_are_right}
+use Rattle.sqlderived.specs.Held.{helds_are_right}
+use Rattle.sqlderived.specs.Redates.{is_live_right}
+use Rattle.sqlobjects.specs.Sponsors.{sponsors_are_right}
 use Rattle.sqlterms.specs.Terms.{days_of}
 use Rattle.sqlbook.specs.Meaning.{are_right, stored_of}
 use Rattle.sqlbook.specs.Suiting.{AreRedated}
 
--- others, where the columns of deleted domains are right under both
-pub record AreOthers (days : Schedule) (xs : Content) : Type 0 where
-  pub before : Schedule
-  pub were : days_of xs ≡ Some before
-  pub right_before : ends_are_right before xs ≡ true
-  pub right_after : ends_are_right days xs ≡ true
-
--- those that were, or any where no domain is there, or others that suit
+-- those that were, or any where no domain is there
 abbrev pub SuitDomains : Schedule → Content → Type 0
-SuitDomains days xs = (days_of xs ≡ Some days) ⊎ ((xs.domains ≡ []) ⊎ AreOthers days xs)
+SuitDomains days xs = (days_of xs ≡ Some days) ⊎ (xs.domains ≡ [])
 
--- rows mean the same, and their sums are as right
+-- all sums are right, and of the rows of domains this
+abbrev pub are_right_by : (Content → table.Domain → Bool) → Content → Bool
+are_right_by right xs =
+    may_be_numbered xs.metas
+    && (sums_are_right xs && (helds_are_right xs && (list_all (right xs) xs.domains && sponsors_are_right xs)))
+
+-- rows mean the same, and their sums are as right, but for when deleted domains are due
 pub record MeansSame (old new : Content) : Type 0 where
   pub stored : stored_of new ≡ stored_of old
-  pub sums : are_right new ≡ are_right old
+  pub sums : are_right_by is_live_right new ≡ are_right_by is_live_right old
   pub days : days_of new ≡ days_of old
   pub lines : new.lines ≡ old.lines
 
@@ -44,10 +49,11 @@ pub record IsSetOver (before : Option Schedule) (value : Terms) (old new : Conte
   pub set : IsSetDown value old new
   pub ends : AreRedated before value.days new
 
--- the earlier of two moments when a deleted domain is purged, by these days and by those
-abbrev pub earlier_purge : Schedule → Schedule → Deletion → ℕ
-earlier_purge days others x = min (capped (purge_at (rules_with days) x)) (capped (purge_at (rules_with others) x))
+-- when a domain is purged, or the last moment where that lies past it; none of one that isn't deleted
+abbrev pub end_of : Schedule → Domain → Option ℕ
+end_of days domain = option_map (λ (x : Deletion). capped (purge_at (rules_with days) x)) domain.deletion
 
--- none of a domain that isn't deleted
-abbrev pub earlier_end : Schedule → Schedule → Domain → Option ℕ
-earlier_end days others domain = option_map (earlier_purge days others) domain.deletion
+-- there is a domain, and it is deleted
+abbrev pub IsDeleted : Option Domain → Type 0
+IsDeleted None = ⊥
+IsDeleted (Some domain) = is_some domain.deletion ≡ true

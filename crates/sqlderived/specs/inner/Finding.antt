@@ -4,6 +4,7 @@ use Rattle.sqlcolumns.specs.Numbers.{moment_column}
 use Rattle.sqlcolumns.specs.Steps.{◌>>=◌}
 use Rattle.objects.specs.declared.contact.Contact.{Contact}
 use Rattle.objects.specs.declared.domain.Domain.{Domain}
+use Rattle.model.specs.Registry.{Registry, blank}
 use Rattle.policy.specs.Rules.{PolicyRules}
 use Rattle.lifecycle.specs.declared.due_object.Due.{Due}
 use Rattle.lifecycle.specs.DueObjects.{contact_due, domain_due, with_due}
@@ -11,8 +12,12 @@ use Rattle.sqltables.specs.Contact as contact_table
 use Rattle.sqltables.specs.Content.{Content}
 use Rattle.sqltables.specs.Domain as domain_table
 use Rattle.sqltables.specs.inner.Domain as inner_domain_table
-use Rattle.sqldomains.specs.Domains.{domain_of}
-use Rattle.sqlobjects.specs.Objects.{contact_of}
+use Rattle.sqldomains.specs.Domains.{domain_of, domains_of}
+use Rattle.sqlobjects.specs.Objects.{contact_of, contacts_of}
+
+-- the contacts and domains that rows mean, as a registry that has nothing else
+abbrev pub objects_in : Content → Registry
+objects_in xs = record blank { contacts = contacts_of xs; domains = domains_of xs }
 
 -- with what a row shows to be due, if it reads
 abbrev pub with_row : List Due → Option (Option Due) → Option (List Due)

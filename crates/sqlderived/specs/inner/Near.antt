@@ -4,7 +4,6 @@ use Rattle.sqlcolumns.specs.Numbers.{moment_column, registrar_column}
 use Rattle.concerns.specs.Concerns.{concerned}
 use Rattle.concerns.specs.declared.given.Names.{Names}
 use Rattle.model.specs.Lapse.{Choice}
-use Rattle.model.specs.Registry.{Registry, blank}
 use Rattle.policy.specs.Rules.{PolicyRules}
 use Rattle.lifecycle.specs.declared.due_object.Due.{Due}
 use Rattle.concerns.specs.DueFor.{due_for, is_picked}
@@ -15,9 +14,7 @@ use Rattle.sqltables.specs.inner.Domain as inner_domain_table
 use Rattle.sqltables.specs.Host as host_table
 use Rattle.sqltables.specs.Link as link_table
 use Rattle.sqltables.specs.Transfer as transfer_table
-use Rattle.sqldomains.specs.Domains.{domains_of}
-use Rattle.sqlobjects.specs.Objects.{contacts_of}
-use Rattle.sqlderived.specs.inner.Finding.{contact_in, contacts_until, domain_in, domains_until, with_rows}
+use Rattle.sqlderived.specs.inner.Finding.{contact_in, contacts_until, domain_in, domains_until, objects_in, with_rows}
 
 -- ---- whether anything is due at all
 
@@ -28,10 +25,6 @@ abbrev pub is_behind : ℕ → Content → Bool
 is_behind t xs = is_any (take 1 (contacts_until t xs)) || is_any (take 1 (domains_until t xs))
 
 -- ---- what is concerned
-
--- the contacts and domains that rows mean, as a registry that has nothing else
-abbrev pub objects_in : Content → Registry
-objects_in xs = record blank { contacts = contacts_of xs; domains = domains_of xs }
 
 abbrev pub concerned_in : Option ℕ → Names → Content → Choice
 concerned_in r g xs = concerned r g (objects_in xs)

@@ -44,6 +44,10 @@ pub record Holds {X : Type 0} (L : Layout X) (db : Trees) (xs : List X) : Type 0
   pub rows : db L.tree ≡ map L.to_row xs
   pub keyed : IsKeyedBy L.key xs
 
+-- the limit where none is said
+abbrev pub no_limit : Term
+no_limit = lit (Int (negsuc 0))
+
 -- the rows that pass, by key
 abbrev pub select_query : ℕ → List Term → List Term → Query
 select_query tree filter project = record {
@@ -54,20 +58,20 @@ select_query tree filter project = record {
   distinct = false;
   collations = [];
   order = (col 1 0, ascending Binary) ∷ [];
-  limit = lit (Int (negsuc 0));
+  limit = no_limit;
   offset = lit (Int (pos 0));
 }
 
--- the same, and no more than the limit, if that isn't below 0
-abbrev pub limited_query : ℕ → List Term → List Term → ℤ → Query
+-- the same, and no more than the limit, if that is a number that isn't below 0
+abbrev pub limited_query : ℕ → List Term → List Term → Term → Query
 limited_query tree filter project limit =
-    record (select_query tree filter project) { limit = lit (Int limit) }
+    record (select_query tree filter project) { limit = limit }
 
--- the rows that pass, in the order of some columns and then by key, and no more than the limit, if that isn't below 0
-abbrev pub sorted_query : ℕ → List Term → List Term → List Term → ℤ → Query
+-- the rows that pass, in the order of some columns and then by key, and no more than the limit, if that is a number that isn't below 0
+abbrev pub sorted_query : ℕ → List Term → List Term → List Term → Term → Query
 sorted_query tree filter project columns limit = record (select_query tree filter project) {
   order = map (λ t. (t, ascending Binary)) (columns ++ col 1 0 ∷ []);
-  limit = lit (Int limit);
+  limit = limit;
 }
 
 -- by each of these in turn, and then by key

@@ -47,7 +47,7 @@ abbrev pub contact_until_due : List ℕ
 contact_until_due = codes "SELECT id, name, creator, serial, sponsor, created, transferred, updated, statuses, secret, postal_name, org, street, city, state, postal_code, country, voice, due, mail FROM contact WHERE due >= 0 AND due <= ?1 ORDER BY due, id"
 
 abbrev pub contact_first_until_due : List ℕ
-contact_first_until_due = codes "SELECT id, name, creator, serial, sponsor, created, transferred, updated, statuses, secret, postal_name, org, street, city, state, postal_code, country, voice, due, mail FROM contact WHERE due >= 0 AND due <= ?1 ORDER BY due, id LIMIT 1"
+contact_first_until_due = codes "SELECT id, name, creator, serial, sponsor, created, transferred, updated, statuses, secret, postal_name, org, street, city, state, postal_code, country, voice, due, mail FROM contact WHERE due >= 0 AND due <= ?1 ORDER BY due, id LIMIT ?2"
 
 abbrev pub contact_by_sponsor_until_due : List ℕ
 contact_by_sponsor_until_due = codes "SELECT id, name, creator, serial, sponsor, created, transferred, updated, statuses, secret, postal_name, org, street, city, state, postal_code, country, voice, due, mail FROM contact WHERE sponsor = ?1 AND due >= 0 AND due <= ?2 ORDER BY id"
@@ -72,6 +72,12 @@ domain_create = codes "CREATE TABLE domain (id INTEGER PRIMARY KEY, name TEXT NO
 abbrev pub domain_all : List ℕ
 domain_all = codes "SELECT id, name, creator, serial, sponsor, created, years, transferred, updated, statuses, secret, registrant, deleted, restore_requested, due FROM domain ORDER BY id"
 
+abbrev pub domain_first : List ℕ
+domain_first = codes "SELECT id, name, creator, serial, sponsor, created, years, transferred, updated, statuses, secret, registrant, deleted, restore_requested, due FROM domain ORDER BY id LIMIT ?1"
+
+abbrev pub domain_after : List ℕ
+domain_after = codes "SELECT id, name, creator, serial, sponsor, created, years, transferred, updated, statuses, secret, registrant, deleted, restore_requested, due FROM domain WHERE id > ?1 ORDER BY id LIMIT ?2"
+
 abbrev pub domain_by_id : List ℕ
 domain_by_id = codes "SELECT id, name, creator, serial, sponsor, created, years, transferred, updated, statuses, secret, registrant, deleted, restore_requested, due FROM domain WHERE id = ?1 ORDER BY id"
 
@@ -85,7 +91,7 @@ abbrev pub domain_until_due : List ℕ
 domain_until_due = codes "SELECT id, name, creator, serial, sponsor, created, years, transferred, updated, statuses, secret, registrant, deleted, restore_requested, due FROM domain WHERE due <= ?1 ORDER BY due, id"
 
 abbrev pub domain_first_until_due : List ℕ
-domain_first_until_due = codes "SELECT id, name, creator, serial, sponsor, created, years, transferred, updated, statuses, secret, registrant, deleted, restore_requested, due FROM domain WHERE due <= ?1 ORDER BY due, id LIMIT 1"
+domain_first_until_due = codes "SELECT id, name, creator, serial, sponsor, created, years, transferred, updated, statuses, secret, registrant, deleted, restore_requested, due FROM domain WHERE due <= ?1 ORDER BY due, id LIMIT ?2"
 
 abbrev pub domain_by_sponsor_until_due : List ℕ
 domain_by_sponsor_until_due = codes "SELECT id, name, creator, serial, sponsor, created, years, transferred, updated, statuses, secret, registrant, deleted, restore_requested, due FROM domain WHERE sponsor = ?1 AND due <= ?2 ORDER BY id"

@@ -1,4 +1,4 @@
-use Rattle.std.proofs.Common.{inl, inr}
+use Rattle.std.proofs.Common.{inr}
 use Rattle.sqlobjects.proofs.StepLemmas.{asked-then}
 use Rattle.sqlterms.specs.inner.Changes.{IsTermsSet}
 use Rattle.sqlbook.specs.inner.Suiting.{IsSetDown}
@@ -12,4 +12,4 @@ returns g c =
     let new = c.set_terms.new.store in
     let asked = c.in_ok-no_domains.ensures {u = tt} in
     let made = c.in_ok-set_terms.ensures {u = tt} in
-    asked-then (IsTermsSet value) (IsSetDown value) old c.no_domains.new.store new asked.0 made (λ t it. set-down value old.content new.content it (inr (inl (asked.1 (made.clean t)))))
+    asked-then (IsTermsSet value) (IsSetDown value) old c.no_domains.new.store new asked.0 made (λ t it. set-down value old.content new.content it (inr (asked.1 (made.clean t))))

@@ -1,8 +1,9 @@
 use Rattle.std.proofs.Common.{Some, sym, ◌∙◌}
 use Rattle.sqlobjects.proofs.StepLemmas.{asked-then}
+use Rattle.sqlderived.specs.Redates.{is_live_right}
 use Rattle.sqlbook.specs.inner.Replacing.{IsReplaced}
 use Rattle.sqlbook.specs.inner.Suiting.{MeansSame}
-use Rattle.sqlbook.proofs.RedatingLemmas.{put-again}
+use Rattle.sqlbook.proofs.RedatingLemmas.{ended-deleted, put-again}
 use Rattle.sqlbook.proofs.redating.redate_one.Goals as goal
 
 pub returns : goal.returns
@@ -10,8 +11,8 @@ returns g c =
     let name = c.args.name.now in
     let days = c.args.days.now in
     let domain = c.in-Some.domain in
-    let due = c.in-Some-earlier_end.due in
+    let due = c.in-Some-end_of.due in
     let asked = c.in_ok-domain.ensures in
     let made = c.in_ok-replaced.ensures {u = tt} in
-    asked-then (IsReplaced name days (Some domain) due) MeansSame c.args.store.now c.domain.new.store c.replace-replaced.new.store asked.found.0 made
-    (λ e it. put-again name days domain due c.args.store.now.content c.replace-replaced.new.store.content it (sym (asked.found.1 (made.clean e)) ∙ c.in-Some.is) c.in-Some-earlier_end.ensures.bound)
+    asked-then (IsReplaced name is_live_right (Some domain) due) MeansSame c.args.store.now c.domain.new.store c.replace-replaced.new.store asked.found.0 made
+    (λ e it. put-again name domain due c.args.store.now.content c.replace-replaced.new.store.content it (sym (asked.found.1 (made.clean e)) ∙ c.in-Some.is) (ended-deleted days domain due (sym c.end_of.ensures ∙ c.in-Some-end_of.is)))
