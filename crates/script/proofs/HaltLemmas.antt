@@ -63,7 +63,7 @@ ends_halted p q exit end lines text line number before middle after a b old betw
     let here : HaltsAt p line number (append_known between pending) new exit = subst (λ (r : PolicyRules). HaltsAt r line number (append_known between pending) new exit) same halts in
     let at : HaltsAt p (strip_last 10 text) number (append_known between pending) new exit = subst (λ (l : List ℕ). HaltsAt p l number (append_known between pending) new exit) l here in
     let left = left_by exit q line middle after between new pending (IfSome a (λ input. Writes old new (BeginsBehind first p before after input)))
-        (λ begins. begun_at p q lines text line before middle after a b old between new first pending sent same l r t h is_printed s begins) breaks in
+    (λ begins. begun_at p q lines text line before middle after a b old between new first pending sent same l r t h is_printed s begins) breaks in
     let ends = ends_line exit p lines text number before middle after a b old (append_known between pending) new first r t h count is_printed at left in
     subst (λ (x : Exit). IfSome a (λ input. EndsBehind p before after input old first new x)) (sym e) ends
 

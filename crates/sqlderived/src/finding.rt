@@ -187,7 +187,12 @@ fn with_due_at(
     ensures { IfOk result (λ more. more.keys ≡ dues.with_due
         (dues.due_then ObjectKind.Domain (string_bytes name) (passed moment due)) found.keys) }
 {
-    with_due(found, ObjectKind::Domain, Text::from_string(name), come(due, moment))
+    with_due(
+        found,
+        ObjectKind::Domain,
+        Text::from_string(name),
+        come(due, moment),
+    )
 }
 
 /// The first moment, if it is no later than the second.

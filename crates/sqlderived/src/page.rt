@@ -32,9 +32,7 @@ pub fn first_due<S: Alter>(
 {
     match page_end(store, moment, most)? {
         None => first_of_all(store, alloc, moment, most, policy),
-        Some(end) => {
-            first_until(store, alloc, earlier_of(end, moment), moment, most, policy)
-        }
+        Some(end) => { first_until(store, alloc, earlier_of(end, moment), moment, most, policy) }
     }
 }
 
