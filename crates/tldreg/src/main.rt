@@ -1,7 +1,7 @@
 //! The program `tldreg`: the registry of a top-level domain.
 #![tactic(auto)]
 
-ghost use Rattle.std.specs.Prelude.{◌≡◌, false, IfErr, IfOk, IfSome, option_copied};
+ghost use Rattle.std.specs.Prelude.{◌≡◌, false, IfErr, IfOk, IfSome, None, option_copied};
 ghost use Rattle.protocol.specs.declared.order.OperatorRequest.TheVariants as requests;
 ghost use Rattle.protocol.specs.declared.order.Order.TheVariants as orders;
 ghost use Rattle.tldreg.specs.inner.Databases as databases;
@@ -172,8 +172,18 @@ fn work_then<B: Book + Drop>(
             moment,
             registrar,
             cents,
-        } => deposit(rt, registry, *moment, registrar.as_str(), *cents),
-        Job::Order { moment, json } => order(rt, registry, *moment, json.as_str()),
+        } => {
+            let mut registry = registry;
+            let ended = deposit(rt, &mut registry, *moment, registrar.as_str(), *cents);
+            drop(registry);
+            ended
+        }
+        Job::Order { moment, json } => {
+            let mut registry = registry;
+            let ended = order(rt, &mut registry, *moment, json.as_str());
+            drop(registry);
+            ended
+        }
     }
 }
 
@@ -292,26 +302,20 @@ fn zone_end(written: Result<(), ZoneExportFault>) -> Result<(), Exit>
     }
 }
 
-/// Enters what a registrar has paid at a moment, and prints the answer.
+/// Enters what a registrar has paid at a moment, and prints the answer. No clause knows what was printed.
 fn deposit<B: Book + Drop>(
     rt: &(impl Print + AllocGlobal),
-    registry: Registry<B>,
+    registry: &mut Registry<B>,
     moment: Moment,
     registrar: &str,
     cents: i64,
-) -> Result<(), Exit> {
-    let mut registry = registry;
+) -> Result<(), Exit>
+    ensures { EndsRequest registry.old.policy
+        (requests.Order (orders.Deposit registrar.now cents)) moment (B.state registry.old.book)
+        (B.state registry.new.book) None None result }
+{
     let mut out = io::writer(rt);
-    let ended = deposit_to(
-        rt.alloc(),
-        &mut registry,
-        moment,
-        registrar,
-        cents,
-        &mut out,
-    );
-    drop(registry);
-    ended
+    deposit_to(rt.alloc(), registry, moment, registrar, cents, &mut out)
 }
 
 /// The same, with the answer written, and how the program ends.
@@ -330,17 +334,17 @@ fn deposit_to<B: Book + Drop, W: Write>(
     request_end(deposit_on(alloc, registry, moment, registrar, cents, out))
 }
 
-/// Carries out what the operator sends at a moment, and prints the answer.
+/// Carries out what the operator sends at a moment, and prints the answer. No clause knows what was printed.
 fn order<B: Book + Drop>(
     rt: &(impl Print + AllocGlobal),
-    registry: Registry<B>,
+    registry: &mut Registry<B>,
     moment: Moment,
     json: &str,
-) -> Result<(), Exit> {
-    let mut registry = registry;
-    let ended = order_to(rt.alloc(), &mut registry, moment, json, &mut io::writer(rt));
-    drop(registry);
-    ended
+) -> Result<(), Exit>
+    ensures { EndsOrder registry.old.policy json.now moment (B.state registry.old.book)
+        (B.state registry.new.book) None None result }
+{
+    order_to(rt.alloc(), registry, moment, json, &mut io::writer(rt))
 }
 
 /// The same, with the answer written, and how the program ends.
