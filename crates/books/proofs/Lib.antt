@@ -5,3 +5,4 @@ pub mod LinesOnLemmas
 pub mod RenameLemmas
 pub mod KeptLemmas
 pub mod PostingLemmas
+pub mod GroupingLemmas

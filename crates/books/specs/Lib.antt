@@ -7,3 +7,4 @@ pub mod Records
 pub mod Tables
 pub mod Kept
 pub mod Once
+pub mod Grouping

@@ -4,6 +4,7 @@ ghost use Rattle.books.specs.Book.{with_changes};
 ghost use Rattle.states.specs.States.{Makes};
 ghost use Rattle.books.specs.Tables.{clock_set, contact_left, contact_put, domain_left, domain_put};
 
+use crate::grouping::{first_account, moved_up};
 use crate::posting::post;
 use crate::records::Records;
 use basis::list::Seq;
@@ -14,7 +15,8 @@ use objects::{Contact, Domain};
 use policy::Policy;
 use states::BookFault;
 
-/// Makes changes, one after another.
+/// Makes changes: those of the account that comes first, then those of objects, and then those of other
+/// accounts. So records that have one account at hand come to each of them once.
 pub(crate) fn apply<R: Records>(
     records: &mut R,
     changes: Seq<Change>,
@@ -24,7 +26,11 @@ pub(crate) fn apply<R: Records>(
     ensures { Makes result (with_changes policy.now changes (R.kept records.old).content)
         (R.kept records.old) (R.kept records.new) }
 {
-    apply_each(records, changes.into_vec(), policy)
+    let changes = changes.into_vec();
+    let first = first_account(changes.as_slice());
+    let changes = moved_up(records.alloc(), changes, None)?;
+    let changes = moved_up(records.alloc(), changes, first)?;
+    apply_each(records, changes, policy)
 }
 
 /// Makes changes, one after another.

@@ -7,6 +7,7 @@ mod book;
 mod concerning;
 mod faces;
 mod finding;
+mod grouping;
 mod kept;
 mod once;
 mod posting;
