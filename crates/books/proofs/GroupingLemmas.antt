@@ -16,7 +16,7 @@ use Rattle.decisions.specs.Changes.{changed, changed_all, host_renamed, itself, 
 use Rattle.decisions.specs.declared.change.Change.{Change}
 use Rattle.decisions.specs.declared.change.Change.TheVariants.{MoveClock, OpenAccount, PutContact, DropContact, PutDomain, DropDomain, PutHost, DropHost, RenameHost, LapseContact, LapseDomain, Post}
 use Rattle.books.specs.Book.{Stored, with_changes}
-use Rattle.books.specs.Grouping.{account_in, is_in, moved_up}
+use Rattle.books.specs.inner.Grouping.{account_in, is_in, moved_up}
 
 renamed-beside : (old : List ℕ) (h : Host) (r : ℕ) (f : Account → Account) (s : Registry) (b : Bool) → cond b (host_renamed old h (with_account r f s)) (with_account r f s) ≡ with_account r f (cond b (host_renamed old h s) s)
 renamed-beside old h r f s true = refl

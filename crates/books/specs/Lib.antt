@@ -7,4 +7,4 @@ pub mod Records
 pub mod Tables
 pub mod Kept
 pub mod Once
-pub mod Grouping
+pub mod inner

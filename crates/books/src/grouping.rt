@@ -1,6 +1,6 @@
 //! Changes of one account, and of objects, together.
 ghost use Rattle.std.specs.Prelude.{◌≡◌, IfOk};
-ghost use Rattle.books.specs.Grouping as spec;
+ghost use Rattle.books.specs.inner.Grouping as spec;
 
 use basis::registrar::RegistrarNo;
 use decisions::Change;

@@ -1,6 +1,6 @@
 use Rattle.std.proofs.Common.{ap, subst, ◌∙◌}
 use Rattle.books.specs.Book.{Stored}
-use Rattle.books.specs.Grouping.{moved_up}
+use Rattle.books.specs.inner.Grouping.{moved_up}
 use Rattle.states.specs.States.{Makes}
 use Rattle.books.proofs.GroupingLemmas.{moved-twice}
 use Rattle.books.proofs.applying.apply.Goals as goal

@@ -1,6 +1,6 @@
 use Rattle.std.proofs.Common.{◌≡◌, ◌++◌}
 use Rattle.std.specs.Prelude.{filter, not}
-use Rattle.books.specs.Grouping.{is_in}
+use Rattle.books.specs.inner.Grouping.{is_in}
 use Rattle.books.proofs.grouping.moved_up.Given as goal
 
 -- with those of the changes that are left, all of them

@@ -1,0 +1,2 @@
+-- Words for this crate's own functions, which no promise of the registry names.
+pub mod Grouping
