@@ -1,14 +1,19 @@
 -- How the program ends where a registry of the schema before this one is taken over, and where it isn't.
-use Rattle.std.specs.Prelude.{◌≡◌, Result, Ok, Err, ⊤}
+use Rattle.std.specs.Prelude.{◌≡◌, ◌⊎◌, Result, Ok, Err, ⊤}
+use Rattle.oldrows.specs.inner.Adoption.{IsAdopted as IsOldAdopted}
 use Rattle.oldrows.specs.Stored.{OldState}
 use Rattle.policy.specs.Rules.{PolicyRules}
 use Rattle.registry.specs.declared.fault.OpenFault.TheVariants as opening
+use Rattle.script.specs.Exits.{exit_of_book}
 use Rattle.script.specs.declared.exit.Exit.{Exit}
 use Rattle.script.specs.declared.exit.Exit.TheVariants as exits
+use Rattle.sqlite_trees.specs.Tree.{Trees}
+use Rattle.sqltables.specs.Adoption.{IsAdopted}
 use Rattle.sqltables.specs.Content.{Content}
 use Rattle.sqltables.specs.declared.adoption.Unadopted.{Unadopted}
 use Rattle.sqltables.specs.declared.adoption.Unadopted.TheVariants as unadopted
 use Rattle.states.specs.States.{StateOf}
+use Rattle.states.specs.declared.fault.BookFault.{BookFault}
 use Rattle.takeover.specs.Migrating.{Migrates}
 use Rattle.takeover.specs.declared.migrating.MigrateFault.{MigrateFault}
 use Rattle.takeover.specs.declared.migrating.MigrateFault.TheVariants as faults
@@ -34,3 +39,11 @@ abbrev pub EndsTakeover : PolicyRules → (from read : OldState) → (to written
     → Type 0
 EndsTakeover p from read to written exit =
     (tried : Result ⊤ MigrateFault) × Migrates tried p from read to written × (exit ≡ exit_after tried)
+
+-- The same of two databases with these trees, where one of them may not be taken up.
+abbrev pub EndsMigration : PolicyRules → (from to : Trees) → Exit → Type 0
+EndsMigration p from to exit =
+    ((fault : BookFault) × (exit ≡ exit_of_book fault))
+    ⊎ (((cause : Unadopted) × (exit ≡ exit_of_unadopted cause))
+    ⊎ ((old read : OldState) × (new written : StateOf Content) × IsOldAdopted from old × IsAdopted to new
+    × EndsTakeover p old read new written exit))

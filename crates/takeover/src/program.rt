@@ -1,7 +1,8 @@
 //! A registry of the schema before this one, taken over.
 ghost use Rattle.std.specs.Prelude.{◌≡◌, false};
+ghost use Rattle.sqlite.specs.Held.{state};
 ghost use Rattle.takeover.specs.Ends as spec;
-ghost use Rattle.takeover.specs.Ends.{EndsTakeover};
+ghost use Rattle.takeover.specs.Ends.{EndsMigration, EndsTakeover};
 
 use crate::migrating::{MigrateFault, migrate};
 use oldrows::OldRows;
@@ -19,7 +20,10 @@ pub fn migrate_on<S: Alter + Drop, T: Alter + Drop>(
     policy: &Policy,
     from: Connection<S>,
     to: Connection<T>,
-) -> Exit {
+) -> Exit
+    ensures { EndsMigration policy.now (state S.Store from).committed.trees
+        (state T.Store to).committed.trees result }
+{
     let mut from = match OldRows::adopt(from, alloc) {
         Ok(from) => from,
         Err((fault, _)) => return Exit::from(fault),

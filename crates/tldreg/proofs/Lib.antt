@@ -1,3 +1,4 @@
+mod EndLemmas
 mod WordLemmas
-pub mod OptionLemmas
 pub mod AskingLemmas
+pub mod OptionLemmas

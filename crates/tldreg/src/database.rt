@@ -1,12 +1,13 @@
 //! The database of a command line, and the policy that it is opened under.
 ghost use Rattle.std.specs.Prelude.{◌≡◌, false, IfErr, IfOk, bytes_eq, codes, string_bytes};
+ghost use Rattle.books.specs.Book.{BookState};
+ghost use Rattle.registry.specs.Calls.{IsOpenedAs, IsRefused};
 ghost use Rattle.script.specs.declared.exit.Exit.TheVariants as exits;
-ghost use Rattle.script.specs.Exits.{exit_of_book};
 ghost use Rattle.tldreg.specs.inner.Databases as spec;
 
-use books::{Book, BookFault};
+use books::Book;
 use policy::{Policy, PolicyFile};
-use registry::Registry;
+use registry::{OpenFault, Registry};
 use script::Exit;
 use std::alloc::Global;
 use std::fs;
@@ -39,21 +40,20 @@ pub fn file_in(rt: &(impl Files + AllocGlobal), path: &str) -> Result<PolicyFile
     }
 }
 
-/// A registry over a book, if it was made, in which no transaction is open.
+/// A registry over a book in which no transaction is open. One that is refused is let go.
 pub fn open<B: Book + Drop>(
     alloc: Global,
-    made: Result<B, BookFault>,
+    book: B,
     policy: Policy,
-) -> Result<Registry<B>, Exit>
-    requires { IfOk made (λ book. (B.state book).is_open ≡ false) }
-    ensures { IfErr made (λ fault. result ≡ Err (exit_of_book fault)) }
+) -> Result<Registry<B>, OpenFault>
+    requires { (B.state book).is_open ≡ false }
+    ensures opened { IfOk result (λ registry. IsOpenedAs policy registry.policy (B.state book)
+        (B.state registry.book)) }
+    ensures refused { IfErr result (λ fault. (left : BookState) × IsRefused fault policy
+        (B.state book) left) }
 {
-    let book = match made {
-        Ok(book) => book,
-        Err(fault) => return Err(Exit::from(fault)),
-    };
     match Registry::open(alloc, book, policy) {
         Ok(registry) => Ok(registry),
-        Err((fault, _)) => Err(Exit::Open(fault)),
+        Err((fault, _)) => Err(fault),
     }
 }

@@ -2,11 +2,15 @@
 #![tactic(auto)]
 
 ghost use Rattle.std.specs.Prelude.{◌≡◌, false, IfErr, IfOk, IfSome, None, option_copied};
+ghost use Rattle.script.specs.Exits.{exit_of_book, result_of};
+ghost use Rattle.sqlite.specs.Held.{state};
+ghost use Rattle.takeover.specs.Ends.{EndsMigration};
+ghost use Rattle.script.specs.declared.exit.Exit.{Exit as Ended};
 ghost use Rattle.protocol.specs.declared.order.OperatorRequest.TheVariants as requests;
 ghost use Rattle.protocol.specs.declared.order.Order.TheVariants as orders;
 ghost use Rattle.tldreg.specs.inner.Databases as databases;
 ghost use Rattle.tldreg.specs.inner.Ends as spec;
-ghost use Rattle.tldreg.specs.inner.Ends.{EndsOrder, EndsRequest, EndsZone};
+ghost use Rattle.tldreg.specs.inner.Ends.{EndsJob, EndsOpening, EndsOrder, EndsRequest, EndsWithin, EndsZone};
 ghost use Rattle.tldreg.specs.inner.Words as words;
 
 mod command_line;
@@ -109,9 +113,14 @@ fn work_over<B: Book + Drop>(
     means: &Means<'_>,
 ) -> Result<(), Exit>
     requires { IfOk made (λ book. (B.state book).is_open ≡ false) }
+    ensures unmade { IfErr made (λ fault. result ≡ Err (exit_of_book fault)) }
+    ensures made { IfOk made (λ book. EndsOpening means.now.settings.now.within policy job.now
+        (B.state book) result) }
 {
-    let registry = open(rt.alloc(), made, policy)?;
-    work(rt, registry, job, means)
+    match made {
+        Ok(book) => work_with(rt, open(rt.alloc(), book, policy), job, means),
+        Err(fault) => Err(Exit::from(fault)),
+    }
 }
 
 /// The same with a registry, if it was opened.
@@ -121,7 +130,9 @@ fn work_with<B: Book + Drop>(
     job: &Job,
     means: &Means<'_>,
 ) -> Result<(), Exit>
-    ensures { IfErr opened (λ fault. result ≡ Err (Exit.Open fault)) }
+    ensures failed { IfErr opened (λ fault. result ≡ Err (Exit.Open fault)) }
+    ensures done { IfOk opened (λ registry. EndsWithin means.now.settings.now.within registry.policy
+        job.now (B.state registry.book) result) }
 {
     match opened {
         Ok(registry) => work(rt, registry, job, means),
@@ -135,11 +146,15 @@ fn work<B: Book + Drop>(
     registry: Registry<B>,
     job: &Job,
     means: &Means<'_>,
-) -> Result<(), Exit> {
+) -> Result<(), Exit>
+    ensures { EndsWithin means.now.settings.now.within registry.policy job.now
+        (B.state registry.book) result }
+{
+    let Some(days) = means.settings.within else {
+        return work_then(rt, registry, job, means);
+    };
     let mut registry = registry;
-    if let Some(days) = means.settings.within {
-        require_near(&mut registry, moment_of(rt, job), days)?;
-    }
+    require_near(&mut registry, moment_of(rt, job), days)?;
     work_then(rt, registry, job, means)
 }
 
@@ -159,7 +174,9 @@ fn work_then<B: Book + Drop>(
     registry: Registry<B>,
     job: &Job,
     means: &Means<'_>,
-) -> Result<(), Exit> {
+) -> Result<(), Exit>
+    ensures { EndsJob registry.policy job.now (B.state registry.book) result }
+{
     match job {
         Job::Serve { port } => serve(rt, registry, *port, means),
         Job::ServeBoth {
@@ -167,7 +184,12 @@ fn work_then<B: Book + Drop>(
             operator_port,
             ..
         } => serve_both(rt, registry, *port, *operator_port, means),
-        Job::Zone { moment } => zone(rt, registry, *moment),
+        Job::Zone { moment } => {
+            let mut registry = registry;
+            let ended = zone(rt, &mut registry, *moment);
+            drop(registry);
+            ended
+        }
         Job::Deposit {
             moment,
             registrar,
@@ -265,16 +287,16 @@ fn serve_office<B: Book + Drop>(
     );
 }
 
-/// Prints the zone at a moment.
+/// Prints the zone at a moment. No clause knows what was printed.
 fn zone<B: Book + Drop>(
     rt: &(impl Print + AllocGlobal),
-    registry: Registry<B>,
+    registry: &mut Registry<B>,
     moment: Moment,
-) -> Result<(), Exit> {
-    let mut registry = registry;
-    let ended = zone_to(rt.alloc(), &mut registry, moment, &mut io::writer(rt));
-    drop(registry);
-    ended
+) -> Result<(), Exit>
+    ensures { EndsZone registry.old.policy moment (B.state registry.old.book)
+        (B.state registry.new.book) None None result }
+{
+    zone_to(rt.alloc(), registry, moment, &mut io::writer(rt))
 }
 
 /// Writes the zone at a moment, and says how the program ends.
@@ -409,7 +431,10 @@ fn migrate_to<S: Alter + Drop, T: Alter + Drop>(
     from: Connection<S>,
     to: Result<Connection<T>, OpenFault>,
 ) -> Result<(), Exit>
-    ensures { IfErr to (λ fault. result ≡ Err (Exit.Open fault)) }
+    ensures unopened { IfErr to (λ fault. result ≡ Err (Exit.Open fault)) }
+    ensures tried { IfOk to (λ to. (exit : Ended) × EndsMigration policy.now
+        (state S.Store from).committed.trees (state T.Store to).committed.trees exit
+        × (result ≡ result_of exit)) }
 {
     match to {
         Ok(to) => migrate_on(rt.alloc(), policy, from, to).result(),
@@ -441,17 +466,33 @@ fn perform(rt: &HostRuntime) -> Result<(), End> {
 }
 
 fn main(rt: HostRuntime) -> ExitCode {
-    match perform(&rt) {
-        Ok(()) => ExitCode::from(0),
+    let done = perform(&rt);
+    tell(&rt, &done);
+    ExitCode::from(status_of(&done))
+}
+
+/// Prints the line of standard error, where there is one.
+fn tell(rt: &impl Eprint, done: &Result<(), End>) {
+    match done {
+        Ok(()) => {}
         Err(End::Exit(exit)) => {
             if exit.has_line() {
                 let _ = eprintln!(rt; "{exit}");
             }
-            ExitCode::from(exit.status())
         }
         Err(End::Token(unfit)) => {
             let _ = eprintln!(rt; "{}", unfit.text());
-            ExitCode::from(1)
         }
+    }
+}
+
+/// The exit status.
+fn status_of(done: &Result<(), End>) -> u8
+    ensures { result ≡ spec.status_of done.now }
+{
+    match done {
+        Ok(()) => 0,
+        Err(End::Exit(exit)) => exit.status(),
+        Err(End::Token(_)) => 1,
     }
 }

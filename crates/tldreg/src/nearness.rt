@@ -17,8 +17,9 @@ pub fn require_near<B: Book + Drop>(
     moment: Moment,
     days: u32,
 ) -> Result<(), Exit>
-    ensures { spec.IsNear registry.old.policy moment days (B.state registry.old.book)
+    ensures near { spec.IsNear registry.old.policy moment days (B.state registry.old.book)
         (B.state registry.new.book) result }
+    ensures policy { registry.new.policy ≡ registry.old.policy }
 {
     near_end(registry.greet(Moment::first()), moment, days)
 }

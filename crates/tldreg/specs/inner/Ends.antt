@@ -1,5 +1,5 @@
 -- How the program ends, by what its calls answered.
-use Rattle.std.specs.Prelude.{◌≡◌, ℕ, Bool, true, not, nat_eq, bit_and, List, Option, Result, Ok, Err, OnOk, IfOk, IfErr, ⊤, codes}
+use Rattle.std.specs.Prelude.{◌≡◌, ◌⊎◌, ℕ, Bool, true, not, nat_eq, bit_and, List, Option, Some, None, Result, Ok, Err, OnOk, IfOk, IfErr, IfSome, ⊤, codes, string_bytes}
 use Rattle.std.specs.Io.KnownBytes.{Appends}
 use Rattle.books.specs.Book.{BookState}
 use Rattle.operator.specs.declared.token.TokenFault.{TokenFault}
@@ -8,7 +8,13 @@ use Rattle.policy.specs.Rules.{PolicyRules}
 use Rattle.protocol.specs.declared.code.Code.{Code}
 use Rattle.protocol.specs.declared.code.Code.TheVariants.{Completed}
 use Rattle.protocol.specs.declared.order.OperatorRequest.{OperatorRequest}
+use Rattle.protocol.specs.declared.order.OperatorRequest.TheVariants as requests
+use Rattle.protocol.specs.declared.order.Order.TheVariants as orders
+use Rattle.registry.specs.Opening.{Opens}
+use Rattle.registry.specs.Calls.{IsRefused}
+use Rattle.registry.specs.declared.fault.OpenFault.{OpenFault}
 use Rattle.script.specs.Deposits.{EndsUnprinted}
+use Rattle.script.specs.Exits.{status_of as status_of_exit}
 use Rattle.script.specs.Orders.{EndsUnanswered, IsOrdered, PrintsAnswer}
 use Rattle.script.specs.declared.exit.Exit.{Exit}
 use Rattle.script.specs.declared.exit.Exit.TheVariants as exits
@@ -17,10 +23,14 @@ use Rattle.server.specs.ZoneExport.{StopsAs, zone_at}
 use Rattle.server.specs.declared.zone.ZoneExportFault.{ZoneExportFault}
 use Rattle.server.specs.declared.zone.ZoneExportFault.TheVariants as exports
 use Rattle.zonefile.specs.declared.fault.ZoneFault.TheVariants as zones
+use Rattle.tldreg.specs.declared.command_line.Job.{Job}
+use Rattle.tldreg.specs.declared.command_line.Job.TheVariants as jobs
 use Rattle.tldreg.specs.declared.token.End.{End}
 use Rattle.tldreg.specs.declared.token.End.TheVariants as ends
 use Rattle.tldreg.specs.declared.token.Unfit.{Unfit}
 use Rattle.tldreg.specs.declared.token.Unfit.TheVariants as unfit
+use Rattle.tldreg.specs.inner.Nearness.{IsNear}
+use Rattle.tldreg.specs.inner.Words.{moment_of}
 
 -- an order that was answered another code than 1000 was refused
 abbrev pub end_of : Code → Result ⊤ Exit
@@ -66,6 +76,43 @@ EndsZone p moment old new before after result =
     × IfErr written (λ fault. new.is_clean ≡ true
     → StopsAs fault before after (zone_at p moment old.content.registry))
     × Passes p moment old new
+
+-- ---- jobs
+
+-- A job with the registry of a book ends so. One that serves ends where it can't.
+abbrev pub EndsJob : PolicyRules → Job → BookState → Result ⊤ Exit → Type 0
+EndsJob p (jobs.Serve port) old result = result ≡ Err exits.Network
+EndsJob p (jobs.ServeBoth port operator_port token_file) old result = result ≡ Err exits.Network
+EndsJob p (jobs.Zone moment) old result = (new : BookState) × EndsZone p moment old new None None result
+EndsJob p (jobs.Deposit moment registrar cents) old result =
+    (new : BookState) × EndsRequest p (requests.Order (orders.Deposit (string_bytes registrar) cents)) moment old new None None result
+EndsJob p (jobs.Order moment json) old result =
+    (new : BookState) × EndsOrder p (string_bytes json) moment old new None None result
+
+-- the same behind what may end the program before
+abbrev pub EndsJobAfter : Result ⊤ Exit → PolicyRules → Job → BookState → Result ⊤ Exit → Type 0
+EndsJobAfter (Ok done) p job old result = EndsJob p job old result
+EndsJobAfter (Err exit) p job old result = result ≡ Err exit
+
+-- the same, if its moment must be within so many days of the registry's clock
+abbrev pub EndsWithin : Option ℕ → PolicyRules → Job → BookState → Result ⊤ Exit → Type 0
+EndsWithin None p job old result = EndsJob p job old result
+EndsWithin (Some days) p job old result =
+    (moment : ℕ) × IfSome (moment_of job) (λ given. moment ≡ given)
+    × (near : Result ⊤ Exit) × (between : BookState) × IsNear p moment days old between near
+    × EndsJobAfter near p job between result
+
+-- the same with a book that isn't opened yet
+abbrev pub EndsOpening : Option ℕ → PolicyRules → Job → BookState → Result ⊤ Exit → Type 0
+EndsOpening days p job old result =
+    ((fault : OpenFault) × (left : BookState) × IsRefused fault p old left × (result ≡ Err (exits.Open fault)))
+    ⊎ ((opened : BookState) × Opens p old opened × EndsWithin days p job opened result)
+
+-- the exit status
+abbrev pub status_of : Result ⊤ End → ℕ
+status_of (Ok done) = 0
+status_of (Err (ends.Exit exit)) = status_of_exit exit
+status_of (Err (ends.Token fault)) = 1
 
 -- ---- the operator's token
 
