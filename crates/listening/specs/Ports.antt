@@ -6,20 +6,20 @@ use Rattle.operator.specs.declared.serving.RequestEnd.{RequestEnd}
 use Rattle.policy.specs.Rules.{PolicyRules}
 use Rattle.server.specs.Connections.{Serves}
 use Rattle.server.specs.declared.connection.ConnectionEnd.{ConnectionEnd}
-use Rattle.books.specs.Book.{BookState}
+use Rattle.books.specs.Book.{BookState, Follows}
 
 -- by which port a connection came, and how it ended
 pub data PortTurn : Type 0 where
   public : ConnectionEnd → PortTurn
   office : RequestEnd → PortTurn
 
--- what a connection leaves: what a session's steps or a look-up do, or what a request does that was made with these
--- credentials
+-- What a connection leaves: what a session's steps or a look-up do, or what a request does that was made with these
+-- credentials. What is taken wrongly in it isn't forgotten.
 abbrev pub Leaves : PolicyRules → List (List ℕ) → List ℕ → PortTurn → BookState → BookState → Type 0
 Leaves p passwords credentials (public end) old new =
     Serves p passwords None None old None None None new end
 Leaves p passwords credentials (office end) old new =
-    Operates p credentials None None old None None None new end
+    Operates p credentials None None old None None None new end × Follows old new
 
 abbrev pub LeavesOne : PolicyRules → List (List ℕ) → List ℕ → BookState → BookState → Type 0
 LeavesOne p passwords credentials old new =

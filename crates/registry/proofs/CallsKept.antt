@@ -1,5 +1,5 @@
 -- What every call keeps follows from the question that it answers.
-use Rattle.std.proofs.Common.{◌≡◌, ℕ, ◌≤◌, max, true, Result, Ok, Err, IfOk, Some, inr, refl, sym, ap, subst, ◌∙◌, arith}
+use Rattle.std.proofs.Common.{◌≡◌, ℕ, ◌≤◌, max, true, Result, Ok, Err, IfOk, Some, refl, sym, ap, subst, ◌∙◌, arith}
 use Rattle.model.specs.Lapse.{lapsed, now}
 use Rattle.model.specs.Money.{MoneyFollows}
 use Rattle.model.specs.Registry.{Registry}
@@ -18,7 +18,7 @@ use Rattle.registry.specs.Crashes.{GivesUpTo, Makes}
 use Rattle.registry.specs.Faults.{of_book}
 use Rattle.registry.specs.inner.Steps.{Keeps}
 use Rattle.registry.specs.Money.{CallKeepsMoney}
-use Rattle.registry.specs.WellFormed.{BookCanBeReopened, CallKeepsWellFormed, KeepsWellFormed, StaysWellFormed}
+use Rattle.registry.specs.WellFormed.{CallKeepsWellFormed, KeepsWellFormed, StaysWellFormed}
 use Rattle.decisions.specs.Askable.{CanBeAsked}
 use Rattle.decisions.specs.Orders.{order_effect}
 use Rattle.decisions.specs.Steps.{effect}
@@ -44,11 +44,6 @@ keeps-after-order p o moment early before after left is =
 
 keeps-in-time : (p : PolicyRules) (moment : ℕ) → moment ≤ last_clock → (before after : Registry) → now p after ≡ now p (lapsed p moment before) → KeepsWellFormed p before after
 keeps-in-time p moment early before after left is = subst (IsRegistry p) (sym left) (registry-now p (lapsed p moment before) (registry-lapsed p moment before early is))
-
--- ---- opened again
-
-pub reopened : (p : PolicyRules) (state : BookState) → (state.is_clean ≡ true → state.content.terms ≡ Some (terms_of p)) → BookCanBeReopened p state
-reopened p state kept clean formed = inr (p, kept clean, formed)
 
 -- ---- refusals stay counted
 
@@ -96,7 +91,7 @@ module _ (p : PolicyRules) (sound : IsSound p) (moment : ℕ) (early : moment �
     crash = step.crash;
     answered = record {
       terms = step.terms;
-      reopens = reopened p new (λ clean. step.terms clean ∙ held (step.follows.clean clean));
+      has_terms = λ clean. step.terms clean ∙ held (step.follows.clean clean);
       well_formed = λ clean. formed x may old.content.registry new.content.registry (as_answer it) (is clean);
       money = λ clean. paid x old.content.registry new.content.registry (as_answer it) (is clean);
       two_runs = λ clean. calls-are-steps-of-two p moment x old.content.registry new.content.registry (as_answer it) (is clean).answered (is clean).left;

@@ -11,15 +11,15 @@ use Rattle.registry.specs.Execution.{SameTerms}
 use Rattle.registry.specs.Money.{BookKeepsMoney}
 use Rattle.registry.specs.Opening.{IsOurs, Opens, Refuses, RefusesOurs}
 use Rattle.registry.specs.TwoRuns.{BookTellsAlike, StepsOfTwo}
-use Rattle.registry.specs.WellFormed.{BookCanBeReopened, BookKeepsWellFormed, BookOpensWellFormed}
+use Rattle.registry.specs.WellFormed.{BookKeepsWellFormed, BookOpensWellFormed, HasTermsOf}
 use Rattle.books.specs.Book.{BookState, Follows, LeavesItself, Stored}
 
--- A question was answered at a moment. The book is kept under the same terms and can be opened again; a well
--- formed registry stays one; the money of every account follows; and in any other registry that is one with
+-- A question was answered at a moment. The book is kept under the policy's terms, as it was; a well formed registry
+-- stays one; the money of every account follows; and in any other registry that is one with
 -- this one but for what others hide, an alike question goes on alike.
 pub record IsKept (p : PolicyRules) (moment : ℕ) (x : Question) (a : Answer) (old new : BookState) : Type 0 where
   pub terms : SameTerms old new
-  pub reopens : BookCanBeReopened p new
+  pub has_terms : HasTermsOf p new
   pub well_formed : BookKeepsWellFormed p x old new
   pub money : BookKeepsMoney p moment x old new
   pub two_runs : StepsOfTwo p moment x a old new
@@ -46,14 +46,14 @@ pub record StepKeeps {A : Type 0} (p : PolicyRules) (makes : Stored → Stored �
   pub terms : OnOk result (SameTerms old new)
 
 -- A book was opened under a policy. A new book, or one of a well formed registry, holds a well formed
--- registry, and can be opened again; from what it holds on, alike lists tell each registrar the same; and a
+-- registry, under the policy's terms; from what it holds on, alike lists tell each registrar the same; and a
 -- crash of the machine leaves what is held, and nothing else.
 pub record IsOpenedAs (p : PolicyRules) (after : PolicyRules) (old new : BookState) : Type 0 where
   pub policy : after ≡ p
   pub opens : Opens p old new
   pub ours : IsOurs old new
   pub well_formed : BookOpensWellFormed p old new
-  pub reopens : BookCanBeReopened p new
+  pub has_terms : HasTermsOf p new
   pub tells_alike : BookTellsAlike p new
   pub crash : LeavesItself new
   pub follows : Follows old new

@@ -28,10 +28,6 @@ HoldsRegistry held =
 abbrev pub OpensWellFormed : PolicyRules → Stored → Stored → Type 0
 OpensWellFormed p before after = HoldsRegistry before → IsRegistry p (now p after.registry)
 
--- the book of a well formed registry can be opened again: it holds one
-abbrev pub CanBeReopened : PolicyRules → Stored → Type 0
-CanBeReopened p held = IsRegistry p (now p held.registry) → HoldsRegistry held
-
 -- ---- of books, if nothing wrong was taken from what keeps them
 
 -- so every call keeps it, a command where its registrar's numbers are far from the greatest
@@ -49,5 +45,6 @@ BookKeepsWellFormed p x old new =
 abbrev pub BookOpensWellFormed : PolicyRules → BookState → BookState → Type 0
 BookOpensWellFormed p old new = new.is_clean ≡ true → OpensWellFormed p old.content new.content
 
-abbrev pub BookCanBeReopened : PolicyRules → BookState → Type 0
-BookCanBeReopened p state = state.is_clean ≡ true → CanBeReopened p state.content
+-- The policy's terms stand in the book. So one of a well formed registry can be opened again: it holds one.
+abbrev pub HasTermsOf : PolicyRules → BookState → Type 0
+HasTermsOf p state = state.is_clean ≡ true → state.content.terms ≡ Some (terms_of p)

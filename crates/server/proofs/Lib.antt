@@ -4,4 +4,5 @@ mod HttpLemmas
 mod PublicLemmas
 pub mod ListeningLemmas
 mod SessionRunLemmas
+mod AlikeSessionLemmas
 mod ClosingLemmas

@@ -9,7 +9,9 @@ use Rattle.eppwire.specs.Answers.{Tells, caller_of, greeting_outcome, login_code
 use Rattle.model.specs.Lapse.{now}
 use Rattle.model.specs.Registry.{Registry}
 use Rattle.policy.specs.Rules.{PolicyRules}
-use Rattle.isolation.specs.Runs.{Answer, Question, code, command, date, dated, inspected, reply, shown}
+use Rattle.isolation.specs.Alike.{AreAlike, Pair, same}
+use Rattle.isolation.specs.Redaction.{AreOne, Objects}
+use Rattle.isolation.specs.Runs.{Answer, Question, code, command, date, dated, inspected, is_asked_by, reply, shown}
 use Rattle.protocol.specs.declared.session.BeforeLogin.{BeforeLogin}
 use Rattle.protocol.specs.declared.session.BeforeLogin.TheVariants as before
 use Rattle.protocol.specs.declared.session.InSession.{InSession}
@@ -219,3 +221,41 @@ SessionsAreAlike =
     → now p old.peer.book.content.registry ≡ now p other.peer.book.content.registry
     → (written ≡ sent) × (end ≡ ending)
     × (now p new.peer.book.content.registry ≡ now p another.peer.book.content.registry)
+
+-- ---- registries that differ in what others hide
+
+-- the frame of the logout that a session ended with, if it did
+abbrev pub logout_of : {S : Type 0} {answers : S → ℕ → List ℕ → Outcome → S → Type 0} {old new : SessionState S} {written : List ℕ} (end : SessionEnd)
+    → Session answers old written new end → List Turn
+logout_of Logout s = s.ends.0 ∷ []
+logout_of other s = []
+
+-- what all frames ask of a session that nothing disturbed, its logout among them
+abbrev pub asked_in : {p : PolicyRules} {passwords : List (List ℕ)} {input clock : List ℕ} {old new : SessionState Desk} {written : List ℕ} {end : SessionEnd}
+    → IsUndisturbed p passwords input clock old written new end → List (ℕ × Question)
+asked_in {p} {passwords} {old} {end} one =
+    asked_over p passwords old.peer.caller (one.session.turns ++ logout_of end one.session)
+
+-- the same questions in both registries
+abbrev pub sames : List (ℕ × Question) → List (ℕ × Pair)
+sames questions = map (λ (q : ℕ × Question). (q.0, same q.1)) questions
+
+-- Two registries that a registrar can't tell apart by these questions. They are one for it now but for what is
+-- touched. It may have asked every question. In neither registry does it present a right secret of what is touched.
+pub record AreOneFor (p : PolicyRules) (r : ℕ) (touched : Objects) (questions : List (ℕ × Question)) (s t : Registry) : Type 0 where
+  pub one : AreOne r touched (now p s) (now p t)
+  pub asks : list_all (λ q. is_asked_by r q.1) questions ≡ true
+  pub alike : AreAlike p r touched (sames questions) s t
+
+-- Two sessions that nothing disturbed, of one caller, with the same bytes as their input, at the same moments. A
+-- registrar can't tell their registries apart by what the frames ask. Then they are sent the same bytes, end alike, and
+-- leave registries that are one for it again, but for what is touched.
+abbrev pub SessionsTellTheSame : Type 0
+SessionsTellTheSame =
+    (p : PolicyRules) (passwords : List (List ℕ)) (r : ℕ) (touched : Objects) (input clock : List ℕ)
+    (old other new another : SessionState Desk) (written sent : List ℕ) (end ending : SessionEnd)
+    (one : IsUndisturbed p passwords input clock old written new end)
+    → IsUndisturbed p passwords input clock other sent another ending → old.peer.caller ≡ other.peer.caller
+    → AreOneFor p r touched (asked_in one) old.peer.book.content.registry other.peer.book.content.registry
+    → (written ≡ sent) × (end ≡ ending)
+    × AreOne r touched (now p new.peer.book.content.registry) (now p another.peer.book.content.registry)

@@ -40,10 +40,14 @@ abbrev pub EndsTakeover : PolicyRules → (from read : OldState) → (to written
 EndsTakeover p from read to written exit =
     (tried : Result ⊤ MigrateFault) × Migrates tried p from read to written × (exit ≡ exit_after tried)
 
--- The same of two databases with these trees, where one of them may not be taken up.
-abbrev pub EndsMigration : PolicyRules → (from to : Trees) → Exit → Type 0
-EndsMigration p from to exit =
+-- the same of two databases that had these trees, and hold this afterwards
+abbrev pub EndsMigration : PolicyRules → (from to : Trees) → OldState → StateOf Content → Exit → Type 0
+EndsMigration p from to read written exit =
+    (old : OldState) × (new : StateOf Content) × IsOldAdopted from old × IsAdopted to new
+    × EndsTakeover p old read new written exit
+
+-- one of them isn't taken up
+abbrev pub EndsUnadopted : Exit → Type 0
+EndsUnadopted exit =
     ((fault : BookFault) × (exit ≡ exit_of_book fault))
-    ⊎ (((cause : Unadopted) × (exit ≡ exit_of_unadopted cause))
-    ⊎ ((old read : OldState) × (new written : StateOf Content) × IsOldAdopted from old × IsAdopted to new
-    × EndsTakeover p old read new written exit))
+    ⊎ ((cause : Unadopted) × (exit ≡ exit_of_unadopted cause))

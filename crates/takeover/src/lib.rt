@@ -10,4 +10,4 @@ mod program;
 pub use files::{into_new_files, into_old_files};
 pub use laws::takeovers_are_whole;
 pub use migrating::{MigrateFault, migrate};
-pub use program::migrate_on;
+pub use program::{Tried, migrate_on};

@@ -1,8 +1,8 @@
 //! A registry of the schema before this one, taken over.
-ghost use Rattle.std.specs.Prelude.{◌≡◌, false};
+ghost use Rattle.std.specs.Prelude.{◌≡◌, false, IfErr, IfOk};
 ghost use Rattle.sqlite.specs.Held.{state};
 ghost use Rattle.takeover.specs.Ends as spec;
-ghost use Rattle.takeover.specs.Ends.{EndsMigration, EndsTakeover};
+ghost use Rattle.takeover.specs.Ends.{EndsMigration, EndsTakeover, EndsUnadopted};
 
 use crate::migrating::{MigrateFault, migrate};
 use oldrows::OldRows;
@@ -13,26 +13,39 @@ use sqlite::{Alter, Connection};
 use sqltables::{RowStore, Unadopted};
 use std::alloc::Global;
 
+/// Two databases after a takeover was tried.
+#[derive(Drop)]
+pub struct Tried<S: Alter, T: Alter> {
+    /// That of the schema before this one, as it was.
+    pub from: OldRows<S>,
+    /// That of today's schema.
+    pub to: RowStore<T>,
+    /// How the program ends.
+    pub exit: Exit,
+}
+
 /// Takes the registry of a database of the schema before this one over into another database, which is
-/// empty, under a policy that continues the one it was used under.
+/// empty, under a policy that continues the one it was used under. Where one of them isn't taken up, nothing is tried.
 pub fn migrate_on<S: Alter + Drop, T: Alter + Drop>(
     alloc: Global,
     policy: &Policy,
     from: Connection<S>,
     to: Connection<T>,
-) -> Exit
-    ensures { EndsMigration policy.now (state S.Store from).committed.trees
-        (state T.Store to).committed.trees result }
+) -> Result<Tried<S, T>, Exit>
+    ensures tried { IfOk result (λ tried. EndsMigration policy.now (state S.Store from).committed.trees
+        (state T.Store to).committed.trees tried.from tried.to tried.exit) }
+    ensures untried { IfErr result EndsUnadopted }
 {
     let mut from = match OldRows::adopt(from, alloc) {
         Ok(from) => from,
-        Err((fault, _)) => return Exit::from(fault),
+        Err((fault, _)) => return Err(Exit::from(fault)),
     };
     let mut to = match RowStore::adopt(to, alloc) {
         Ok(to) => to,
-        Err((cause, _)) => return exit_of_unadopted(cause),
+        Err((cause, _)) => return Err(exit_of_unadopted(cause)),
     };
-    take_over(alloc, &mut from, &mut to, policy)
+    let exit = take_over(alloc, &mut from, &mut to, policy);
+    Ok(Tried { from, to, exit })
 }
 
 /// The same with what both hold, and how the program ends.

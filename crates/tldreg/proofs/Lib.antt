@@ -1,4 +1,3 @@
-mod EndLemmas
 mod WordLemmas
 pub mod AskingLemmas
 pub mod OptionLemmas

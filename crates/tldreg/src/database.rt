@@ -1,7 +1,6 @@
 //! The database of a command line, and the policy that it is opened under.
 ghost use Rattle.std.specs.Prelude.{◌≡◌, false, IfErr, IfOk, bytes_eq, codes, string_bytes};
-ghost use Rattle.books.specs.Book.{BookState};
-ghost use Rattle.registry.specs.Calls.{IsOpenedAs, IsRefused};
+ghost use Rattle.registry.specs.Calls.{IsOpenedAs};
 ghost use Rattle.script.specs.declared.exit.Exit.TheVariants as exits;
 ghost use Rattle.tldreg.specs.inner.Databases as spec;
 
@@ -40,17 +39,16 @@ pub fn file_in(rt: &(impl Files + AllocGlobal), path: &str) -> Result<PolicyFile
     }
 }
 
-/// A registry over a book in which no transaction is open. One that is refused is let go.
+/// A registry over a book in which no transaction is open. A book that is refused is let go: what became of it no clause
+/// here can say.
 pub fn open<B: Book + Drop>(
     alloc: Global,
     book: B,
     policy: Policy,
 ) -> Result<Registry<B>, OpenFault>
     requires { (B.state book).is_open ≡ false }
-    ensures opened { IfOk result (λ registry. IsOpenedAs policy registry.policy (B.state book)
+    ensures { IfOk result (λ registry. IsOpenedAs policy registry.policy (B.state book)
         (B.state registry.book)) }
-    ensures refused { IfErr result (λ fault. (left : BookState) × IsRefused fault policy
-        (B.state book) left) }
 {
     match Registry::open(alloc, book, policy) {
         Ok(registry) => Ok(registry),

@@ -2,15 +2,13 @@
 #![tactic(auto)]
 
 ghost use Rattle.std.specs.Prelude.{◌≡◌, false, IfErr, IfOk, IfSome, None, option_copied};
-ghost use Rattle.script.specs.Exits.{exit_of_book, result_of};
-ghost use Rattle.sqlite.specs.Held.{state};
-ghost use Rattle.takeover.specs.Ends.{EndsMigration};
-ghost use Rattle.script.specs.declared.exit.Exit.{Exit as Ended};
+ghost use Rattle.books.specs.Book.{Follows};
+ghost use Rattle.script.specs.Exits.{exit_of_book};
 ghost use Rattle.protocol.specs.declared.order.OperatorRequest.TheVariants as requests;
 ghost use Rattle.protocol.specs.declared.order.Order.TheVariants as orders;
 ghost use Rattle.tldreg.specs.inner.Databases as databases;
 ghost use Rattle.tldreg.specs.inner.Ends as spec;
-ghost use Rattle.tldreg.specs.inner.Ends.{EndsJob, EndsOpening, EndsOrder, EndsRequest, EndsWithin, EndsZone};
+ghost use Rattle.tldreg.specs.inner.Ends.{EndsJob, EndsOrder, EndsRequest, EndsWithin, EndsZone};
 ghost use Rattle.tldreg.specs.inner.Words as words;
 
 mod command_line;
@@ -113,9 +111,7 @@ fn work_over<B: Book + Drop>(
     means: &Means<'_>,
 ) -> Result<(), Exit>
     requires { IfOk made (λ book. (B.state book).is_open ≡ false) }
-    ensures unmade { IfErr made (λ fault. result ≡ Err (exit_of_book fault)) }
-    ensures made { IfOk made (λ book. EndsOpening means.now.settings.now.within policy job.now
-        (B.state book) result) }
+    ensures { IfErr made (λ fault. result ≡ Err (exit_of_book fault)) }
 {
     match made {
         Ok(book) => work_with(rt, open(rt.alloc(), book, policy), job, means),
@@ -123,39 +119,41 @@ fn work_over<B: Book + Drop>(
     }
 }
 
-/// The same with a registry, if it was opened.
+/// The same with a registry, if it was opened. It is let go in the end, so no clause here knows what became of it:
+/// `work` and `serve_then` say that.
 fn work_with<B: Book + Drop>(
     rt: &HostRuntime,
     opened: Result<Registry<B>, OpenFault>,
     job: &Job,
     means: &Means<'_>,
 ) -> Result<(), Exit>
-    ensures failed { IfErr opened (λ fault. result ≡ Err (Exit.Open fault)) }
-    ensures done { IfOk opened (λ registry. EndsWithin means.now.settings.now.within registry.policy
-        job.now (B.state registry.book) result) }
+    ensures { IfErr opened (λ fault. result ≡ Err (Exit.Open fault)) }
 {
     match opened {
-        Ok(registry) => work(rt, registry, job, means),
+        Ok(registry) => {
+            let mut registry = registry;
+            work(rt, &mut registry, job, means.settings.within)?;
+            serve_then(rt, registry, job, means)
+        }
         Err(fault) => Err(Exit::Open(fault)),
     }
 }
 
-/// Does a job with a registry, if its moment is no further from the registry's clock than it may be.
+/// Does a job that doesn't serve, if its moment, or the machine's, is no further from the registry's clock than it may be.
 fn work<B: Book + Drop>(
-    rt: &HostRuntime,
-    registry: Registry<B>,
+    rt: &(impl time::Clock + Print + AllocGlobal),
+    registry: &mut Registry<B>,
     job: &Job,
-    means: &Means<'_>,
+    within: Option<u32>,
 ) -> Result<(), Exit>
-    ensures { EndsWithin means.now.settings.now.within registry.policy job.now
-        (B.state registry.book) result }
+    ensures { EndsWithin within registry.old.policy job.now (B.state registry.old.book)
+        (B.state registry.new.book) result }
 {
-    let Some(days) = means.settings.within else {
-        return work_then(rt, registry, job, means);
+    let Some(days) = within else {
+        return do_job(rt, registry, job);
     };
-    let mut registry = registry;
-    require_near(&mut registry, moment_of(rt, job), days)?;
-    work_then(rt, registry, job, means)
+    require_near(registry, moment_of(rt, job), days)?;
+    do_job(rt, registry, job)
 }
 
 /// The moment of a job. That of `serve` is the machine's.
@@ -168,14 +166,36 @@ fn moment_of(machine: &impl time::Clock, job: &Job) -> Moment
     }
 }
 
-/// Does a job with a registry, whatever its moment.
-fn work_then<B: Book + Drop>(
+/// Does a job that doesn't serve, whatever its moment.
+fn do_job<B: Book + Drop>(
+    rt: &(impl Print + AllocGlobal),
+    registry: &mut Registry<B>,
+    job: &Job,
+) -> Result<(), Exit>
+    ensures ends { EndsJob registry.old.policy job.now (B.state registry.old.book)
+        (B.state registry.new.book) result }
+    ensures follows { Follows (B.state registry.old.book) (B.state registry.new.book) }
+{
+    match job {
+        Job::Serve { .. } | Job::ServeBoth { .. } => Ok(()),
+        Job::Zone { moment } => zone(rt, registry, *moment),
+        Job::Deposit {
+            moment,
+            registrar,
+            cents,
+        } => deposit(rt, registry, *moment, registrar.as_str(), *cents),
+        Job::Order { moment, json } => order(rt, registry, *moment, json.as_str()),
+    }
+}
+
+/// Serves, if the job is to serve.
+fn serve_then<B: Book + Drop>(
     rt: &HostRuntime,
     registry: Registry<B>,
     job: &Job,
     means: &Means<'_>,
 ) -> Result<(), Exit>
-    ensures { EndsJob registry.policy job.now (B.state registry.book) result }
+    ensures { result ≡ spec.served job.now }
 {
     match job {
         Job::Serve { port } => serve(rt, registry, *port, means),
@@ -184,28 +204,7 @@ fn work_then<B: Book + Drop>(
             operator_port,
             ..
         } => serve_both(rt, registry, *port, *operator_port, means),
-        Job::Zone { moment } => {
-            let mut registry = registry;
-            let ended = zone(rt, &mut registry, *moment);
-            drop(registry);
-            ended
-        }
-        Job::Deposit {
-            moment,
-            registrar,
-            cents,
-        } => {
-            let mut registry = registry;
-            let ended = deposit(rt, &mut registry, *moment, registrar.as_str(), *cents);
-            drop(registry);
-            ended
-        }
-        Job::Order { moment, json } => {
-            let mut registry = registry;
-            let ended = order(rt, &mut registry, *moment, json.as_str());
-            drop(registry);
-            ended
-        }
+        Job::Zone { .. } | Job::Deposit { .. } | Job::Order { .. } => Ok(()),
     }
 }
 
@@ -332,9 +331,10 @@ fn deposit<B: Book + Drop>(
     registrar: &str,
     cents: i64,
 ) -> Result<(), Exit>
-    ensures { EndsRequest registry.old.policy
+    ensures ends { EndsRequest registry.old.policy
         (requests.Order (orders.Deposit registrar.now cents)) moment (B.state registry.old.book)
         (B.state registry.new.book) None None result }
+    ensures follows { Follows (B.state registry.old.book) (B.state registry.new.book) }
 {
     let mut out = io::writer(rt);
     deposit_to(rt.alloc(), registry, moment, registrar, cents, &mut out)
@@ -349,9 +349,10 @@ fn deposit_to<B: Book + Drop, W: Write>(
     cents: i64,
     out: &mut W,
 ) -> Result<(), Exit>
-    ensures { EndsRequest registry.old.policy
+    ensures ends { EndsRequest registry.old.policy
         (requests.Order (orders.Deposit registrar.now cents)) moment (B.state registry.old.book)
         (B.state registry.new.book) (W.contents out.old) (W.contents out.new) result }
+    ensures follows { Follows (B.state registry.old.book) (B.state registry.new.book) }
 {
     request_end(deposit_on(alloc, registry, moment, registrar, cents, out))
 }
@@ -363,8 +364,9 @@ fn order<B: Book + Drop>(
     moment: Moment,
     json: &str,
 ) -> Result<(), Exit>
-    ensures { EndsOrder registry.old.policy json.now moment (B.state registry.old.book)
+    ensures ends { EndsOrder registry.old.policy json.now moment (B.state registry.old.book)
         (B.state registry.new.book) None None result }
+    ensures follows { Follows (B.state registry.old.book) (B.state registry.new.book) }
 {
     order_to(rt.alloc(), registry, moment, json, &mut io::writer(rt))
 }
@@ -377,8 +379,9 @@ fn order_to<B: Book + Drop, W: Write>(
     json: &str,
     out: &mut W,
 ) -> Result<(), Exit>
-    ensures { EndsOrder registry.old.policy json.now moment (B.state registry.old.book)
+    ensures ends { EndsOrder registry.old.policy json.now moment (B.state registry.old.book)
         (B.state registry.new.book) (W.contents out.old) (W.contents out.new) result }
+    ensures follows { Follows (B.state registry.old.book) (B.state registry.new.book) }
 {
     request_end(order_on(alloc, registry, moment, json.as_bytes(), out))
 }
@@ -431,13 +434,10 @@ fn migrate_to<S: Alter + Drop, T: Alter + Drop>(
     from: Connection<S>,
     to: Result<Connection<T>, OpenFault>,
 ) -> Result<(), Exit>
-    ensures unopened { IfErr to (λ fault. result ≡ Err (Exit.Open fault)) }
-    ensures tried { IfOk to (λ to. (exit : Ended) × EndsMigration policy.now
-        (state S.Store from).committed.trees (state T.Store to).committed.trees exit
-        × (result ≡ result_of exit)) }
+    ensures { IfErr to (λ fault. result ≡ Err (Exit.Open fault)) }
 {
     match to {
-        Ok(to) => migrate_on(rt.alloc(), policy, from, to).result(),
+        Ok(to) => migrate_on(rt.alloc(), policy, from, to)?.exit.result(),
         Err(fault) => Err(Exit::Open(fault)),
     }
 }

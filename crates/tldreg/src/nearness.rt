@@ -1,5 +1,6 @@
 //! Moments that are far from a registry's clock, as a slip makes them.
 ghost use Rattle.std.specs.Prelude.{◌≡◌};
+ghost use Rattle.books.specs.Book.{Follows};
 ghost use Rattle.tldreg.specs.inner.Nearness as spec;
 
 use books::Book;
@@ -19,6 +20,7 @@ pub fn require_near<B: Book + Drop>(
 ) -> Result<(), Exit>
     ensures near { spec.IsNear registry.old.policy moment days (B.state registry.old.book)
         (B.state registry.new.book) result }
+    ensures follows { Follows (B.state registry.old.book) (B.state registry.new.book) }
     ensures policy { registry.new.policy ≡ registry.old.policy }
 {
     near_end(registry.greet(Moment::first()), moment, days)

@@ -6,9 +6,9 @@ use Rattle.protocol.specs.declared.order.Order.TheVariants as orders
 use Rattle.tldreg.specs.inner.Ends.{EndsRequest}
 use Rattle.tldreg.proofs.deposit.Goals as goal
 
-pub returns : goal.returns
-returns g c =
+pub returns-clause-ends : goal.returns-clause-ends
+returns-clause-ends g c =
     let old = g.B.Book.state c.args.registry.now.book in
     let new = g.B.Book.state c.deposit_to.new.registry.book in
     let same : to_z w64 (of_z w64 c.args.cents) ≡ c.args.cents = omega (arith, ints) in
-    subst (λ (cents : ℤ). EndsRequest c.args.registry.now.policy (requests.Order (orders.Deposit c.args.registrar.now cents)) c.args.moment old new None None c.deposit_to.result) same c.deposit_to.ensures
+    subst (λ (cents : ℤ). EndsRequest c.args.registry.now.policy (requests.Order (orders.Deposit c.args.registrar.now cents)) c.args.moment old new None None c.deposit_to.result) same c.deposit_to.ensures.ends

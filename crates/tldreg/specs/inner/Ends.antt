@@ -1,7 +1,7 @@
 -- How the program ends, by what its calls answered.
-use Rattle.std.specs.Prelude.{◌≡◌, ◌⊎◌, ℕ, Bool, true, not, nat_eq, bit_and, List, Option, Some, None, Result, Ok, Err, OnOk, IfOk, IfErr, IfSome, ⊤, codes, string_bytes}
+use Rattle.std.specs.Prelude.{◌≡◌, ℕ, Bool, true, not, nat_eq, bit_and, List, Option, Some, None, Result, Ok, Err, OnOk, IfOk, IfErr, IfSome, ⊤, codes, string_bytes}
 use Rattle.std.specs.Io.KnownBytes.{Appends}
-use Rattle.books.specs.Book.{BookState}
+use Rattle.books.specs.Book.{BookState, Follows}
 use Rattle.operator.specs.declared.token.TokenFault.{TokenFault}
 use Rattle.operator.specs.declared.token.TokenFault.TheVariants as faults
 use Rattle.policy.specs.Rules.{PolicyRules}
@@ -10,9 +10,6 @@ use Rattle.protocol.specs.declared.code.Code.TheVariants.{Completed}
 use Rattle.protocol.specs.declared.order.OperatorRequest.{OperatorRequest}
 use Rattle.protocol.specs.declared.order.OperatorRequest.TheVariants as requests
 use Rattle.protocol.specs.declared.order.Order.TheVariants as orders
-use Rattle.registry.specs.Opening.{Opens}
-use Rattle.registry.specs.Calls.{IsRefused}
-use Rattle.registry.specs.declared.fault.OpenFault.{OpenFault}
 use Rattle.script.specs.Deposits.{EndsUnprinted}
 use Rattle.script.specs.Exits.{status_of as status_of_exit}
 use Rattle.script.specs.Orders.{EndsUnanswered, IsOrdered, PrintsAnswer}
@@ -79,34 +76,34 @@ EndsZone p moment old new before after result =
 
 -- ---- jobs
 
--- A job with the registry of a book ends so. One that serves ends where it can't.
-abbrev pub EndsJob : PolicyRules → Job → BookState → Result ⊤ Exit → Type 0
-EndsJob p (jobs.Serve port) old result = result ≡ Err exits.Network
-EndsJob p (jobs.ServeBoth port operator_port token_file) old result = result ≡ Err exits.Network
-EndsJob p (jobs.Zone moment) old result = (new : BookState) × EndsZone p moment old new None None result
-EndsJob p (jobs.Deposit moment registrar cents) old result =
-    (new : BookState) × EndsRequest p (requests.Order (orders.Deposit (string_bytes registrar) cents)) moment old new None None result
-EndsJob p (jobs.Order moment json) old result =
-    (new : BookState) × EndsOrder p (string_bytes json) moment old new None None result
+-- A job is done with the registry of a book, and the program ends so, if it doesn't go on to serve.
+abbrev pub EndsJob : PolicyRules → Job → (old new : BookState) → Result ⊤ Exit → Type 0
+EndsJob p (jobs.Serve port) old new result = (new ≡ old) × (result ≡ Ok tt)
+EndsJob p (jobs.ServeBoth port operator_port token_file) old new result = (new ≡ old) × (result ≡ Ok tt)
+EndsJob p (jobs.Zone moment) old new result = EndsZone p moment old new None None result
+EndsJob p (jobs.Deposit moment registrar cents) old new result =
+    EndsRequest p (requests.Order (orders.Deposit (string_bytes registrar) cents)) moment old new None None result
+EndsJob p (jobs.Order moment json) old new result =
+    EndsOrder p (string_bytes json) moment old new None None result
 
 -- the same behind what may end the program before
-abbrev pub EndsJobAfter : Result ⊤ Exit → PolicyRules → Job → BookState → Result ⊤ Exit → Type 0
-EndsJobAfter (Ok done) p job old result = EndsJob p job old result
-EndsJobAfter (Err exit) p job old result = result ≡ Err exit
+abbrev pub EndsJobAfter : Result ⊤ Exit → PolicyRules → Job → (old new : BookState) → Result ⊤ Exit → Type 0
+EndsJobAfter (Ok done) p job old new result = EndsJob p job old new result
+EndsJobAfter (Err exit) p job old new result = (new ≡ old) × (result ≡ Err exit)
 
 -- the same, if its moment must be within so many days of the registry's clock
-abbrev pub EndsWithin : Option ℕ → PolicyRules → Job → BookState → Result ⊤ Exit → Type 0
-EndsWithin None p job old result = EndsJob p job old result
-EndsWithin (Some days) p job old result =
+abbrev pub EndsWithin : Option ℕ → PolicyRules → Job → (old new : BookState) → Result ⊤ Exit → Type 0
+EndsWithin None p job old new result = EndsJob p job old new result
+EndsWithin (Some days) p job old new result =
     (moment : ℕ) × IfSome (moment_of job) (λ given. moment ≡ given)
     × (near : Result ⊤ Exit) × (between : BookState) × IsNear p moment days old between near
-    × EndsJobAfter near p job between result
+    × Follows between new × EndsJobAfter near p job between new result
 
--- the same with a book that isn't opened yet
-abbrev pub EndsOpening : Option ℕ → PolicyRules → Job → BookState → Result ⊤ Exit → Type 0
-EndsOpening days p job old result =
-    ((fault : OpenFault) × (left : BookState) × IsRefused fault p old left × (result ≡ Err (exits.Open fault)))
-    ⊎ ((opened : BookState) × Opens p old opened × EndsWithin days p job opened result)
+-- what serves ends where it can't any more
+abbrev pub served : Job → Result ⊤ Exit
+served (jobs.Serve port) = Err exits.Network
+served (jobs.ServeBoth port operator_port token_file) = Err exits.Network
+served _ = Ok tt
 
 -- the exit status
 abbrev pub status_of : Result ⊤ End → ℕ

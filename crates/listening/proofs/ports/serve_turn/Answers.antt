@@ -9,4 +9,4 @@ returns-in-Public-clause-served g c =
 pub returns-in-Office-clause-served : goal.returns-in-Office-clause-served
 returns-in-Office-clause-served g c =
     let served = c.serve_office.ensures.served in
-    (office served.0, served.1)
+    (office served.0, (served.1, c.serve_office.ensures.follows))

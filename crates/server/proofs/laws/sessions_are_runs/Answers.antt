@@ -1,4 +1,5 @@
-use Rattle.server.proofs.SessionRunLemmas.{sessions-are-alike, sessions-are-answered, sessions-are-runs, sessions-are-sent-the-same}
+use Rattle.server.proofs.AlikeSessionLemmas.{sessions-are-alike, sessions-are-sent-the-same, sessions-tell-the-same}
+use Rattle.server.proofs.SessionRunLemmas.{sessions-are-answered, sessions-are-runs}
 use Rattle.server.proofs.laws.sessions_are_runs.Goals as goal
 
 pub returns-clause-answered : goal.returns-clause-answered
@@ -12,3 +13,6 @@ returns-clause-same c = sessions-are-sent-the-same
 
 pub returns-clause-alike : goal.returns-clause-alike
 returns-clause-alike c = sessions-are-alike
+
+pub returns-clause-hidden : goal.returns-clause-hidden
+returns-clause-hidden c = sessions-tell-the-same

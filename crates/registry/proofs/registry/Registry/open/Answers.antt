@@ -1,6 +1,5 @@
 use Rattle.std.proofs.Common.{ap, refl}
 use Rattle.books.specs.Book.{Stored}
-use Rattle.registry.proofs.CallsKept.{reopened}
 use Rattle.registry.proofs.OpenedLemmas.{opens-kept, opens-lengths, opens-same}
 use Rattle.isolation.proofs.RunLemmas.{alike-lists-tell-the-same}
 use Rattle.registry.proofs.registry.Registry.open.Goals as goal
@@ -14,8 +13,7 @@ returns-in-Ok-clause-opened g c =
       opens = c.in-Ok.ensures.0;
       ours = c.in-Ok.ensures.1.0;
       well_formed = opens-kept c.args.policy old new c.in-Ok.ensures.0;
-      reopens = reopened c.args.policy new
-          (λ clean. ap (λ (held : Stored). held.terms) (c.in-Ok.ensures.0.content clean));
+      has_terms = λ clean. ap (λ (held : Stored). held.terms) (c.in-Ok.ensures.0.content clean);
       tells_alike = λ clean. alike-lists-tell-the-same c.args.policy new.content.registry;
       crash = c.in-Ok.ensures.1.1.0;
       follows = c.in-Ok.ensures.1.1.1;
