@@ -17,12 +17,12 @@ use Rattle.sqltables.specs.inner.FirstTables.{first_line, first_registry}
 use Rattle.sqltables.specs.Meta.{metas}
 use Rattle.sqltables.specs.Account.{accounts}
 use Rattle.sqltables.specs.Contact.{contacts}
-use Rattle.sqltables.specs.inner.Domain.{domains}
+use Rattle.sqltables.specs.Domain.{domains}
 use Rattle.sqltables.specs.Host.{hosts}
 use Rattle.sqltables.specs.Address.{addresses}
 use Rattle.sqltables.specs.Link.{links}
-use Rattle.sqltables.specs.Line.{Line}
-use Rattle.sqltables.specs.inner.Message.{messages}
+use Rattle.sqltables.specs.declared.line.LineRow.{LineRow}
+use Rattle.sqltables.specs.Message.{messages}
 use Rattle.sqltables.specs.Transfer.{transfers}
 use Rattle.sqltables.specs.Decoding.{meta_in, account_in, contact_in, domain_in, host_in, address_in, link_in, message_in, transfer_in}
 use Rattle.sqltables.specs.Adoption.{IsFound, IsInOrder}
@@ -39,7 +39,7 @@ use Rattle.states.proofs.LeavingLemmas.{has-alone}
 
 endless-read : (rows : List Row) → map without_end (map first_line_in rows) ≡ map first_line_in rows
 endless-read [] = refl
-endless-read (r ∷ rows) = ap (λ (xs : List Line). first_line_in r ∷ xs) (endless-read rows)
+endless-read (r ∷ rows) = ap (λ (xs : List LineRow). first_line_in r ∷ xs) (endless-read rows)
 
 -- a sound database that lies in order holds the rows that it decodes to
 old_of_sound : (db : Database) → IsDatabase db → db.schema ≡ first_registry → IsInOrder db → IsOld (old_contents db.trees) db

@@ -15,12 +15,13 @@ use Rattle.sqltables.specs.inner.FirstTables.{first_registry}
 use Rattle.sqltables.specs.Meta.{meta_shown, metas}
 use Rattle.sqltables.specs.Account.{account_shown, accounts}
 use Rattle.sqltables.specs.Contact.{contact_shown, contacts}
-use Rattle.sqltables.specs.inner.Domain.{domain_shown, domains}
+use Rattle.sqltables.specs.Domain.{domain_shown, domains}
 use Rattle.sqltables.specs.Host.{host_shown, hosts}
 use Rattle.sqltables.specs.Address.{address_shown, addresses}
 use Rattle.sqltables.specs.Link.{link_shown, links}
-use Rattle.sqltables.specs.Line.{Line, line_shown}
-use Rattle.sqltables.specs.inner.Message.{message_shown, messages}
+use Rattle.sqltables.specs.Line.{line_shown}
+use Rattle.sqltables.specs.declared.line.LineRow.{LineRow}
+use Rattle.sqltables.specs.Message.{message_shown, messages}
 use Rattle.sqltables.specs.Transfer.{transfer_shown, transfers}
 use Rattle.oldrows.specs.inner.Stored.{Asks, IsOld}
 use Rattle.oldrows.specs.inner.Lines.{first_lines, without_end}
@@ -89,10 +90,10 @@ link_asks =
     (record { names = _; command = refl; plain = (refl, refl); unlisted = refl })
 
 -- a line that shows no end of its grace
-abbrev endless_shown : Line → Row
+abbrev endless_shown : LineRow → Row
 endless_shown x = line_shown (without_end x)
 
-shown-endless : (xs : List Line) → map endless_shown xs ≡ map line_shown (map without_end xs)
+shown-endless : (xs : List LineRow) → map endless_shown xs ≡ map line_shown (map without_end xs)
 shown-endless [] = refl
 shown-endless (x ∷ xs) = ap (λ rows. endless_shown x ∷ rows) (shown-endless xs)
 

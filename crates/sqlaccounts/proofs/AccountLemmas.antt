@@ -13,6 +13,7 @@ use Rattle.accounts.specs.Account.{empty_account}
 use Rattle.accounts.specs.Lines.{balance}
 use Rattle.sqlcolumns.specs.Numbers.{exact_in, is_exact, is_place, registrar_in}
 use Rattle.sqltables.specs.Account as table
+use Rattle.sqltables.specs.declared.account.AccountRow.{AccountRow}
 use Rattle.sqltables.specs.Content.{Content}
 use Rattle.sqltables.specs.inner.Content.{accounts_to}
 use Rattle.sqlaccounts.specs.Accounts.{account_in, accounts_of, balance_in, entries_of, has_right_sums, ident_and_held, ident_and_held_of, is_right, lines_of, queue_of, row_of, sums_are_right}
@@ -25,7 +26,7 @@ abbrev magnitude : ℤ → ℕ
 magnitude (pos n) = n
 magnitude (negsuc n) = n
 
-abbrev key : table.Account → ℤ
+abbrev key : AccountRow → ℤ
 key = table.accounts.key
 
 tied-apart : (a b : ℕ) (c d : Bool) → eq_by_cmp nat_cmp a b ≡ c → int_eq (pos a) (pos b) ≡ d → d ≡ c
@@ -41,10 +42,10 @@ nat-int : (a b : ℕ) → int_eq (pos a) (pos b) ≡ eq_by_cmp nat_cmp a b
 nat-int a b = tied-apart a b _ _ refl refl
 
 -- the account of a place, by its row
-abbrev pub account_at : Content → ℕ → Option table.Account → Option Account
+abbrev pub account_at : Content → ℕ → Option AccountRow → Option Account
 account_at xs q row = cond (is_place q) (option_map (account_in xs) row) None
 
-find-entries : (xs : Content) (rows : List table.Account) (q : ℕ) → find nat_cmp q (entries_of xs rows) ≡ account_at xs q (get_by key rows (pos q))
+find-entries : (xs : Content) (rows : List AccountRow) (q : ℕ) → find nat_cmp q (entries_of xs rows) ≡ account_at xs q (get_by key rows (pos q))
 find-entries xs [] q = go (is_place q)
   where
     go : (b : Bool) → ◌≡◌ {A = Option Account} None (cond b None None)
@@ -76,7 +77,7 @@ pub get-accounts_of : (xs : Content) (q : ℕ) → get (accounts_of xs) q ≡ ac
 get-accounts_of xs q = get-from_entries nat_cmp_total (entries_of xs xs.accounts) q ∙ find-entries xs xs.accounts q
 
 -- a row that is there
-pub get-found : (xs : Content) (q : ℕ) (row : table.Account) → is_place q ≡ true → row_of xs (pos q) ≡ Some row → get (accounts_of xs) q ≡ Some (account_in xs row)
+pub get-found : (xs : Content) (q : ℕ) (row : AccountRow) → is_place q ≡ true → row_of xs (pos q) ≡ Some row → get (accounts_of xs) q ≡ Some (account_in xs row)
 get-found xs q row place found = get-accounts_of xs q ∙ (λ i. cond (place i) (option_map (account_in xs) (found i)) None)
 
 -- ---- what a row says of the account
@@ -85,29 +86,29 @@ module _ (xs : Content) (q : ℕ) (place : is_place q ≡ true) where
   get-place : get (accounts_of xs) q ≡ option_map (account_in xs) (row_of xs (pos q))
   get-place = get-accounts_of xs q ∙ ap (λ b. cond b (option_map (account_in xs) (row_of xs (pos q))) None) place
 
-  counters-row : (row : Option table.Account) → counters_in row ≡ counters_of (unwrap_or (option_map (account_in xs) row) empty_account)
+  counters-row : (row : Option AccountRow) → counters_in row ≡ counters_of (unwrap_or (option_map (account_in xs) row) empty_account)
   counters-row None = refl
   counters-row (Some row) = refl
 
-  pub counters-found : (row : Option table.Account) → row ≡ row_of xs (pos q) → counters_in row ≡ counters_of (unwrap_or (get (accounts_of xs) q) empty_account)
+  pub counters-found : (row : Option AccountRow) → row ≡ row_of xs (pos q) → counters_in row ≡ counters_of (unwrap_or (get (accounts_of xs) q) empty_account)
   counters-found row is = ap counters_in is ∙ counters-row (row_of xs (pos q)) ∙ sym (ap (λ a. counters_of (unwrap_or a empty_account)) get-place)
 
   no_lines : pos 0 ≡ balance []
   unfolding balance
   no_lines = refl
 
-  balance-row : (row : Option table.Account) → option_map_or (is_right xs) row true ≡ true
-      → option_map_or (λ (r : table.Account). balance_in r.balance) row (pos 0) ≡ balance (unwrap_or (option_map (account_in xs) row) empty_account).lines
+  balance-row : (row : Option AccountRow) → option_map_or (is_right xs) row true ≡ true
+      → option_map_or (λ (r : AccountRow). balance_in r.balance) row (pos 0) ≡ balance (unwrap_or (option_map (account_in xs) row) empty_account).lines
   balance-row None right = no_lines
   balance-row (Some row) right = same_int _ _ (and_parts _ _ right).0
 
-  right-there : (row : Option table.Account) → row_of xs (pos q) ≡ row → sums_are_right xs ≡ true → option_map_or (is_right xs) row true ≡ true
+  right-there : (row : Option AccountRow) → row_of xs (pos q) ≡ row → sums_are_right xs ≡ true → option_map_or (is_right xs) row true ≡ true
   right-there None is sums = refl
   right-there (Some row) is sums =
       sym (ap (λ r. option_map_or (is_right xs) r true) is) ∙ (and_parts _ _ (all_with key (has_right_sums xs) xs.accounts (pos q) row is ∙ sums)).0
 
-  pub balance-found : (row : Option table.Account) → row ≡ row_of xs (pos q) → sums_are_right xs ≡ true
-      → option_map_or (λ (r : table.Account). balance_in r.balance) row (pos 0) ≡ balance (unwrap_or (get (accounts_of xs) q) empty_account).lines
+  pub balance-found : (row : Option AccountRow) → row ≡ row_of xs (pos q) → sums_are_right xs ≡ true
+      → option_map_or (λ (r : AccountRow). balance_in r.balance) row (pos 0) ≡ balance (unwrap_or (get (accounts_of xs) q) empty_account).lines
   balance-found row is sums =
       balance-row row (right-there row (sym is) sums)
       ∙ ap (λ r. balance (unwrap_or (option_map (account_in xs) r) empty_account).lines) is
@@ -117,16 +118,16 @@ module _ (xs : Content) (q : ℕ) (place : is_place q ≡ true) where
   exact-is n m true e = sym (ap (λ o. unwrap_or o n) e)
   exact-is n m false e = cc
 
-  waiting-row : (row : Option table.Account) (n : ℕ) → option_map_or (is_right xs) row true ≡ true
-      → exact_in (option_map_or (λ (r : table.Account). r.waiting) row (pos 0)) ≡ Some n
+  waiting-row : (row : Option AccountRow) (n : ℕ) → option_map_or (is_right xs) row true ≡ true
+      → exact_in (option_map_or (λ (r : AccountRow). r.waiting) row (pos 0)) ≡ Some n
       → n ≡ length (unwrap_or (option_map (account_in xs) row) empty_account).queue
   waiting-row None n right e = exact-is n 0 (is_exact 0) e
   waiting-row (Some row) n right e =
       let is : row.waiting ≡ pos (length (queue_of xs row.id)) = same_int _ _ (and_parts _ _ right).1 in
       exact-is n (length (queue_of xs row.id)) (is_exact (length (queue_of xs row.id))) (sym (ap exact_in is) ∙ e)
 
-  pub waiting-found : (row : Option table.Account) (n : ℕ) → row ≡ row_of xs (pos q) → sums_are_right xs ≡ true
-      → exact_in (option_map_or (λ (r : table.Account). r.waiting) row (pos 0)) ≡ Some n
+  pub waiting-found : (row : Option AccountRow) (n : ℕ) → row ≡ row_of xs (pos q) → sums_are_right xs ≡ true
+      → exact_in (option_map_or (λ (r : AccountRow). r.waiting) row (pos 0)) ≡ Some n
       → n ≡ length (unwrap_or (get (accounts_of xs) q) empty_account).queue
   waiting-found row n is sums e =
       waiting-row row n (right-there row (sym is) sums) e
@@ -135,7 +136,7 @@ module _ (xs : Content) (q : ℕ) (place : is_place q ≡ true) where
 
 -- ---- one row in the place of another, or beside all others
 
-module _ (xs ys : Content) (r : ℕ) (new : table.Account) (put : ys.accounts ≡ insert_by key xs.accounts new) (at : new.id ≡ pos r) where
+module _ (xs ys : Content) (r : ℕ) (new : AccountRow) (put : ys.accounts ≡ insert_by key xs.accounts new) (at : new.id ≡ pos r) where
   row_now : (id : ℤ) → row_of ys id ≡ cond (int_eq (pos r) id) (Some new) (row_of xs id)
   row_now id = ap (λ rows. get_by key rows id) put ∙ get_by-insert_by key xs.accounts new id ∙ ap (λ k. cond (int_eq k id) (Some new) (row_of xs id)) at
 
@@ -148,20 +149,20 @@ module _ (xs ys : Content) (r : ℕ) (new : table.Account) (put : ys.accounts �
 tied : (r q : ℕ) → int_eq (pos r) (pos q) ≡ eq_by_cmp nat_cmp q r
 tied r q = nat-int r q ∙ (eq_by_cmp_equiv nat_cmp_total).symm r q
 
-module _ (xs ys : Content) (r : ℕ) (f : Account → Account) (new : table.Account)
+module _ (xs ys : Content) (r : ℕ) (f : Account → Account) (new : AccountRow)
     (place : is_place r ≡ true) (put : ys.accounts ≡ insert_by key xs.accounts new) (at : new.id ≡ pos r)
     (lines : (id : ℤ) → int_eq (pos r) id ≡ false → lines_of ys id ≡ lines_of xs id)
     (queues : (id : ℤ) → int_eq (pos r) id ≡ false → queue_of ys id ≡ queue_of xs id)
     (here : account_in ys new ≡ f (unwrap_or (get (accounts_of xs) r) empty_account)) (right : is_right ys new ≡ has_right_sums xs (pos r)) where
-  apart : (id : ℤ) (x : table.Account) → row_of xs id ≡ Some x → int_eq (pos r) id ≡ false → int_eq (pos r) x.id ≡ false
+  apart : (id : ℤ) (x : AccountRow) → row_of xs id ≡ Some x → int_eq (pos r) id ≡ false → int_eq (pos r) x.id ≡ false
   apart id x is e = ap (int_eq (pos r)) (key-get_by key xs.accounts id x is) ∙ e
 
-  account-there : (o : Option table.Account) (id : ℤ) → row_of xs id ≡ o → int_eq (pos r) id ≡ false → option_map (account_in ys) o ≡ option_map (account_in xs) o
+  account-there : (o : Option AccountRow) (id : ℤ) → row_of xs id ≡ o → int_eq (pos r) id ≡ false → option_map (account_in ys) o ≡ option_map (account_in xs) o
   account-there None id is e = refl
   account-there (Some x) id is e =
       λ i. Some (record (account_in xs x) { lines = lines x.id (apart id x is e) i; queue = queues x.id (apart id x is e) i })
 
-  right-elsewhere : (o : Option table.Account) (id : ℤ) → row_of xs id ≡ o → int_eq (pos r) id ≡ false → option_map_or (is_right ys) o true ≡ option_map_or (is_right xs) o true
+  right-elsewhere : (o : Option AccountRow) (id : ℤ) → row_of xs id ≡ o → int_eq (pos r) id ≡ false → option_map_or (is_right ys) o true ≡ option_map_or (is_right xs) o true
   right-elsewhere None id is e = refl
   right-elsewhere (Some x) id is e =
       λ i. int_eq (balance_in x.balance) (balance (lines x.id (apart id x is e) i)) && int_eq x.waiting (pos (length (queues x.id (apart id x is e) i)))
@@ -195,7 +196,7 @@ module _ (xs ys : Content) (r : ℕ) (f : Account → Account) (new : table.Acco
   rights id false e =
       ap (λ o. option_map_or (is_right ys) o true) (row_there xs ys r new put at id e) ∙ right-elsewhere (row_of xs id) id refl e
 
-  own : (o : Option table.Account) → row_of xs (pos r) ≡ o
+  own : (o : Option AccountRow) → row_of xs (pos r) ≡ o
       → (has_right_sums xs (pos r) && list_all (λ x. has_right_sums xs (key x)) xs.accounts) ≡ list_all (λ x. has_right_sums xs (key x)) xs.accounts
   own None e = ap (λ o. option_map_or (is_right xs) o true && list_all (λ x. has_right_sums xs (key x)) xs.accounts) e
   own (Some row) e = all_with key (has_right_sums xs) xs.accounts (pos r) row e
@@ -204,11 +205,11 @@ module _ (xs ys : Content) (r : ℕ) (f : Account → Account) (new : table.Acco
   sums-put =
       ap (list_all (λ x. has_right_sums ys (key x))) put
       ∙ all-insert_by key (has_right_sums ys) xs.accounts new
-      ∙ (λ i. rights new.id _ refl i && list_all (λ (x : table.Account). rights x.id _ refl i) xs.accounts)
+      ∙ (λ i. rights new.id _ refl i && list_all (λ (x : AccountRow). rights x.id _ refl i) xs.accounts)
       ∙ ap (λ k. has_right_sums xs k && list_all (λ x. has_right_sums xs (key x)) xs.accounts) at
       ∙ own (row_of xs (pos r)) refl
 
-module _ (xs ys : Content) (r : ℕ) (f : Account → Account) (row new : table.Account)
+module _ (xs ys : Content) (r : ℕ) (f : Account → Account) (row new : AccountRow)
     (place : is_place r ≡ true) (found : row_of xs (pos r) ≡ Some row) (put : ys.accounts ≡ insert_by key xs.accounts new) (same : new.id ≡ row.id)
     (stands : ident_and_held new ≡ ident_and_held row)
     (lines : (id : ℤ) → int_eq (pos r) id ≡ false → lines_of ys id ≡ lines_of xs id)
@@ -240,13 +241,13 @@ module _ (xs ys : Content) (r : ℕ) (f : Account → Account) (row new : table.
   }
 
 -- the counters alone
-pub counted : (xs : Content) (r : ℕ) (x : Counters) (row new : table.Account) → is_place r ≡ true → Some row ≡ row_of xs (pos r) → IsCounted x row new
+pub counted : (xs : Content) (r : ℕ) (x : Counters) (row new : AccountRow) → is_place r ≡ true → Some row ≡ row_of xs (pos r) → IsCounted x row new
     → IsChange r (with_counters x) xs (accounts_to (λ rows. insert_by key rows new) xs)
 counted xs r x row new place found it =
     let ys : Content = accounts_to (λ rows. insert_by key rows new) xs in
-    let id : new.id ≡ row.id = ap (λ (a : table.Account). a.id) it.rest in
-    let waiting : new.waiting ≡ row.waiting = ap (λ (a : table.Account). a.waiting) it.rest in
-    let cents : new.balance ≡ row.balance = ap (λ (a : table.Account). a.balance) it.rest in
+    let id : new.id ≡ row.id = ap (λ (a : AccountRow). a.id) it.rest in
+    let waiting : new.waiting ≡ row.waiting = ap (λ (a : AccountRow). a.waiting) it.rest in
+    let cents : new.balance ≡ row.balance = ap (λ (a : AccountRow). a.balance) it.rest in
     changed xs ys r (with_counters x) row new place (sym found) refl id (ap ident_and_held it.rest) (λ id e. refl) (λ id e. refl)
     (λ i. record { lines = lines_of xs (id i); queue = queue_of xs (id i); commands = (it.back i).commands; messages = (it.back i).messages; serial = (it.back i).serial })
     (λ i. int_eq (balance_in (cents i)) (balance (lines_of xs (id i))) && int_eq (waiting i) (pos (length (queue_of xs (id i)))))
@@ -254,7 +255,7 @@ counted xs r x row new place found it =
 
 -- ---- nothing changed
 
-module _ (xs : Content) (r : ℕ) (f : Account → Account) (row : table.Account) (place : is_place r ≡ true) (there : row_of xs (pos r) ≡ Some row) (still : f (account_in xs row) ≡ account_in xs row) where
+module _ (xs : Content) (r : ℕ) (f : Account → Account) (row : AccountRow) (place : is_place r ≡ true) (there : row_of xs (pos r) ≡ Some row) (still : f (account_in xs row) ≡ account_in xs row) where
   stays : Account
   stays = f (unwrap_or (get (accounts_of xs) r) empty_account)
 

@@ -3,14 +3,15 @@ use Rattle.std.proofs.Common.{◌≡◌, true, sym, ap, subst, ◌∙◌}
 use Rattle.states.specs.States.{Reads, StateOf, Writes}
 use Rattle.states.proofs.LeavingLemmas.{leaves-on}
 use Rattle.sqlite_keyed.specs.Keyed.{insert_by}
-use Rattle.sqltables.specs.Account.{Account, accounts}
+use Rattle.sqltables.specs.Account.{accounts}
+use Rattle.sqltables.specs.declared.account.AccountRow.{AccountRow}
 use Rattle.sqltables.specs.Content.{Content}
 use Rattle.sqltables.specs.inner.Content.{accounts_to}
 use Rattle.sqlrows.specs.Meanings.{HasChanged}
 use Rattle.sqlrows.proofs.StateLemmas.{then-made}
 
 -- a row of account is put
-pub then-put : (row new : Account) (way : Content → Content → Type 0) (a b c : StateOf Content)
+pub then-put : (row new : AccountRow) (way : Content → Content → Type 0) (a b c : StateOf Content)
     → Reads a b → row ≡ new → Writes (accounts_to (λ rows. insert_by accounts.key rows row) b.content) b c
     → (b.is_clean ≡ true → way a.content (accounts_to (λ rows. insert_by accounts.key rows new) a.content)) → HasChanged way a c
 then-put row new way a b c reads same makes is =

@@ -15,7 +15,7 @@ use Rattle.accounts.specs.declared.message.Origin.{Origin}
 use Rattle.accounts.specs.declared.message.Origin.TheVariants.{Lapse, Command}
 use Rattle.accounts.specs.Messages.{class_of, message_cmp, number_of, subject_rank, tie_of}
 use Rattle.sqltables.specs.Message as table
-use Rattle.sqltables.specs.inner.Message as inner_table
+use Rattle.sqltables.specs.declared.message.MessageRow.{MessageRow}
 use Rattle.sqlrows.specs.inner.Layouts.{by_then_key}
 use Rattle.sqlcolumns.specs.Codes.{subject_in}
 use Rattle.sqlcolumns.specs.Messages.{command_made, command_notice_in, lapse_made, lapse_notice_in, message_in, message_row, origin_columns, origin_in}
@@ -32,21 +32,21 @@ use Rattle.sqlaccounts.specs.inner.QueueRows.{IsWritten}
 same_int : (a b : ℤ) → int_eq a b ≡ true → a ≡ b
 same_int a b e = (Decides-int_eq a b).0 e
 
-abbrev origin_at : table.Message → Option Origin
+abbrev origin_at : MessageRow → Option Origin
 origin_at row = origin_in (record { class = row.class; number = row.number; notice = row.notice })
 
-record IsOrigin (row : table.Message) (o : Origin) : Type 0 where
+record IsOrigin (row : MessageRow) (o : Origin) : Type 0 where
   pub class : row.class ≡ pos (class_of o)
   pub number : row.number ≡ pos (number_of o)
   pub notice : row.notice ≡ pos (tie_of o)
 
-lapse_shown : (row : table.Message) (o : Origin) → row.class ≡ pos 0 → row.notice ≡ pos 0 → lapse_made (lapse_notice_in row.number) ≡ Some o → IsOrigin row o
+lapse_shown : (row : MessageRow) (o : Origin) → row.class ≡ pos 0 → row.notice ≡ pos 0 → lapse_made (lapse_notice_in row.number) ≡ Some o → IsOrigin row o
 lapse_shown row o class notice e =
     let letter = step (lapse_notice_in row.number) (λ l. Some (Lapse l)) o e in
     let same : Lapse letter.given ≡ o = same_some _ _ letter.rest in
     subst (IsOrigin row) same (record { class = class; number = sym (lapse_notice_written row.number letter.given letter.is); notice = notice })
 
-command_shown : (row : table.Message) (o : Origin) → row.class ≡ pos 1 → command_made (exact_in row.number) (command_notice_in row.notice) ≡ Some o → IsOrigin row o
+command_shown : (row : MessageRow) (o : Origin) → row.class ≡ pos 1 → command_made (exact_in row.number) (command_notice_in row.notice) ≡ Some o → IsOrigin row o
 command_shown row o class e =
     let number = step (exact_in row.number) (λ n. command_notice_in row.notice >>= (λ k. Some (Command n k))) o e in
     let notice = step (command_notice_in row.notice) (λ k. Some (Command number.given k)) o number.rest in
@@ -54,7 +54,7 @@ command_shown row o class e =
     let is : pos number.given ≡ row.number = (kept (pos number.given) row.number (is_exact number.given) (exact_written row.number number.given number.is)).1 in
     subst (IsOrigin row) same (record { class = class; number = sym is; notice = sym (command_notice_written row.notice notice.given notice.is) })
 
-origin_shown : (row : table.Message) (o : Origin) → origin_at row ≡ Some o → IsOrigin row o
+origin_shown : (row : MessageRow) (o : Origin) → origin_at row ≡ Some o → IsOrigin row o
 origin_shown row o e = go (int_eq row.class (pos 0) && int_eq row.notice (pos 0)) (int_eq row.class (pos 1)) refl refl e
   where
     go : (a b : Bool) → (int_eq row.class (pos 0) && int_eq row.notice (pos 0)) ≡ a → int_eq row.class (pos 1) ≡ b
@@ -66,7 +66,7 @@ origin_shown row o e = go (int_eq row.class (pos 0) && int_eq row.notice (pos 0)
     go false false t f e = cc
 
 -- the columns of a message's row
-pub record IsShown (row : table.Message) (m : Message) : Type 0 where
+pub record IsShown (row : MessageRow) (m : Message) : Type 0 where
   pub moment : row.moment ≡ pos m.moment
   pub class : row.class ≡ pos (class_of m.origin)
   pub number : row.number ≡ pos (number_of m.origin)
@@ -74,7 +74,7 @@ pub record IsShown (row : table.Message) (m : Message) : Type 0 where
   pub subject : row.subject ≡ pos (subject_rank m.subject)
   pub notice : row.notice ≡ pos (tie_of m.origin)
 
-pub shown : (row : table.Message) (m : Message) → message_in row ≡ Some m → IsShown row m
+pub shown : (row : MessageRow) (m : Message) → message_in row ≡ Some m → IsShown row m
 shown row m e =
     let moment = step (moment_in row.moment) _ m e in
     let origin = step (origin_at row) _ m moment.rest in
@@ -91,7 +91,7 @@ shown row m e =
     }
 
 -- a message is read from the row that is written of it
-pub written_row : (id account : ℤ) (m : Message) (row : table.Message) → IsMoment m.moment → message_row id account m ≡ Some row → IsWritten account m row
+pub written_row : (id account : ℤ) (m : Message) (row : MessageRow) → IsMoment m.moment → message_row id account m ≡ Some row → IsWritten account m row
 written_row id account m row is e =
     let o = step (origin_columns m.origin) _ row e in
     let same = same_some _ row o.rest in
@@ -109,7 +109,7 @@ equal_name : (a b : List ℕ) → a ≡ b → bytes_eq a b ≡ true
 equal_name a b e = ap (bytes_eq a) (sym e) ∙ ap is_eq (tied_itself nat_list_cmp_total a)
 
 -- rows with the same columns read as the same message
-pub same_read : (r x : table.Message) (m : Message) → message_in r ≡ Some m → inner_table.is_same_message r x ≡ true → (message_in x ≡ Some m) × (x.account ≡ r.account)
+pub same_read : (r x : MessageRow) (m : Message) → message_in r ≡ Some m → table.is_same_message r x ≡ true → (message_in x ≡ Some m) × (x.account ≡ r.account)
 same_read r x m reads e =
     let first = and_parts _ _ e in
     let second = and_parts _ _ first.1 in
@@ -127,7 +127,7 @@ same_read r x m reads e =
     ((λ i. message_in (record x { moment = moment i; class = class i; number = number i; name = name i; subject = subject i; notice = notice i })) ∙ reads, account)
 
 -- and rows of one account that read as the same message have the same columns
-pub same_columns : (r x : table.Message) (m : Message) → x.account ≡ r.account → message_in r ≡ Some m → message_in x ≡ Some m → inner_table.is_same_message r x ≡ true
+pub same_columns : (r x : MessageRow) (m : Message) → x.account ≡ r.account → message_in r ≡ Some m → message_in x ≡ Some m → table.is_same_message r x ≡ true
 same_columns r x m account reads also =
     let a = shown x m also in
     let b = shown r m reads in
@@ -172,11 +172,11 @@ all_parts a b c d e f g =
     then_then Equal b c = refl
     then_then Greater b c = refl
 
-abbrev pub row_cmp : table.Message → table.Message → Ordering
-row_cmp = by_then_key inner_table.messages inner_table.message_order
+abbrev pub row_cmp : MessageRow → MessageRow → Ordering
+row_cmp = by_then_key table.messages table.message_order
 
 -- rows that read are in the order of their messages, and then of their numbers
-pub row_order : (a b : table.Message) (m n : Message) → message_in a ≡ Some m → message_in b ≡ Some n → row_cmp a b ≡ ordering_then (message_cmp m n) (int_cmp a.id b.id)
+pub row_order : (a b : MessageRow) (m n : Message) → message_in a ≡ Some m → message_in b ≡ Some n → row_cmp a b ≡ ordering_then (message_cmp m n) (int_cmp a.id b.id)
 row_order a b m n e f =
     let x = shown a m e in
     let y = shown b n f in
@@ -197,13 +197,13 @@ row_order a b m n e f =
 
 pub row_cmp_total : IsTotalOrder row_cmp
 row_cmp_total =
-    then_total (on_total (λ (m : table.Message). m.moment) int_cmp_total)
-    (then_total (on_total (λ (m : table.Message). m.class) int_cmp_total)
-    (then_total (on_total (λ (m : table.Message). m.number) int_cmp_total)
-    (then_total (on_total (λ (m : table.Message). m.name) nat_list_cmp_total)
-    (then_total (on_total (λ (m : table.Message). m.subject) int_cmp_total)
-    (then_total (on_total (λ (m : table.Message). m.notice) int_cmp_total)
-    (on_total (λ (m : table.Message). m.id) int_cmp_total))))))
+    then_total (on_total (λ (m : MessageRow). m.moment) int_cmp_total)
+    (then_total (on_total (λ (m : MessageRow). m.class) int_cmp_total)
+    (then_total (on_total (λ (m : MessageRow). m.number) int_cmp_total)
+    (then_total (on_total (λ (m : MessageRow). m.name) nat_list_cmp_total)
+    (then_total (on_total (λ (m : MessageRow). m.subject) int_cmp_total)
+    (then_total (on_total (λ (m : MessageRow). m.notice) int_cmp_total)
+    (on_total (λ (m : MessageRow). m.id) int_cmp_total))))))
 
 not_past : (a b : Ordering) → is_gt (ordering_then a b) ≡ false → is_gt a ≡ false
 not_past Less b e = refl
@@ -211,5 +211,5 @@ not_past Equal b e = refl
 not_past Greater b e = e
 
 -- the message of a row that stands before another's row isn't after the other's
-pub message_first : (a b : table.Message) (m n : Message) → message_in a ≡ Some m → message_in b ≡ Some n → is_gt (row_cmp a b) ≡ false → is_gt (message_cmp m n) ≡ false
+pub message_first : (a b : MessageRow) (m n : Message) → message_in a ≡ Some m → message_in b ≡ Some n → is_gt (row_cmp a b) ≡ false → is_gt (message_cmp m n) ≡ false
 message_first a b m n e f first = not_past (message_cmp m n) (int_cmp a.id b.id) (sym (ap is_gt (row_order a b m n e f)) ∙ first)

@@ -11,8 +11,8 @@ use Rattle.sqlcolumns.specs.Lines.{line_in}
 use Rattle.sqlcolumns.specs.Messages.{message_in}
 use Rattle.sqltables.specs.Account as account_table
 use Rattle.sqltables.specs.Content.{Content}
-use Rattle.sqltables.specs.Line.{Line}
-use Rattle.sqltables.specs.Message.{Message}
+use Rattle.sqltables.specs.declared.line.LineRow.{LineRow}
+use Rattle.sqltables.specs.declared.message.MessageRow.{MessageRow}
 use Rattle.sqltables.specs.inner.Consistent.{IsConsistent, LeadsTo}
 use Rattle.sqlaccounts.specs.Accounts.{lines_of, put_all, queue_of, row_of}
 use Rattle.sqlaccounts.proofs.BagLemmas.{bag-nil}
@@ -44,7 +44,7 @@ module _ {X Y : Type 0} (key : Y → ℤ) (column : X → ℤ) where
 
 module _ (xs : Content) (id : ℤ) (consistent : IsConsistent xs) (none : row_of xs id ≡ None) where
   pub lines-of-none : lines_of xs id ≡ []
-  lines-of-none = ap (λ rows. bag_of in_order (filter_map line_in rows)) (none-with account_table.accounts.key (λ (x : Line). x.account) xs.lines xs.accounts id consistent.linked.line_account none) ∙ bag-nil in_order
+  lines-of-none = ap (λ rows. bag_of in_order (filter_map line_in rows)) (none-with account_table.accounts.key (λ (x : LineRow). x.account) xs.lines xs.accounts id consistent.linked.line_account none) ∙ bag-nil in_order
 
   pub queue-of-none : queue_of xs id ≡ []
-  queue-of-none = ap (λ rows. put_all (filter_map message_in rows)) (none-with account_table.accounts.key (λ (x : Message). x.account) xs.messages xs.accounts id consistent.linked.message_account none)
+  queue-of-none = ap (λ rows. put_all (filter_map message_in rows)) (none-with account_table.accounts.key (λ (x : MessageRow). x.account) xs.messages xs.accounts id consistent.linked.message_account none)

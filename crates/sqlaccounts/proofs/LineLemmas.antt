@@ -18,9 +18,11 @@ use Rattle.sqlcolumns.specs.Steps.{◌>>=◌}
 use Rattle.sqlcolumns.proofs.ReadLemmas.{same_some}
 use Rattle.sqlrows.specs.inner.Layouts.{appended}
 use Rattle.sqltables.specs.Account as account_table
+use Rattle.sqltables.specs.declared.account.AccountRow.{AccountRow}
 use Rattle.sqltables.specs.Content.{Content}
 use Rattle.sqltables.specs.inner.Content.{accounts_to, lines_to}
 use Rattle.sqltables.specs.Line as table
+use Rattle.sqltables.specs.declared.line.LineRow.{LineRow}
 use Rattle.sqltables.specs.Line.{line_with_account}
 use Rattle.sqltables.specs.Message.{message_with_account}
 use Rattle.sqlaccounts.specs.Accounts.{balance_in, ident_and_held, lines_of, put_all, queue_of, row_of}
@@ -31,25 +33,25 @@ use Rattle.sqlaccounts.proofs.FindingLemmas.{equal}
 
 -- ---- written
 
-column-made : {A D : Type 0} (of : table.Line → A) (column : A) (row : table.Line) (domain : Option D) (cents : Option ℤ) (make : D → ℤ → table.Line) → ((d : D) (c : ℤ) → of (make d c) ≡ column)
+column-made : {A D : Type 0} (of : LineRow → A) (column : A) (row : LineRow) (domain : Option D) (cents : Option ℤ) (make : D → ℤ → LineRow) → ((d : D) (c : ℤ) → of (make d c) ≡ column)
     → (domain >>= (λ d. cents >>= (λ c. Some (make d c)))) ≡ Some row → of row ≡ column
 column-made of column row None cents make own e = cc
 column-made of column row (Some d) None make own e = cc
 column-made of column row (Some d) (Some c) make own e = sym (ap of (same_some (make d c) row e)) ∙ own d c
 
-pub account_written : (id account : ℤ) (line : Line) (ends : Option ℤ) (row : table.Line) → line_row id account line ends ≡ Some row → row.account ≡ account
-account_written id account line ends row e = column-made (λ (r : table.Line). r.account) account row (domain_columns line.roid) (exact_column line.cents) (λ d c. row_with id account line ends d c) (λ d c. refl) e
+pub account_written : (id account : ℤ) (line : Line) (ends : Option ℤ) (row : LineRow) → line_row id account line ends ≡ Some row → row.account ≡ account
+account_written id account line ends row e = column-made (λ (r : LineRow). r.account) account row (domain_columns line.roid) (exact_column line.cents) (λ d c. row_with id account line ends d c) (λ d c. refl) e
 
-pub end_written : (id account : ℤ) (line : Line) (ends : Option ℤ) (row : table.Line) → line_row id account line ends ≡ Some row → row.grace.ends ≡ ends
-end_written id account line ends row e = column-made (λ (r : table.Line). r.grace.ends) ends row (domain_columns line.roid) (exact_column line.cents) (λ d c. row_with id account line ends d c) (λ d c. refl) e
+pub end_written : (id account : ℤ) (line : Line) (ends : Option ℤ) (row : LineRow) → line_row id account line ends ≡ Some row → row.grace.ends ≡ ends
+end_written id account line ends row e = column-made (λ (r : LineRow). r.grace.ends) ends row (domain_columns line.roid) (exact_column line.cents) (λ d c. row_with id account line ends d c) (λ d c. refl) e
 
 -- ---- one row among others
 
-pub filter-without : (p : table.Line → Bool) (front rest : List table.Line) (x : table.Line) → p x ≡ false → filter p (front ++ x ∷ rest) ≡ filter p (front ++ rest)
+pub filter-without : (p : LineRow → Bool) (front rest : List LineRow) (x : LineRow) → p x ≡ false → filter p (front ++ x ∷ rest) ≡ filter p (front ++ rest)
 filter-without p front rest x e =
     filter-append p front (x ∷ rest) ∙ ap (λ b. filter p front ++ cond b (x ∷ filter p rest) (filter p rest)) e ∙ sym (filter-append p front rest)
 
-pub lines-with : (p : table.Line → Bool) (front rest : List table.Line) (x : table.Line) (line : Line) → p x ≡ true → line_in x ≡ Some line
+pub lines-with : (p : LineRow → Bool) (front rest : List LineRow) (x : LineRow) (line : Line) → p x ≡ true → line_in x ≡ Some line
     → bag_of in_order (filter_map line_in (filter p (front ++ x ∷ rest))) ≡ add in_order line (bag_of in_order (filter_map line_in (filter p (front ++ rest))))
 lines-with p front rest x line e reads =
     ap (λ ls. bag_of in_order (filter_map line_in ls)) (filter-append p front (x ∷ rest) ∙ ap (λ b. filter p front ++ cond b (x ∷ filter p rest) (filter p rest)) e)
@@ -81,12 +83,12 @@ both-less x y a =
 
 -- ---- another balance beside other lines
 
-pub repaid : (xs ys : Content) (r : ℕ) (change : List Line → List Line) (cents : ℤ) (row new : account_table.Account) → is_place r ≡ true → Some row ≡ row_of xs (pos r) → IsPaid cents row new
+pub repaid : (xs ys : Content) (r : ℕ) (change : List Line → List Line) (cents : ℤ) (row new : AccountRow) → is_place r ≡ true → Some row ≡ row_of xs (pos r) → IsPaid cents row new
     → ys.accounts ≡ insert_by account_table.accounts.key xs.accounts new → ys.messages ≡ xs.messages → ((id : ℤ) → int_eq (pos r) id ≡ false → lines_of ys id ≡ lines_of xs id)
     → lines_of ys (pos r) ≡ change (lines_of xs (pos r)) → int_eq (balance_in row.balance +ℤ cents) (balance (lines_of ys (pos r))) ≡ int_eq (balance_in row.balance) (balance (lines_of xs (pos r)))
     → AreOthersKept xs ys → IsChange r (with_lines change) xs ys
 repaid xs ys r change cents row new place found paid put messages elsewhere here sums others =
-    let id : new.id ≡ row.id = ap (λ (a : account_table.Account). a.id) paid.rest in
+    let id : new.id ≡ row.id = ap (λ (a : AccountRow). a.id) paid.rest in
     let at : row.id ≡ pos r = key-get_by account_table.accounts.key xs.accounts (pos r) row (sym found) in
     let now : new.id ≡ pos r = id ∙ at in
     let lines : lines_of ys new.id ≡ change (lines_of xs row.id) = ap (lines_of ys) now ∙ here ∙ ap (λ k. change (lines_of xs k)) (sym at) in
@@ -101,11 +103,11 @@ repaid xs ys r change cents row new place found paid put messages elsewhere here
 
 -- ---- one line more
 
-pub added : (xs : Content) (r : ℕ) (line : Line) (ends : Option ℤ) (row new : account_table.Account) (it : table.Line) → is_place r ≡ true → Some row ≡ row_of xs (pos r)
+pub added : (xs : Content) (r : ℕ) (line : Line) (ends : Option ℤ) (row new : AccountRow) (it : LineRow) → is_place r ≡ true → Some row ≡ row_of xs (pos r)
     → IsPaid (amount line) row new → IsWritten r line ends it
     → IsChange r (with_lines (add in_order line)) xs (lines_to (appended table.lines (λ id. record it { id = id })) (accounts_to (λ rows. insert_by account_table.accounts.key rows new) xs))
 added xs r line ends row new it place found paid written =
-    let x : table.Line = record it { id = next_key (λ (y : table.Line). y.id) xs.lines } in
+    let x : LineRow = record it { id = next_key (λ (y : LineRow). y.id) xs.lines } in
     let ys : Content = lines_to (appended table.lines (λ id. record it { id = id })) (accounts_to (λ rows. insert_by account_table.accounts.key rows new) xs) in
     let lines : lines_of ys (pos r) ≡ add in_order line (lines_of xs (pos r)) =
     lines-with (line_with_account (pos r)) xs.lines [] x line (equal _ _ written.account) written.reads

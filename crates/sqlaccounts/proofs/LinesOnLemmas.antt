@@ -15,9 +15,10 @@ use Rattle.basis.proofs.BagLaws.{bag_of-push, filter-bag_of}
 use Rattle.sqlcolumns.specs.Lines.{line_in}
 use Rattle.sqlcolumns.specs.Numbers.{is_place, registrar_column}
 use Rattle.sqltables.specs.Account as account_table
+use Rattle.sqltables.specs.declared.account.AccountRow.{AccountRow}
 use Rattle.sqltables.specs.Content.{Content}
-use Rattle.sqltables.specs.Line as table
 use Rattle.sqltables.specs.Line.{line_with_account}
+use Rattle.sqltables.specs.declared.line.LineRow.{LineRow}
 use Rattle.sqltables.specs.inner.Consistent.{IsConsistent}
 use Rattle.sqlaccounts.specs.Accounts.{account_in, account_of, lines_of, row_of}
 use Rattle.sqlaccounts.specs.inner.Finding.{IsDomainRoid, is_row_on}
@@ -27,7 +28,7 @@ use Rattle.sqlaccounts.proofs.FindingLemmas.{on-row}
 use Rattle.sqlaccounts.proofs.ConsistencyLemmas.{lines-of-none}
 
 -- one row more
-pub read-more : (rows : List table.Line) (row : table.Line) (line : Line) → line_in row ≡ Some line
+pub read-more : (rows : List LineRow) (row : LineRow) (line : Line) → line_in row ≡ Some line
     → bag_of in_order (filter_map line_in (rows ++ row ∷ [])) ≡ add in_order line (bag_of in_order (filter_map line_in rows))
 read-more rows row line e =
     ap (bag_of in_order) (filter_map-append line_in rows (row ∷ []) ∙ ap (λ o. filter_map line_in rows ++ cons_option o []) e)
@@ -35,12 +36,12 @@ read-more rows row line e =
 
 -- ---- a part of the rows
 
-module _ (p : Line → Bool) (a b : table.Line → Bool) (agree : (x : table.Line) (l : Line) → line_in x ≡ Some l → b x ≡ (a x && p l)) where
-  unread : (x : table.Line) (c : Bool) (xs : List table.Line) → line_in x ≡ None → filter_map line_in (cond c (x ∷ xs) xs) ≡ filter_map line_in xs
+module _ (p : Line → Bool) (a b : LineRow → Bool) (agree : (x : LineRow) (l : Line) → line_in x ≡ Some l → b x ≡ (a x && p l)) where
+  unread : (x : LineRow) (c : Bool) (xs : List LineRow) → line_in x ≡ None → filter_map line_in (cond c (x ∷ xs) xs) ≡ filter_map line_in xs
   unread x true xs e = ap (λ o. cons_option o (filter_map line_in xs)) e
   unread x false xs e = refl
 
-  readable : (x : table.Line) (l : Line) (c : Bool) (xs : List table.Line) → line_in x ≡ Some l → filter_map line_in (cond c (x ∷ xs) xs) ≡ cond c (l ∷ filter_map line_in xs) (filter_map line_in xs)
+  readable : (x : LineRow) (l : Line) (c : Bool) (xs : List LineRow) → line_in x ≡ Some l → filter_map line_in (cond c (x ∷ xs) xs) ≡ cond c (l ∷ filter_map line_in xs) (filter_map line_in xs)
   readable x l true xs e = ap (λ o. cons_option o (filter_map line_in xs)) e
   readable x l false xs e = refl
 
@@ -48,7 +49,7 @@ module _ (p : Line → Bool) (a b : table.Line → Bool) (agree : (x : table.Lin
   passes l true ls ms e = ap (λ ns. cond (p l) (l ∷ ns) ns) e
   passes l false ls ms e = e
 
-  part-at : (x : table.Line) (xs : List table.Line) (o : Option Line) → line_in x ≡ o → filter p (filter_map line_in (filter a xs)) ≡ filter_map line_in (filter b xs)
+  part-at : (x : LineRow) (xs : List LineRow) (o : Option Line) → line_in x ≡ o → filter p (filter_map line_in (filter a xs)) ≡ filter_map line_in (filter b xs)
       → filter p (filter_map line_in (filter a (x ∷ xs))) ≡ filter_map line_in (filter b (x ∷ xs))
   part-at x xs None e ih = ap (filter p) (unread x (a x) (filter a xs) e) ∙ ih ∙ sym (unread x (b x) (filter b xs) e)
   part-at x xs (Some l) e ih =
@@ -57,13 +58,13 @@ module _ (p : Line → Bool) (a b : table.Line → Bool) (agree : (x : table.Lin
       ∙ ap (λ c. cond c (l ∷ filter_map line_in (filter b xs)) (filter_map line_in (filter b xs))) (sym (agree x l e))
       ∙ sym (readable x l (b x) (filter b xs) e)
 
-  part : (xs : List table.Line) → filter p (filter_map line_in (filter a xs)) ≡ filter_map line_in (filter b xs)
+  part : (xs : List LineRow) → filter p (filter_map line_in (filter a xs)) ≡ filter_map line_in (filter b xs)
   part [] = refl
   part (x ∷ xs) = part-at x xs (line_in x) refl (part xs)
 
 -- ---- of an account, also where there is none
 
-lines-at : (xs : Content) (r : ℕ) (o : Option account_table.Account) → IsConsistent xs → is_place r ≡ true → row_of xs (pos r) ≡ o → (account_of r xs).lines ≡ lines_of xs (pos r)
+lines-at : (xs : Content) (r : ℕ) (o : Option AccountRow) → IsConsistent xs → is_place r ≡ true → row_of xs (pos r) ≡ o → (account_of r xs).lines ≡ lines_of xs (pos r)
 lines-at xs r (Some row) consistent place at =
     ap (λ a. (unwrap_or a empty_account).lines) (get-found xs r row place at) ∙ ap (lines_of xs) (key-get_by account_table.accounts.key xs.accounts (pos r) row at)
 lines-at xs r None consistent place at =
@@ -82,7 +83,7 @@ lines-read xs r roid consistent place is =
     ∙ ap (filter (is_on roid)) (sym (lines-there xs r consistent place))
 
 -- an account's lines are a bag
-bag-at : (xs : Content) (b : Bool) (o : Option account_table.Account)
+bag-at : (xs : Content) (b : Bool) (o : Option AccountRow)
     → bag_of in_order (unwrap_or (cond b (option_map (account_in xs) o) None) empty_account).lines ≡ (unwrap_or (cond b (option_map (account_in xs) o) None) empty_account).lines
 bag-at xs true (Some row) = bag-again in_order lines_in_order (filter_map line_in (filter (line_with_account row.id) xs.lines))
 bag-at xs true None = bag-nil in_order

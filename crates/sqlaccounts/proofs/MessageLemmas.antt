@@ -29,10 +29,11 @@ use Rattle.accounts.proofs.MessageLaws.{message_cmp_only}
 use Rattle.sqlcolumns.specs.Messages.{message_in}
 use Rattle.sqlcolumns.specs.Numbers.{is_place}
 use Rattle.sqltables.specs.Account as account_table
+use Rattle.sqltables.specs.declared.account.AccountRow.{AccountRow}
 use Rattle.sqltables.specs.Content.{Content}
 use Rattle.sqltables.specs.inner.Content.{accounts_to, messages_to}
 use Rattle.sqltables.specs.Message as table
-use Rattle.sqltables.specs.inner.Message as inner_table
+use Rattle.sqltables.specs.declared.message.MessageRow.{MessageRow}
 use Rattle.sqltables.specs.inner.Consistent.{IsConsistent}
 use Rattle.sqlaccounts.specs.Accounts.{account_in, accounts_of, balance_in, ident_and_held, lines_of, put_all, queue_of, row_of}
 use Rattle.sqlaccounts.specs.inner.Changes.{IsChange}
@@ -50,7 +51,7 @@ is_nil (x ∷ xs) = false
 
 -- ---- rows and their messages
 
-abbrev messages_in : List table.Message → List Message
+abbrev messages_in : List MessageRow → List Message
 messages_in rows = filter_map message_in rows
 
 has_cons : (o : Option Message) (m : Message) (ms : List Message) → Has ms m → Has (cons_option o ms) m
@@ -61,18 +62,18 @@ has_head : (o : Option Message) (m : Message) (ms : List Message) → o ≡ Some
 has_head o m ms e = subst (λ o. Has (cons_option o ms) m) (sym e) (inl refl)
 
 -- a row that reads is one of the messages
-has_read : (rows : List table.Message) (row : table.Message) (m : Message) → Has rows row → message_in row ≡ Some m → Has (messages_in rows) m
+has_read : (rows : List MessageRow) (row : MessageRow) (m : Message) → Has rows row → message_in row ≡ Some m → Has (messages_in rows) m
 has_read [] row m has e = absurd has
 has_read (x ∷ xs) row m (inl is) e = has_head (message_in x) m (messages_in xs) (ap message_in (sym is) ∙ e)
 has_read (x ∷ xs) row m (inr has) e = has_cons (message_in x) m (messages_in xs) (has_read xs row m has e)
 
-record IsRowOf (rows : List table.Message) (m : Message) : Type 0 where
-  pub row : table.Message
+record IsRowOf (rows : List MessageRow) (m : Message) : Type 0 where
+  pub row : MessageRow
   pub there : Has rows row
   pub reads : message_in row ≡ Some m
 
 -- and each message is of a row
-read_from : (rows : List table.Message) (m : Message) → Has (messages_in rows) m → IsRowOf rows m
+read_from : (rows : List MessageRow) (m : Message) → Has (messages_in rows) m → IsRowOf rows m
 read_from [] m has = absurd has
 read_from (x ∷ xs) m has = go (message_in x) refl has (read_from xs m)
   where
@@ -84,38 +85,38 @@ read_from (x ∷ xs) m has = go (message_in x) refl has (read_from xs m)
     go (Some n) e (inl is) rest = record { row = x; there = inl refl; reads = e ∙ ap Some (sym is) }
     go (Some n) e (inr has) rest = later (rest has)
 
-abbrev of_account : ℤ → List table.Message → List table.Message
+abbrev of_account : ℤ → List MessageRow → List MessageRow
 of_account id rows = filter (table.message_with_account id) rows
 
 -- ---- the oldest message
 
-pub first_found : (xs : Content) (id : ℤ) (row : table.Message) (m : Message) → slice_get (inner_table.queue_of id xs.messages) 0 ≡ Some row → message_in row ≡ Some m → slice_get (queue_of xs id) 0 ≡ Some m
+pub first_found : (xs : Content) (id : ℤ) (row : MessageRow) (m : Message) → slice_get (table.queue_of id xs.messages) 0 ≡ Some row → message_in row ≡ Some m → slice_get (queue_of xs id) 0 ≡ Some m
 first_found xs id row m first reads =
-    let rows : List table.Message = of_account id xs.messages in
+    let rows : List MessageRow = of_account id xs.messages in
     let least : IsLeast row_cmp row_cmp_total (Some row) rows = subst (λ o. IsLeast row_cmp row_cmp_total o rows) first (least-sort_by row_cmp row_cmp_total rows) in
     first-put_all m (messages_in rows) (has_read rows row m least.0 reads)
     (λ n has. let it = read_from rows n has in message_first row it.row m n reads it.reads (least.1 it.row it.there))
 
-pub none_found : (xs : Content) (id : ℤ) → slice_get (inner_table.queue_of id xs.messages) 0 ≡ None → slice_get (queue_of xs id) 0 ≡ None
+pub none_found : (xs : Content) (id : ℤ) → slice_get (table.queue_of id xs.messages) 0 ≡ None → slice_get (queue_of xs id) 0 ≡ None
 none_found xs id none =
-    let rows : List table.Message = of_account id xs.messages in
+    let rows : List MessageRow = of_account id xs.messages in
     let empty : rows ≡ [] = subst (λ o. IsLeast row_cmp row_cmp_total o rows) none (least-sort_by row_cmp row_cmp_total rows) in
     ap (λ rows. slice_get (put_all (messages_in rows)) 0) empty
 
-has_no_row : (rows : List account_table.Account) (a : account_table.Account) (id : ℤ) → Has rows a → a.id ≡ id → get_by account_table.accounts.key rows id ≡ None → ⊥
+has_no_row : (rows : List AccountRow) (a : AccountRow) (id : ℤ) → Has rows a → a.id ≡ id → get_by account_table.accounts.key rows id ≡ None → ⊥
 has_no_row [] a id has at none = has
 has_no_row (x ∷ xs) a id has at none = go (int_eq x.id id) refl has none (λ has none. has_no_row xs a id has at none)
   where
     go : (b : Bool) → int_eq x.id id ≡ b → (a ≡ x) ⊎ Has xs a → cond b (Some x) (get_by account_table.accounts.key xs id) ≡ None → (Has xs a → get_by account_table.accounts.key xs id ≡ None → ⊥) → ⊥
     go true e has none rest = cc
-    go false e (inl is) none rest = true≢false (sym ((Decides-int_eq x.id id).1 (ap (λ (b : account_table.Account). b.id) (sym is) ∙ at)) ∙ e)
+    go false e (inl is) none rest = true≢false (sym ((Decides-int_eq x.id id).1 (ap (λ (b : AccountRow). b.id) (sym is) ∙ at)) ∙ e)
     go false e (inr has) none rest = rest has none
 
 -- where there is no account there is no message for it
 no_messages : (xs : Content) (id : ℤ) → IsConsistent xs → row_of xs id ≡ None → slice_get (queue_of xs id) 0 ≡ None
 no_messages xs id consistent none = ap (λ rows. slice_get (put_all (messages_in rows)) 0) (go (of_account id xs.messages) (λ x has. has_filtered (table.message_with_account id) xs.messages x has))
   where
-    go : (rows : List table.Message) → ((x : table.Message) → Has rows x → Has xs.messages x × (int_eq x.account id ≡ true)) → rows ≡ []
+    go : (rows : List MessageRow) → ((x : MessageRow) → Has rows x → Has xs.messages x × (int_eq x.account id ≡ true)) → rows ≡ []
     go [] each = refl
     go (x ∷ rest) each =
         let it = each x (inl refl) in
@@ -129,7 +130,7 @@ oldest-found xs q it place consistent is =
     ∙ ap (λ b. slice_get (unwrap_or (cond b (option_map (account_in xs) (row_of xs (pos q))) None) empty_account).queue 0) (sym place)
     ∙ ap (λ a. slice_get (unwrap_or a empty_account).queue 0) (sym (get-accounts_of xs q))
   where
-    go : (o : Option account_table.Account) → row_of xs (pos q) ≡ o → it ≡ slice_get (unwrap_or (option_map (account_in xs) (row_of xs (pos q))) empty_account).queue 0
+    go : (o : Option AccountRow) → row_of xs (pos q) ≡ o → it ≡ slice_get (unwrap_or (option_map (account_in xs) (row_of xs (pos q))) empty_account).queue 0
     go None e = sym is ∙ no_messages xs (pos q) consistent e ∙ sym (ap (λ o. slice_get (unwrap_or (option_map (account_in xs) o) empty_account).queue 0) e)
     go (Some row) e =
         sym is ∙ ap (λ id. slice_get (queue_of xs id) 0) (sym (key-get_by account_table.accounts.key xs.accounts (pos q) row e))
@@ -137,7 +138,7 @@ oldest-found xs q it place consistent is =
 
 -- ---- an account that stays as it is
 
-unchanged : (xs : Content) (r : ℕ) (f : Account → Account) (row : account_table.Account) → is_place r ≡ true → Some row ≡ row_of xs (pos r) → f (account_in xs row) ≡ account_in xs row → IsChange r f xs xs
+unchanged : (xs : Content) (r : ℕ) (f : Account → Account) (row : AccountRow) → is_place r ≡ true → Some row ≡ row_of xs (pos r) → f (account_in xs row) ≡ account_in xs row → IsChange r f xs xs
 unchanged xs r f row place found same =
     let there : get (accounts_of xs) r ≡ Some (account_in xs row) = get-found xs r row place (sym found) in
     record {
@@ -169,7 +170,7 @@ shifted a b step = go (int_eq (a +ℤ step) (b +ℤ step)) (int_eq a b) refl ref
         absurd (true≢false (sym ((Decides-int_eq a b).1 is) ∙ f))
     go false true e f = absurd (true≢false (sym ((Decides-int_eq _ _).1 (ap (λ z. z +ℤ step) ((Decides-int_eq a b).0 f))) ∙ e))
 
-requeued : (xs : Content) (ms : List table.Message) (r : ℕ) (f : List Message → List Message) (row new : account_table.Account) (step : ℤ)
+requeued : (xs : Content) (ms : List MessageRow) (r : ℕ) (f : List Message → List Message) (row new : AccountRow) (step : ℤ)
     → is_place r ≡ true → Some row ≡ row_of xs (pos r) → IsWaitingMore step row new
     → ((id : ℤ) → int_eq (pos r) id ≡ false → put_all (messages_in (of_account id ms)) ≡ queue_of xs id)
     → put_all (messages_in (of_account (pos r) ms)) ≡ f (queue_of xs (pos r))
@@ -178,10 +179,10 @@ requeued : (xs : Content) (ms : List table.Message) (r : ℕ) (f : List Message 
 requeued xs ms r f row new step place found more elsewhere here count =
     let ys : Content = accounts_to (λ rows. insert_by account_table.accounts.key rows new) (messages_to (λ _. ms) xs) in
     let at : row.id ≡ pos r = key-get_by account_table.accounts.key xs.accounts (pos r) row (sym found) in
-    let same : new.id ≡ row.id = ap (λ (a : account_table.Account). a.id) more.rest in
+    let same : new.id ≡ row.id = ap (λ (a : AccountRow). a.id) more.rest in
     let queue : queue_of ys new.id ≡ f (queue_of xs row.id) = ap (queue_of ys) (same ∙ at) ∙ here ∙ sym (ap (λ id. f (queue_of xs id)) at) in
-    let cents : new.balance ≡ row.balance = ap (λ (a : account_table.Account). a.balance) more.rest in
-    let waiting : new.waiting ≡ row.waiting +ℤ step = ap (λ (a : account_table.Account). a.waiting) more.rest in
+    let cents : new.balance ≡ row.balance = ap (λ (a : AccountRow). a.balance) more.rest in
+    let waiting : new.waiting ≡ row.waiting +ℤ step = ap (λ (a : AccountRow). a.waiting) more.rest in
     let counted : int_eq new.waiting (pos (length (queue_of ys new.id))) ≡ int_eq row.waiting (pos (length (queue_of xs row.id))) =
     (λ i. int_eq (waiting i) (pos (length (queue i)))) ∙ ap (int_eq (row.waiting +ℤ step)) (ap (λ id. pos (length (f (queue_of xs id)))) at ∙ count ∙ sym (ap (λ id. pos (length (queue_of xs id)) +ℤ step) at))
     ∙ shifted row.waiting (pos (length (queue_of xs row.id))) step in
@@ -193,19 +194,19 @@ requeued xs ms r f row new step place found more elsewhere here count =
 -- ---- whether a message waits
 
 -- the rows of a message, under an account's number
-module _ (w : table.Message) (r : ℤ) (m : Message) (written : IsWritten r m w) where
-  said_there : (rows : List table.Message) (row : table.Message) → Has (filter (inner_table.is_same_message w) rows) row → list_any (tie m) (messages_in (of_account r rows)) ≡ true
+module _ (w : MessageRow) (r : ℤ) (m : Message) (written : IsWritten r m w) where
+  said_there : (rows : List MessageRow) (row : MessageRow) → Has (filter (table.is_same_message w) rows) row → list_any (tie m) (messages_in (of_account r rows)) ≡ true
   said_there rows row has =
-      let it = has_filtered (inner_table.is_same_message w) rows row has in
+      let it = has_filtered (table.is_same_message w) rows row has in
       let read = same_read w row m written.reads it.1 in
       let mine : table.message_with_account r row ≡ true = (Decides-int_eq row.account r).1 (read.1 ∙ written.account) in
       some_from (tie m) (messages_in (of_account r rows)) m (has_read (of_account r rows) row m (has_kept (table.message_with_account r) rows row it.0 mine) read.0) (tied m)
 
   -- a row with these columns is there, so the message waits
-  said : (rows : List table.Message) (b : Bool) → b ≡ is_nil (filter (inner_table.is_same_message w) rows) → list_any (tie m) (messages_in (of_account r rows)) ≡ not b
-  said rows b is = go (filter (inner_table.is_same_message w) rows) refl b is (list_any (tie m) (messages_in (of_account r rows))) refl
+  said : (rows : List MessageRow) (b : Bool) → b ≡ is_nil (filter (table.is_same_message w) rows) → list_any (tie m) (messages_in (of_account r rows)) ≡ not b
+  said rows b is = go (filter (table.is_same_message w) rows) refl b is (list_any (tie m) (messages_in (of_account r rows))) refl
     where
-      go : (same : List table.Message) → filter (inner_table.is_same_message w) rows ≡ same → (b : Bool) → b ≡ is_nil same
+      go : (same : List MessageRow) → filter (table.is_same_message w) rows ≡ same → (b : Bool) → b ≡ is_nil same
           → (c : Bool) → list_any (tie m) (messages_in (of_account r rows)) ≡ c → c ≡ not b
       go [] none true is false e = refl
       go [] none true is true e =
@@ -214,7 +215,7 @@ module _ (w : table.Message) (r : ℤ) (m : Message) (written : IsWritten r m w)
           let mine = has_filtered (table.message_with_account r) rows it.row it.there in
           let one : m ≡ some.0 = message_cmp_only m some.0 ((Equal-is (message_cmp m some.0)).0 some.2) in
           let same = same_columns w it.row m ((Decides-int_eq it.row.account r).0 mine.1 ∙ sym written.account) written.reads (it.reads ∙ ap Some (sym one)) in
-          absurd (subst (λ rows. Has rows it.row) none (has_kept (inner_table.is_same_message w) rows it.row mine.0 same))
+          absurd (subst (λ rows. Has rows it.row) none (has_kept (table.is_same_message w) rows it.row mine.0 same))
       go [] none false is c e = absurd (true≢false (sym is))
       go (x ∷ rest) some true is c e = absurd (true≢false is)
       go (x ∷ rest) some false is c e = sym e ∙ said_there rows x (subst (λ rows. Has rows x) (sym some) (inl refl))
@@ -245,11 +246,11 @@ module _ (xs : Content) (r : ℕ) (m : Message) (it : Found) (found : IsFound xs
       (λ i. record (account_in xs it.account) { queue = (ap (λ id. dropped m (queue_of xs id)) at ∙ dropped-lacking m (queue_of xs (pos r)) lacks ∙ ap (queue_of xs) (sym at)) i })
 
   -- the rows with one more
-  one : ℤ → table.Message
+  one : ℤ → MessageRow
   one id = record it.row { id = id }
 
   key_now : ℤ
-  key_now = next_key inner_table.messages.key xs.messages
+  key_now = next_key table.messages.key xs.messages
 
   elsewhere : (id : ℤ) → int_eq (pos r) id ≡ false → of_account id (one key_now ∷ []) ≡ []
   unfolding one
@@ -259,11 +260,11 @@ module _ (xs : Content) (r : ℕ) (m : Message) (it : Found) (found : IsFound xs
   unfolding one
   here = ap (λ b. cond b (one key_now ∷ []) []) ((Decides-int_eq it.row.account (pos r)).1 found.written.account)
 
-  pub put_in : (new : account_table.Account) → (length it.same == 0) ≡ true → IsWaitingMore (pos 1) it.account new
-      → IsChange r (with_queue (put m)) xs (accounts_to (λ rows. insert_by account_table.accounts.key rows new) (messages_to (appended inner_table.messages (λ id. record it.row { id = id })) xs))
+  pub put_in : (new : AccountRow) → (length it.same == 0) ≡ true → IsWaitingMore (pos 1) it.account new
+      → IsChange r (with_queue (put m)) xs (accounts_to (λ rows. insert_by account_table.accounts.key rows new) (messages_to (appended table.messages (λ id. record it.row { id = id })) xs))
   unfolding one key_now
   put_in new none more =
-      let ms : List table.Message = xs.messages ++ one key_now ∷ [] in
+      let ms : List MessageRow = xs.messages ++ one key_now ∷ [] in
       let before : List Message = messages_in (of_account (pos r) xs.messages) in
       let lacks : has m (queue_of xs (pos r)) ≡ false = has-put_all m before ∙ waits true (nil_or it.same true none) in
       requeued xs ms r (put m) it.account new (pos 1) found.place found.account more
@@ -280,15 +281,15 @@ module _ (xs : Content) (r : ℕ) (m : Message) (it : Found) (found : IsFound xs
 not_below : (a b : ℤ) → a ≡ b → a <ℤ b → ⊥
 not_below a b e below = grind (arith, ints)
 
-one_key : (xs : List table.Message) (y f : table.Message) → IsKeyedBy inner_table.messages.key xs → Has xs y → Has xs f → y.id ≡ f.id → y ≡ f
+one_key : (xs : List MessageRow) (y f : MessageRow) → IsKeyedBy table.messages.key xs → Has xs y → Has xs f → y.id ≡ f.id → y ≡ f
 one_key [] y f keyed has also same = absurd has
 one_key (x ∷ xs) y f keyed (inl e) (inl g) same = e ∙ sym g
 one_key (x ∷ xs) y f keyed (inl e) (inr also) same =
-    let below : x.id <ℤ f.id = all_has (λ (z : table.Message). x.id <ℤ z.id) xs f keyed.0 also in
-    absurd (not_below y.id f.id same (subst (λ (z : table.Message). z.id <ℤ f.id) (sym e) below))
+    let below : x.id <ℤ f.id = all_has (λ (z : MessageRow). x.id <ℤ z.id) xs f keyed.0 also in
+    absurd (not_below y.id f.id same (subst (λ (z : MessageRow). z.id <ℤ f.id) (sym e) below))
 one_key (x ∷ xs) y f keyed (inr has) (inl g) same =
-    let below : x.id <ℤ y.id = all_has (λ (z : table.Message). x.id <ℤ z.id) xs y keyed.0 has in
-    absurd (not_below f.id y.id (sym same) (subst (λ (z : table.Message). z.id <ℤ y.id) (sym g) below))
+    let below : x.id <ℤ y.id = all_has (λ (z : MessageRow). x.id <ℤ z.id) xs y keyed.0 has in
+    absurd (not_below f.id y.id (sym same) (subst (λ (z : MessageRow). z.id <ℤ y.id) (sym g) below))
 one_key (x ∷ xs) y f keyed (inr has) (inr also) same = one_key xs y f keyed.1 has also same
 
 filter_alike : {X : Type 0} (p q : X → Bool) (xs : List X) → ((x : X) → Has xs x → p x ≡ q x) → filter p xs ≡ filter q xs
@@ -303,9 +304,9 @@ one_test false false f g = refl
 one_test true false f g = sym (f refl)
 one_test false true f g = g refl
 
-module _ (xs : Content) (r : ℕ) (m : Message) (it : Found) (found : IsFound xs r m it) (consistent : IsConsistent xs) (f : table.Message) (only_one : it.same ≡ f ∷ []) where
-  abbrev is_it : table.Message → Bool
-  is_it y = inner_table.is_same_message it.row y
+module _ (xs : Content) (r : ℕ) (m : Message) (it : Found) (found : IsFound xs r m it) (consistent : IsConsistent xs) (f : MessageRow) (only_one : it.same ≡ f ∷ []) where
+  abbrev is_it : MessageRow → Bool
+  is_it y = table.is_same_message it.row y
 
   all_of_it : filter is_it xs.messages ≡ f ∷ []
   all_of_it = sym found.same ∙ only_one
@@ -313,17 +314,17 @@ module _ (xs : Content) (r : ℕ) (m : Message) (it : Found) (found : IsFound xs
   f_there : Has xs.messages f × (is_it f ≡ true)
   f_there = has_filtered is_it xs.messages f (subst (λ rows. Has rows f) (sym all_of_it) (inl refl))
 
-  only_f : (y : table.Message) → (y ≡ f) ⊎ ⊥ → y ≡ f
+  only_f : (y : MessageRow) → (y ≡ f) ⊎ ⊥ → y ≡ f
   only_f y (inl e) = e
   only_f y (inr e) = absurd e
 
   -- the row with its number is the one with its columns
-  same_removed : delete_where (inner_table.message_with_id f.id) xs.messages ≡ delete_where is_it xs.messages
-  same_removed = filter_alike (λ y. not (inner_table.message_with_id f.id y)) (λ y. not (is_it y)) xs.messages (λ y has. ap not (one_test (inner_table.message_with_id f.id y) (is_it y)
+  same_removed : delete_where (table.message_with_id f.id) xs.messages ≡ delete_where is_it xs.messages
+  same_removed = filter_alike (λ y. not (table.message_with_id f.id y)) (λ y. not (is_it y)) xs.messages (λ y has. ap not (one_test (table.message_with_id f.id y) (is_it y)
       (λ e. ap is_it (one_key xs.messages y f consistent.keyed.messages has f_there.0 ((Decides-int_eq y.id f.id).0 e)) ∙ f_there.1)
-      (λ e. (Decides-int_eq y.id f.id).1 (ap (λ (z : table.Message). z.id) (only_f y (subst (λ rows. Has rows y) all_of_it (has_kept is_it xs.messages y has e)))))))
+      (λ e. (Decides-int_eq y.id f.id).1 (ap (λ (z : MessageRow). z.id) (only_f y (subst (λ rows. Has rows y) all_of_it (has_kept is_it xs.messages y has e)))))))
 
-  apart : (id : ℤ) (y : table.Message) → int_eq (pos r) id ≡ false → table.message_with_account id y ≡ true → not (is_it y) ≡ true
+  apart : (id : ℤ) (y : MessageRow) → int_eq (pos r) id ≡ false → table.message_with_account id y ≡ true → not (is_it y) ≡ true
   apart id y e mine = go (is_it y) refl
     where
       go : (b : Bool) → is_it y ≡ b → not b ≡ true
@@ -334,7 +335,7 @@ module _ (xs : Content) (r : ℕ) (m : Message) (it : Found) (found : IsFound xs
   kept_elsewhere : (id : ℤ) → int_eq (pos r) id ≡ false → of_account id (delete_where is_it xs.messages) ≡ of_account id xs.messages
   kept_elsewhere id e = filter-filter (table.message_with_account id) (λ y. not (is_it y)) (λ y mine. apart id y e mine) xs.messages
 
-  left : (rows : List table.Message) → messages_in (of_account (pos r) (delete_where is_it rows)) ≡ without m (messages_in (of_account (pos r) rows))
+  left : (rows : List MessageRow) → messages_in (of_account (pos r) (delete_where is_it rows)) ≡ without m (messages_in (of_account (pos r) rows))
   left [] = refl
   left (y ∷ ys) = go (table.message_with_account (pos r) y) (is_it y) (message_in y) refl refl refl (left ys)
     where
@@ -365,10 +366,10 @@ module _ (xs : Content) (r : ℕ) (m : Message) (it : Found) (found : IsFound xs
   fewer : (q : ℕ) (n : ℕ) → q + 1 ≡ n → pos q ≡ pos n +ℤ negsuc 0
   fewer q n e = omega (arith, ints, e)
 
-  pub taken : (new : account_table.Account) → IsWaitingMore (negsuc 0) it.account new
-      → IsChange r (with_queue (dropped m)) xs (accounts_to (λ rows. insert_by account_table.accounts.key rows new) (messages_to (delete_where (inner_table.message_with_id f.id)) xs))
+  pub taken : (new : AccountRow) → IsWaitingMore (negsuc 0) it.account new
+      → IsChange r (with_queue (dropped m)) xs (accounts_to (λ rows. insert_by account_table.accounts.key rows new) (messages_to (delete_where (table.message_with_id f.id)) xs))
   taken new more =
-      let ms : List table.Message = delete_where (inner_table.message_with_id f.id) xs.messages in
+      let ms : List MessageRow = delete_where (table.message_with_id f.id) xs.messages in
       let before : List Message = messages_in (of_account (pos r) xs.messages) in
       let there : list_any (tie m) before ≡ true = said it.row (pos r) m found.written xs.messages false (sym (ap is_nil all_of_it)) in
       requeued xs ms r (dropped m) it.account new (negsuc 0) found.place found.account more

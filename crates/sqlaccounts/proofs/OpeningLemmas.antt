@@ -7,6 +7,7 @@ use Rattle.accounts.specs.Account.{empty_account}
 use Rattle.accounts.specs.Lines.{balance}
 use Rattle.sqlcolumns.specs.Numbers.{is_place}
 use Rattle.sqltables.specs.Account as account_table
+use Rattle.sqltables.specs.declared.account.AccountRow.{AccountRow}
 use Rattle.sqltables.specs.Content.{Content}
 use Rattle.sqltables.specs.inner.Content.{accounts_to}
 use Rattle.sqltables.specs.inner.Consistent.{IsConsistent}
@@ -21,7 +22,7 @@ unfolding balance
 no_cents = refl
 
 module _ (xs : Content) (r : ℕ) (consistent : IsConsistent xs) (place : is_place r ≡ true) (none : row_of xs (pos r) ≡ None) where
-  abbrev new : account_table.Account
+  abbrev new : AccountRow
   new = opened_row r
 
   abbrev ys : Content
@@ -54,7 +55,7 @@ module _ (xs : Content) (r : ℕ) (consistent : IsConsistent xs) (place : is_pla
   }
 
 -- where it was there
-still : (xs : Content) (r : ℕ) (row : account_table.Account) → is_place r ≡ true → row_of xs (pos r) ≡ Some row → IsOpened r xs xs
+still : (xs : Content) (r : ℕ) (row : AccountRow) → is_place r ≡ true → row_of xs (pos r) ≡ Some row → IsOpened r xs xs
 still xs r row place there = record {
   accounts = kept_accounts xs r (λ a. a) row place there refl;
   sums = refl;
@@ -66,11 +67,11 @@ still xs r row place there = record {
 }
 
 -- by what is found of it
-pub still-open : (xs : Content) (r : ℕ) (o : Option account_table.Account) → is_place r ≡ true → o ≡ row_of xs (pos r) → is_some o ≡ true → IsOpened r xs xs
+pub still-open : (xs : Content) (r : ℕ) (o : Option AccountRow) → is_place r ≡ true → o ≡ row_of xs (pos r) → is_some o ≡ true → IsOpened r xs xs
 still-open xs r None place found e = cc
 still-open xs r (Some row) place found e = still xs r row place (sym found)
 
-pub opened-now : (xs : Content) (r : ℕ) (o : Option account_table.Account) → IsConsistent xs → is_place r ≡ true → o ≡ row_of xs (pos r) → is_some o ≡ false
+pub opened-now : (xs : Content) (r : ℕ) (o : Option AccountRow) → IsConsistent xs → is_place r ≡ true → o ≡ row_of xs (pos r) → is_some o ≡ false
     → IsOpened r xs (accounts_to (λ rows. insert_by account_table.accounts.key rows (opened_row r)) xs)
 opened-now xs r None consistent place found e = opened xs r consistent place (sym found)
 opened-now xs r (Some row) consistent place found e = cc

@@ -13,9 +13,10 @@ use Rattle.basis.proofs.BagLaws.{any-bag_of, taken-absent, taken-add}
 use Rattle.sqlcolumns.specs.Lines.{line_in}
 use Rattle.sqlcolumns.specs.Numbers.{is_place}
 use Rattle.sqltables.specs.Account as account_table
+use Rattle.sqltables.specs.declared.account.AccountRow.{AccountRow}
 use Rattle.sqltables.specs.Content.{Content}
-use Rattle.sqltables.specs.Line as table
 use Rattle.sqltables.specs.Line.{line_with_account}
+use Rattle.sqltables.specs.declared.line.LineRow.{LineRow}
 use Rattle.sqltables.specs.inner.Consistent.{IsConsistent}
 use Rattle.sqlcolumns.proofs.ReadLemmas.{same_some}
 use Rattle.sqlaccounts.specs.Accounts.{account_in, balance_in, lines_of, row_of}
@@ -26,7 +27,7 @@ use Rattle.sqlaccounts.proofs.FindingLemmas.{equal, found, none-there, own-row, 
 use Rattle.sqlaccounts.proofs.LineLemmas.{both-less, filter-without, lines-with, repaid}
 
 -- a line that isn't there
-pub not-taken : (xs : Content) (r : ℕ) (line : Line) (row : account_table.Account) → is_place r ≡ true → Some row ≡ row_of xs (pos r) → IfSome line.roid IsDomainRoid
+pub not-taken : (xs : Content) (r : ℕ) (line : Line) (row : AccountRow) → is_place r ≡ true → Some row ≡ row_of xs (pos r) → IfSome line.roid IsDomainRoid
     → find (reads_as line) (filter (is_row_about r line.roid) xs.lines) ≡ None → IsChange r (with_lines (taken in_order line)) xs xs
 not-taken xs r line row place there is none =
     let at : row.id ≡ pos r = key-get_by account_table.accounts.key xs.accounts (pos r) row (sym there) in
@@ -36,14 +37,14 @@ not-taken xs r line row place there is none =
 
 -- ---- one row less
 
-removed : (xs : Content) (r : ℕ) (line : Line) (row new : account_table.Account) (it : table.Line) → IsKeyedBy (λ (x : table.Line). x.id) xs.lines → is_place r ≡ true → Some row ≡ row_of xs (pos r)
+removed : (xs : Content) (r : ℕ) (line : Line) (row new : AccountRow) (it : LineRow) → IsKeyedBy (λ (x : LineRow). x.id) xs.lines → is_place r ≡ true → Some row ≡ row_of xs (pos r)
     → IsPaid (pos 0 -ℤ amount line) row new → find (reads_as line) (filter (is_row_about r line.roid) xs.lines) ≡ Some it
     → IsChange r (with_lines (taken in_order line)) xs (without_line it.id new xs)
 removed xs r line row new it up place there paid finds =
     let ys : Content = without_line it.id new xs in
     let seen = found (reads_as line) (is_row_about r line.roid) it xs.lines finds in
     let owner : it.account ≡ pos r = own-row r line.roid it seen.2 in
-    let ps = parts (λ (x : table.Line). x.id) xs.lines it up seen.0 in
+    let ps = parts (λ (x : LineRow). x.id) xs.lines it up seen.0 in
     let before : lines_of xs (pos r) ≡ add in_order line (lines_of ys (pos r)) =
     ap (λ rows. bag_of in_order (filter_map line_in (filter (line_with_account (pos r)) rows))) ps.consistent
     ∙ lines-with (line_with_account (pos r)) ps.front ps.rest it line (equal _ _ owner) (reads line it (line_in it) refl seen.1)
@@ -56,24 +57,24 @@ removed xs r line row new it up place there paid finds =
     (record { metas = refl; days = refl; contacts = refl; domains = refl; hosts = refl; addresses = refl; links = refl; transfers = refl })
 
 -- by its number
-pub taken-out : (xs : Content) (r : ℕ) (line : Line) (row new : account_table.Account) (rows : List table.Line) (id : ℤ) → IsConsistent xs → is_place r ≡ true → Some row ≡ row_of xs (pos r)
-    → IsPaid (pos 0 -ℤ amount line) row new → rows ≡ filter (is_row_about r line.roid) xs.lines → Some id ≡ option_map (λ (x : table.Line). x.id) (find (reads_as line) rows)
+pub taken-out : (xs : Content) (r : ℕ) (line : Line) (row new : AccountRow) (rows : List LineRow) (id : ℤ) → IsConsistent xs → is_place r ≡ true → Some row ≡ row_of xs (pos r)
+    → IsPaid (pos 0 -ℤ amount line) row new → rows ≡ filter (is_row_about r line.roid) xs.lines → Some id ≡ option_map (λ (x : LineRow). x.id) (find (reads_as line) rows)
     → IsChange r (with_lines (taken in_order line)) xs (without_line id new xs)
 taken-out xs r line row new rows id consistent place there paid are finds =
-    go (find (reads_as line) (filter (is_row_about r line.roid) xs.lines)) refl (finds ∙ ap (λ rs. option_map (λ (x : table.Line). x.id) (find (reads_as line) rs)) are)
+    go (find (reads_as line) (filter (is_row_about r line.roid) xs.lines)) refl (finds ∙ ap (λ rs. option_map (λ (x : LineRow). x.id) (find (reads_as line) rs)) are)
   where
-    go : (o : Option table.Line) → find (reads_as line) (filter (is_row_about r line.roid) xs.lines) ≡ o → Some id ≡ option_map (λ (x : table.Line). x.id) o
+    go : (o : Option LineRow) → find (reads_as line) (filter (is_row_about r line.roid) xs.lines) ≡ o → Some id ≡ option_map (λ (x : LineRow). x.id) o
         → IsChange r (with_lines (taken in_order line)) xs (without_line id new xs)
     go None at e = cc
     go (Some it) at e = subst (λ k. IsChange r (with_lines (taken in_order line)) xs (without_line k new xs)) (same_some it.id id (sym e)) (removed xs r line row new it consistent.keyed.lines place there paid at)
 
 -- and not found
-pub left-there : (xs : Content) (r : ℕ) (line : Line) (row : account_table.Account) (rows : List table.Line) → is_place r ≡ true → Some row ≡ row_of xs (pos r) → IfSome line.roid IsDomainRoid
-    → rows ≡ filter (is_row_about r line.roid) xs.lines → None ≡ option_map (λ (x : table.Line). x.id) (find (reads_as line) rows) → IsChange r (with_lines (taken in_order line)) xs xs
+pub left-there : (xs : Content) (r : ℕ) (line : Line) (row : AccountRow) (rows : List LineRow) → is_place r ≡ true → Some row ≡ row_of xs (pos r) → IfSome line.roid IsDomainRoid
+    → rows ≡ filter (is_row_about r line.roid) xs.lines → None ≡ option_map (λ (x : LineRow). x.id) (find (reads_as line) rows) → IsChange r (with_lines (taken in_order line)) xs xs
 left-there xs r line row rows place there is are finds =
-    go (find (reads_as line) (filter (is_row_about r line.roid) xs.lines)) refl (finds ∙ ap (λ rs. option_map (λ (x : table.Line). x.id) (find (reads_as line) rs)) are)
+    go (find (reads_as line) (filter (is_row_about r line.roid) xs.lines)) refl (finds ∙ ap (λ rs. option_map (λ (x : LineRow). x.id) (find (reads_as line) rs)) are)
   where
-    go : (o : Option table.Line) → find (reads_as line) (filter (is_row_about r line.roid) xs.lines) ≡ o → None ≡ option_map (λ (x : table.Line). x.id) o
+    go : (o : Option LineRow) → find (reads_as line) (filter (is_row_about r line.roid) xs.lines) ≡ o → None ≡ option_map (λ (x : LineRow). x.id) o
         → IsChange r (with_lines (taken in_order line)) xs xs
     go None at e = not-taken xs r line row place there is at
     go (Some it) at e = cc

@@ -17,6 +17,7 @@ use Rattle.sqlcolumns.specs.Lines.{line_in}
 use Rattle.sqlcolumns.specs.Messages.{message_in}
 use Rattle.sqlcolumns.specs.Numbers.{counter_in, registrar_in}
 use Rattle.sqltables.specs.Account as account_table
+use Rattle.sqltables.specs.declared.account.AccountRow.{AccountRow}
 use Rattle.sqltables.specs.Content.{Content}
 use Rattle.sqltables.specs.Line.{line_with_account}
 use Rattle.sqltables.specs.Message.{message_with_account}
@@ -34,7 +35,7 @@ abbrev pub queue_of : Content → ℤ → List Message
 queue_of xs id = put_all (filter_map message_in (filter (message_with_account id) xs.messages))
 
 -- the account of a row
-abbrev pub account_in : Content → account_table.Account → Account
+abbrev pub account_in : Content → AccountRow → Account
 account_in xs row = record {
   lines = lines_of xs row.id;
   queue = queue_of xs row.id;
@@ -44,7 +45,7 @@ account_in xs row = record {
 }
 
 -- the accounts of the rows whose number is a registrar's place
-abbrev pub entries_of : Content → List account_table.Account → List (ℕ × Account)
+abbrev pub entries_of : Content → List AccountRow → List (ℕ × Account)
 entries_of xs [] = []
 entries_of xs (row ∷ rows) = option_map_or (λ place. (place, account_in xs row) ∷ entries_of xs rows) (registrar_in row.id) (entries_of xs rows)
 
@@ -56,7 +57,7 @@ abbrev pub account_of : ℕ → Content → Account
 account_of r xs = unwrap_or (get (accounts_of xs) r) empty_account
 
 -- the first row with a number
-abbrev pub row_of : Content → ℤ → Option account_table.Account
+abbrev pub row_of : Content → ℤ → Option AccountRow
 row_of xs id = get_by account_table.accounts.key xs.accounts id
 
 -- ---- the sums that a row keeps
@@ -66,7 +67,7 @@ abbrev pub balance_in : List ℕ → ℤ
 balance_in bytes = cast_signed w128 (from_be_bytes w128 bytes)
 
 -- the columns are what the lines add up to, and how many messages wait
-abbrev pub is_right : Content → account_table.Account → Bool
+abbrev pub is_right : Content → AccountRow → Bool
 is_right xs row =
     int_eq (balance_in row.balance) (balance (lines_of xs row.id))
     && int_eq row.waiting (pos (length (queue_of xs row.id)))
@@ -77,12 +78,12 @@ has_right_sums xs id = option_map_or (is_right xs) (row_of xs id) true
 
 -- all accounts' sums are right
 abbrev pub sums_are_right : Content → Bool
-sums_are_right xs = list_all (λ (row : account_table.Account). has_right_sums xs row.id) xs.accounts
+sums_are_right xs = list_all (λ (row : AccountRow). has_right_sums xs row.id) xs.accounts
 
 -- ---- what a row keeps besides
 
 -- who it is, and how many domains are its own
-abbrev pub ident_and_held : account_table.Account → List ℕ × ℤ
+abbrev pub ident_and_held : AccountRow → List ℕ × ℤ
 ident_and_held row = (row.ident, row.held)
 
 abbrev pub ident_and_held_of : Content → ℤ → Option (List ℕ × ℤ)

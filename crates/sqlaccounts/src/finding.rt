@@ -3,7 +3,7 @@ ghost use Rattle.std.specs.Prelude.{◌≡◌, ◌↔◌, IsTrue, true, None, fi
 ghost use Rattle.std.specs.Option.{option_copied};
 ghost use Rattle.sqlcolumns.specs.Numbers.{is_place};
 ghost use Rattle.sqlaccounts.specs.inner.Finding.{IsDomainRoid, is_row_about, is_row_on, reads_as};
-ghost use Rattle.sqltables.specs.Line.{Line as Row};
+ghost use Rattle.sqltables.specs.declared.line.LineRow.{LineRow as Row};
 ghost use Rattle.states.specs.States.{Finds};
 
 use crate::account::number_of;

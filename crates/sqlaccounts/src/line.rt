@@ -1,7 +1,7 @@
 //! Lines of accounts, and what they add up to.
 ghost use Rattle.std.specs.Prelude.{◌≡◌, true, pos};
 ghost use Rattle.std.specs.Option.{option_map_or};
-ghost use Rattle.sqltables.specs.Account.{Account};
+ghost use Rattle.sqltables.specs.declared.account.AccountRow.{AccountRow};
 ghost use Rattle.accounts.specs.Entries.{with_lines};
 ghost use Rattle.accounts.specs.Lines as lines;
 ghost use Rattle.accounts.specs.Lines.{in_order};
@@ -35,7 +35,7 @@ pub fn balance<S: Alter>(store: &mut RowStore<S>, registrar: RegistrarNo) -> Res
 }
 
 fn cents_of(row: Option<AccountRow>) -> i128
-    ensures { result ≡ option_map_or (λ (row : Account). balance_in row.balance) row (pos 0) }
+    ensures { result ≡ option_map_or (λ (row : AccountRow). balance_in row.balance) row (pos 0) }
 {
     let Some(row) = row else {
         return 0;

@@ -5,6 +5,7 @@ ghost use Rattle.sqlaccounts.specs.inner.Changes.{IsOpened, opened_row};
 
 use crate::account::maybe_row;
 use basis::registrar::RegistrarNo;
+use basis::text::Text;
 use sqlcolumns::registrar_column;
 use sqlite::Alter;
 use sqltables::{AccountRow, RowStore, bytes_of_balance};
@@ -37,7 +38,7 @@ fn opened_row(alloc: Global, registrar: RegistrarNo) -> Result<AccountRow, Alloc
     let place = registrar.place();
     Ok(AccountRow {
         id: registrar_column(registrar),
-        ident: format!(in alloc; "#{place}")?,
+        ident: Text::from_string(format!(in alloc; "#{place}")?),
         commands: 0,
         messages: 0,
         serial: 0,

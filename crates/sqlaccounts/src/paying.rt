@@ -28,8 +28,10 @@ pub(crate) fn paid_back(row: AccountRow, line: &Line) -> Result<AccountRow, Book
     ensures fits { OnErr result ((¬ FitsSigned w128 (pos 0 -ℤ amount line.now))
         ⊎ (¬ FitsSigned w128 (balance_in row.balance +ℤ (pos 0 -ℤ amount line.now)))) }
 {
-    let cents = less(line.amount())?;
-    paid(row, cents)
+    match less(line.amount()) {
+        Ok(cents) => paid(row, cents),
+        Err(fault) => Err(fault),
+    }
 }
 
 /// A balance with so many cents more, if it fits.

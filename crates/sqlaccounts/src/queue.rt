@@ -15,7 +15,6 @@ ghost use Rattle.sqlaccounts.specs.inner.QueueFound.{IsFound};
 ghost use Rattle.sqltables.specs.Account as account_table;
 ghost use Rattle.sqltables.specs.inner.Content.{accounts_to, messages_to};
 ghost use Rattle.sqltables.specs.Message as table;
-ghost use Rattle.sqltables.specs.inner.Message as inner_table;
 ghost use Rattle.states.specs.States.{Finds, Makes, FindsSome};
 
 use crate::queue_account::{one_less, one_more};
@@ -29,7 +28,6 @@ use sqlite::Alter;
 use sqlrows::{Number, only, or_fault};
 use sqltables::{AccountRow, MessageRow, RowStore};
 use states::BookFault;
-use std::alloc::Global;
 
 /// The message that a poll shows: the oldest of a registrar's, if any waits.
 pub fn oldest<S: Alter>(
@@ -51,7 +49,7 @@ pub fn oldest<S: Alter>(
 
 /// The first row of a queue, if there is one.
 fn first_row<S: Alter>(store: &mut RowStore<S>, id: Number) -> Result<Option<MessageRow>, BookFault>
-    ensures { Finds result (slice_get (inner_table.queue_of id store.old.content.messages) 0) store.old
+    ensures { Finds result (slice_get (table.queue_of id store.old.content.messages) 0) store.old
         store.new }
 {
     let rows = store.first_messages_by_account(id)?;
@@ -69,14 +67,13 @@ struct Found {
 /// Looks for a message. An account that was never opened is refused.
 fn look<S: Alter>(
     store: &mut RowStore<S>,
-    alloc: Global,
     registrar: RegistrarNo,
     message: &Message,
 ) -> Result<Found, BookFault>
     ensures { FindsSome result (IsFound store.old.content registrar message.now) store.old store.new }
 {
     let account = found_row(store, registrar)?;
-    let row = written(alloc, registrar, message)?;
+    let row = written(registrar, message)?;
     let same = store.same_messages(&row)?;
     Ok(Found { account, row, same })
 }
@@ -85,7 +82,6 @@ fn look<S: Alter>(
 /// never opened is refused.
 pub fn put_message<S: Alter>(
     store: &mut RowStore<S>,
-    alloc: Global,
     registrar: RegistrarNo,
     message: Message,
 ) -> Result<(), BookFault>
@@ -93,7 +89,7 @@ pub fn put_message<S: Alter>(
     ensures { Changes result (IsChange registrar (with_queue (queue.put message))) store.old
         store.new }
 {
-    let Found { account, row, same } = look(store, alloc, registrar, &message)?;
+    let Found { account, row, same } = look(store, registrar, &message)?;
     drop(message);
     let is_there = !same.is_empty();
     drop(same);
@@ -116,7 +112,7 @@ fn append<S: Alter>(
     requires { store.old.is_open ≡ true }
     ensures { Makes result
         (accounts_to (λ rows. insert_by account_table.accounts.key rows account.now)
-        (messages_to (appended inner_table.messages (λ id. record row.now { id = id }))
+        (messages_to (appended table.messages (λ id. record row.now { id = id }))
         store.old.content)) store.old store.new }
 {
     store.append_message(row)?;
@@ -128,7 +124,6 @@ fn append<S: Alter>(
 /// refused.
 pub fn take_message<S: Alter>(
     store: &mut RowStore<S>,
-    alloc: Global,
     registrar: RegistrarNo,
     message: Message,
 ) -> Result<(), BookFault>
@@ -136,7 +131,7 @@ pub fn take_message<S: Alter>(
     ensures { Changes result (IsChange registrar (with_queue (queue.dropped message))) store.old
         store.new }
 {
-    let Found { account, row, same } = look(store, alloc, registrar, &message)?;
+    let Found { account, row, same } = look(store, registrar, &message)?;
     drop(message);
     drop(row);
     store.show_consistent();
@@ -158,7 +153,7 @@ fn remove<S: Alter>(
     requires { store.old.is_open ≡ true }
     ensures { Makes result
         (accounts_to (λ rows. insert_by account_table.accounts.key rows account.now)
-        (messages_to (delete_where (inner_table.message_with_id row.now.id)) store.old.content)) store.old
+        (messages_to (delete_where (table.message_with_id row.now.id)) store.old.content)) store.old
         store.new }
 {
     store.remove_messages_by_id(number_of_row(row))?;

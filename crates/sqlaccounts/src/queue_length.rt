@@ -3,7 +3,7 @@ ghost use Rattle.std.specs.Prelude.{◌≡◌, Some, pos, length};
 ghost use Rattle.std.specs.Option.{option_map_or};
 ghost use Rattle.sqlaccounts.specs.Accounts.{account_of, sums_are_right};
 ghost use Rattle.sqlrows.specs.Meanings.{FindsIfRight};
-ghost use Rattle.sqltables.specs.Account.{Account};
+ghost use Rattle.sqltables.specs.declared.account.AccountRow.{AccountRow};
 
 use crate::account::maybe_row;
 use basis::registrar::RegistrarNo;
@@ -25,7 +25,7 @@ pub fn waiting<S: Alter>(store: &mut RowStore<S>, registrar: RegistrarNo) -> Res
 }
 
 fn waiting_of(row: Option<AccountRow>) -> i64
-    ensures { result ≡ option_map_or (λ (row : Account). row.waiting) row (pos 0) }
+    ensures { result ≡ option_map_or (λ (row : AccountRow). row.waiting) row (pos 0) }
 {
     let Some(row) = row else {
         return 0;

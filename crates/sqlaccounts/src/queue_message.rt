@@ -8,19 +8,14 @@ use basis::registrar::RegistrarNo;
 use sqlcolumns::{message_row, registrar_column};
 use sqltables::MessageRow;
 use states::BookFault;
-use std::alloc::Global;
 
 /// The row of a message, under its registrar's number. A message whose number doesn't fit is refused.
-pub(crate) fn written(
-    alloc: Global,
-    registrar: RegistrarNo,
-    message: &Message,
-) -> Result<MessageRow, BookFault>
+pub(crate) fn written(registrar: RegistrarNo, message: &Message) -> Result<MessageRow, BookFault>
     ensures { IfOk result (λ row. IsWritten (registrar_column registrar) message.now row) }
 {
     // Shows the prover the moment, and so that it is one.
     let _secs = message.moment.secs();
-    match message_row(alloc, 0, registrar_column(registrar), message)? {
+    match message_row(0, registrar_column(registrar), message)? {
         Some(row) => Ok(row),
         None => Err(BookFault::Store),
     }

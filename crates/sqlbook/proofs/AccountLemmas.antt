@@ -10,9 +10,10 @@ use Rattle.accounts.specs.declared.account.Account.{Account}
 use Rattle.sqlcolumns.proofs.ReadLemmas.{same_some}
 use Rattle.books.specs.Tables.{posted_to}
 use Rattle.sqltables.specs.Account as table
+use Rattle.sqltables.specs.declared.account.AccountRow.{AccountRow}
 use Rattle.sqltables.specs.Content.{Content}
 use Rattle.sqltables.specs.Readiness.{may_be_numbered}
-use Rattle.sqltables.specs.Meta.{Meta}
+use Rattle.sqltables.specs.declared.meta.MetaRow.{MetaRow}
 use Rattle.sqltables.specs.inner.Consistent.{IsConsistent}
 use Rattle.sqltables.proofs.RowLemmas.{all_at}
 use Rattle.sqlaccounts.specs.Accounts.{ident_and_held, row_of}
@@ -28,43 +29,43 @@ use Rattle.sqlterms.specs.Terms.{ids_behind, ids_in, is_unnamed, prices_in, rese
 use Rattle.sqlderived.specs.Dues.{dues_are_right}
 use Rattle.sqlbook.specs.Meaning.{are_right, stored_of}
 
-abbrev pub key : table.Account → ℤ
+abbrev pub key : AccountRow → ℤ
 key = table.accounts.key
 
-abbrev pub ident_in : Option table.Account → Option (List ℕ)
-ident_in o = option_map (λ (row : table.Account). row.ident) o
+abbrev pub ident_in : Option AccountRow → Option (List ℕ)
+ident_in o = option_map (λ (row : AccountRow). row.ident) o
 
-abbrev pub stand : List table.Account → ℤ → Option (List ℕ)
+abbrev pub stand : List AccountRow → ℤ → Option (List ℕ)
 stand rows id = ident_in (get_by key rows id)
 
 -- ---- rows that are named alike give the same ids
 
-pub not-there : (k : ℤ) (rows : List table.Account) → AllByRecursion (λ z. k <ℤ key z) rows → get_by key rows k ≡ None
+pub not-there : (k : ℤ) (rows : List AccountRow) → AllByRecursion (λ z. k <ℤ key z) rows → get_by key rows k ≡ None
 not-there k [] up = refl
 not-there k (x ∷ rows) up =
     let below : k <ℤ key x = up.0 in
     ap (λ b. cond b (Some x) (get_by key rows k)) (int_eq_apart (key x) k (λ e. omega (arith, ints))) ∙ not-there k rows up.1
 
-some-row : (rows : List table.Account) (id : ℤ) (s : List ℕ) → stand rows id ≡ Some s → (row : table.Account) × Has rows row × (row.id ≡ id)
+some-row : (rows : List AccountRow) (id : ℤ) (s : List ℕ) → stand rows id ≡ Some s → (row : AccountRow) × Has rows row × (row.id ≡ id)
 some-row rows id s e = go (get_by key rows id) refl e
   where
-    go : (o : Option table.Account) → get_by key rows id ≡ o → ident_in o ≡ Some s → (row : table.Account) × Has rows row × (row.id ≡ id)
+    go : (o : Option AccountRow) → get_by key rows id ≡ o → ident_in o ≡ Some s → (row : AccountRow) × Has rows row × (row.id ≡ id)
     go None is f = cc
     go (Some row) is f = (row, has-get_by key rows id row is, key-get_by key rows id row is)
 
-here : (a : table.Account) (rows : List table.Account) → stand (a ∷ rows) a.id ≡ Some a.ident
+here : (a : AccountRow) (rows : List AccountRow) → stand (a ∷ rows) a.id ≡ Some a.ident
 here a rows = ap (λ b. ident_in (cond b (Some a) (get_by key rows a.id))) ((Decides-int_eq a.id a.id).1 refl)
 
 -- no row of a list in order has a number below the first one's
-not-below : (a : table.Account) (rows : List table.Account) (row : table.Account) → IsKeyedBy key (a ∷ rows) → Has (a ∷ rows) row → (row.id <ℤ a.id → ⊥)
+not-below : (a : AccountRow) (rows : List AccountRow) (row : AccountRow) → IsKeyedBy key (a ∷ rows) → Has (a ∷ rows) row → (row.id <ℤ a.id → ⊥)
 not-below a rows row up (inl same) less =
-    let e : row.id ≡ a.id = ap (λ (r : table.Account). r.id) same in
+    let e : row.id ≡ a.id = ap (λ (r : AccountRow). r.id) same in
     omega (arith, ints)
 not-below a rows row up (inr there) less =
     let more : a.id <ℤ row.id = all_at (λ z. a.id <ℤ key z) rows row up.0 there in
     omega (arith, ints)
 
-pub same-ids : (xs bs : List table.Account) → IsKeyedBy key xs → IsKeyedBy key bs → ((id : ℤ) → stand xs id ≡ stand bs id) → (ids : List (List ℕ)) → ids_behind ids xs ≡ ids_behind ids bs
+pub same-ids : (xs bs : List AccountRow) → IsKeyedBy key xs → IsKeyedBy key bs → ((id : ℤ) → stand xs id ≡ stand bs id) → (ids : List (List ℕ)) → ids_behind ids xs ≡ ids_behind ids bs
 same-ids [] [] ua ub same ids = refl
 same-ids [] (b ∷ bs) ua ub same ids = absurd (let never : ◌≡◌ {A = Option (List ℕ)} None (Some b.ident) = same b.id ∙ here b bs in cc)
 same-ids (a ∷ xs) [] ua ub same ids = absurd (let never : ◌≡◌ {A = Option (List ℕ)} (Some a.ident) None = sym (here a xs) ∙ same a.id in cc)
@@ -105,7 +106,7 @@ module _ (r : ℕ) (f : Account → Account) (old new : Content) (consistent : I
       (λ i. terms_of (record new { metas = it.others.metas i; days = it.others.days i }))
       ∙ go (meta_of old)
     where
-      named-so : (n o : Option table.Account) → option_map ident_and_held n ≡ option_map ident_and_held o → ident_in n ≡ ident_in o
+      named-so : (n o : Option AccountRow) → option_map ident_and_held n ≡ option_map ident_and_held o → ident_in n ≡ ident_in o
       named-so None None e = refl
       named-so None (Some b) e = cc
       named-so (Some a) None e = cc
@@ -114,7 +115,7 @@ module _ (r : ℕ) (f : Account → Account) (old new : Content) (consistent : I
       ids : ids_in new.accounts ≡ ids_in old.accounts
       ids = same-ids new.accounts old.accounts after.keyed.accounts consistent.keyed.accounts (λ id. named-so (row_of new id) (row_of old id) (it.idents_and_held id)) []
 
-      go : (m : Option Meta) → terms_in m old.days new.accounts ≡ terms_in m old.days old.accounts
+      go : (m : Option MetaRow) → terms_in m old.days new.accounts ≡ terms_in m old.days old.accounts
       go None = refl
       go (Some row) = λ i. cond (length row.zone == 0) None (terms_made row.zone (reserved_in row.reserved) (schedule_in row old.days) (prices_in row) (ids i))
 

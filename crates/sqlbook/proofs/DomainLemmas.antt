@@ -7,10 +7,10 @@ use Rattle.sqlite_typed.specs.Tests.{bytes_eq}
 use Rattle.objects.specs.declared.domain.Domain.{Domain}
 use Rattle.books.specs.Ledgers as store
 use Rattle.books.specs.Tables.{domain_put}
-use Rattle.sqltables.specs.Account as account_table
+use Rattle.sqltables.specs.declared.account.AccountRow.{AccountRow}
 use Rattle.sqltables.specs.Content.{Content}
-use Rattle.sqltables.specs.Domain as table
-use Rattle.sqltables.specs.Meta.{Meta}
+use Rattle.sqltables.specs.declared.domain.DomainRow.{DomainRow}
+use Rattle.sqltables.specs.declared.meta.MetaRow.{MetaRow}
 use Rattle.sqltables.specs.inner.Consistent.{IsConsistent}
 use Rattle.sqlaccounts.specs.Accounts.{accounts_of, row_of, sums_are_right}
 use Rattle.sqldomains.specs.inner.Changes.{IsDomainPut}
@@ -31,7 +31,7 @@ use Rattle.sqlbook.proofs.ObjectLemmas.{IsOfReading, same-put}
 
 module _ (name : List ℕ) (before after : Option Domain) (due : Option ℕ) (old mid new : Content) (consistent : IsConsistent old) (counted : IsRecounted before after old mid) (there : get (domains_of old) name ≡ before)
     (it : IsDomainPut name after due mid new) where
-  reads-mid : (row : table.Domain) → domain_of mid row ≡ domain_of old row
+  reads-mid : (row : DomainRow) → domain_of mid row ≡ domain_of old row
   reads-mid row = ap (λ (xs : Content). domain_of xs row) counted.rest
 
   domains-mid : mid.domains ≡ old.domains
@@ -44,11 +44,11 @@ module _ (name : List ℕ) (before after : Option Domain) (due : Option ℕ) (ol
   days-now = it.days ∙ ap (λ (xs : Content). xs.days) counted.rest
 
   -- the row of the name, if there was one, was right, and is right, if there is one; and all others are as right as they were
-  pub rights-put : (right : Content → table.Domain → Bool) → IsOfReading right → ((row : table.Domain) → Has old.domains row → row.name ≡ name → right old row ≡ true)
-      → ((row : table.Domain) → Has new.domains row → row.name ≡ name → right new row ≡ true) → list_all (right new) new.domains ≡ list_all (right old) old.domains
+  pub rights-put : (right : Content → DomainRow → Bool) → IsOfReading right → ((row : DomainRow) → Has old.domains row → row.name ≡ name → right old row ≡ true)
+      → ((row : DomainRow) → Has new.domains row → row.name ≡ name → right new row ≡ true) → list_all (right new) new.domains ≡ list_all (right old) old.domains
   rights-put right by was is =
-      same-verdict (λ (r : table.Domain). r.name) name old.domains new.domains (right old) (right new)
-      (λ q e. it.others q e ∙ ap (filter (λ (r : table.Domain). bytes_eq r.name q)) domains-mid)
+      same-verdict (λ (r : DomainRow). r.name) name old.domains new.domains (right old) (right new)
+      (λ q e. it.others q e ∙ ap (filter (λ (r : DomainRow). bytes_eq r.name q)) domains-mid)
       (λ row there now other. by old new metas-now days-now row (it.readings row (subst (λ l. Has l row) (sym domains-mid) there) now other ∙ reads-mid row))
       was is
 
@@ -58,11 +58,11 @@ module _ (name : List ℕ) (before after : Option Domain) (due : Option ℕ) (ol
   pub held-put : helds_are_right new ≡ helds_are_right old
   held-put = held-kept old mid new before after name counted there it.domains it.accounts
 
-  alike-ident : (o n : Option account_table.Account) → AreAlike o n → ident_in n ≡ ident_in o
+  alike-ident : (o n : Option AccountRow) → AreAlike o n → ident_in n ≡ ident_in o
   alike-ident None None e = refl
   alike-ident None (Some b) e = absurd e
   alike-ident (Some a) None e = absurd e
-  alike-ident (Some a) (Some b) e = ap (λ (r : account_table.Account). Some r.ident) e
+  alike-ident (Some a) (Some b) e = ap (λ (r : AccountRow). Some r.ident) e
 
   ids-mid : ids_in mid.accounts ≡ ids_in old.accounts
   ids-mid = same-ids mid.accounts old.accounts it.consistent.0.keyed.accounts consistent.keyed.accounts (λ id. alike-ident (row_of old id) (row_of mid id) (counted.rows id)) []
@@ -73,7 +73,7 @@ module _ (name : List ℕ) (before after : Option Domain) (due : Option ℕ) (ol
       ∙ ap (λ rows. terms_in (meta_of old) old.days rows) it.accounts
       ∙ go (meta_of old)
     where
-      go : (m : Option Meta) → terms_in m old.days mid.accounts ≡ terms_in m old.days old.accounts
+      go : (m : Option MetaRow) → terms_in m old.days mid.accounts ≡ terms_in m old.days old.accounts
       go None = refl
       go (Some row) = λ i. cond (length row.zone == 0) None (terms_made row.zone (reserved_in row.reserved) (schedule_in row old.days) (prices_in row) (ids-mid i))
 

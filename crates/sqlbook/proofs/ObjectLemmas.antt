@@ -20,7 +20,7 @@ use Rattle.books.specs.Ledgers as store
 use Rattle.books.specs.Tables.{contact_put, host_put}
 use Rattle.sqltables.specs.Content.{Content}
 use Rattle.sqltables.specs.Readiness.{may_be_numbered}
-use Rattle.sqltables.specs.Domain as table
+use Rattle.sqltables.specs.declared.domain.DomainRow.{DomainRow}
 use Rattle.sqlaccounts.specs.Accounts.{accounts_of, sums_are_right}
 use Rattle.sqldomains.specs.Domains.{domain_of}
 use Rattle.sqldomains.proofs.FrameLemmas.{contact-leaves-domains, contact-leaves-reading, host-leaves-domains, host-leaves-reading}
@@ -42,9 +42,9 @@ same-put m name (Some x) = refl
 -- ---- rows of domains that are as right as they were
 
 -- whether a row is right hangs on what it reads as, and on the lengths that were put down
-abbrev pub IsOfReading : (Content → table.Domain → Bool) → Type 0
+abbrev pub IsOfReading : (Content → DomainRow → Bool) → Type 0
 IsOfReading right =
-    (old new : Content) → new.metas ≡ old.metas → new.days ≡ old.days → (row : table.Domain) → domain_of new row ≡ domain_of old row → right new row ≡ right old row
+    (old new : Content) → new.metas ≡ old.metas → new.days ≡ old.days → (row : DomainRow) → domain_of new row ≡ domain_of old row → right new row ≡ right old row
 
 pub due-of-reading : IsOfReading has_right_due
 due-of-reading old new metas days row reads = λ i.
@@ -55,16 +55,16 @@ live-of-reading old new metas days row reads =
     ap (λ o. option_map_or (λ (d : Domain). is_some d.deletion || int_eq row.due (pos (capped (earlier (expiry d) (completes_at d.transfer))))) o false) reads
 
 -- where the rows are the same and read as before
-pub rights-where : (right : Content → table.Domain → Bool) → IsOfReading right → (old new : Content) → new.metas ≡ old.metas → new.days ≡ old.days → new.domains ≡ old.domains
-    → ((row : table.Domain) → Has old.domains row → domain_of new row ≡ domain_of old row) → list_all (right new) new.domains ≡ list_all (right old) old.domains
+pub rights-where : (right : Content → DomainRow → Bool) → IsOfReading right → (old new : Content) → new.metas ≡ old.metas → new.days ≡ old.days → new.domains ≡ old.domains
+    → ((row : DomainRow) → Has old.domains row → domain_of new row ≡ domain_of old row) → list_all (right new) new.domains ≡ list_all (right old) old.domains
 rights-where right by old new metas days domains reads =
     ap (list_all (right new)) domains ∙ all-alike (right old) (right new) old.domains (λ row there. by old new metas days row (reads row there))
 
-pub dues-where : (old new : Content) → new.metas ≡ old.metas → new.days ≡ old.days → new.domains ≡ old.domains → ((row : table.Domain) → Has old.domains row → domain_of new row ≡ domain_of old row) → dues_are_right new ≡ dues_are_right old
+pub dues-where : (old new : Content) → new.metas ≡ old.metas → new.days ≡ old.days → new.domains ≡ old.domains → ((row : DomainRow) → Has old.domains row → domain_of new row ≡ domain_of old row) → dues_are_right new ≡ dues_are_right old
 dues-where = rights-where has_right_due due-of-reading
 
 -- and where each is due as before
-pub dues-alike : (old new : Content) → new.metas ≡ old.metas → new.days ≡ old.days → new.domains ≡ old.domains → ((days : Schedule) (row : table.Domain) → is_due_right days new row ≡ is_due_right days old row) → dues_are_right new ≡ dues_are_right old
+pub dues-alike : (old new : Content) → new.metas ≡ old.metas → new.days ≡ old.days → new.domains ≡ old.domains → ((days : Schedule) (row : DomainRow) → is_due_right days new row ≡ is_due_right days old row) → dues_are_right new ≡ dues_are_right old
 dues-alike old new metas days domains alike =
     ap (list_all (has_right_due new)) domains
     ∙ all-alike (has_right_due old) (has_right_due new) old.domains (λ row there i. option_map_or (λ ds. alike ds row i) (days_of (record new { metas = metas i; days = days i })) true)

@@ -5,10 +5,10 @@ use Rattle.std.specs.Option.{unwrap_or}
 use Rattle.sqlite_keyed.specs.Keyed.{IsKeyedBy, get_by}
 use Rattle.sqlite_keyed.proofs.KeyedLemmas.{same_int}
 use Rattle.books.specs.Tables.{account_opened}
-use Rattle.sqltables.specs.Account as table
+use Rattle.sqltables.specs.declared.account.AccountRow.{AccountRow}
 use Rattle.sqltables.specs.Content.{Content}
 use Rattle.sqltables.specs.Readiness.{may_be_numbered}
-use Rattle.sqltables.specs.Meta.{Meta}
+use Rattle.sqltables.specs.declared.meta.MetaRow.{MetaRow}
 use Rattle.sqltables.specs.inner.Consistent.{IsConsistent}
 use Rattle.sqlaccounts.specs.Accounts.{row_of}
 use Rattle.sqlaccounts.specs.inner.Changes.{IsOpened, opened_row}
@@ -23,14 +23,14 @@ use Rattle.sqlderived.specs.Dues.{dues_are_right}
 use Rattle.sqlbook.specs.Meaning.{are_right, stored_of}
 use Rattle.sqlbook.proofs.AccountLemmas.{ident_in, key, not-there, same-ids}
 
-abbrev is_named : table.Account → Bool
+abbrev is_named : AccountRow → Bool
 is_named row = not (is_unnamed row.ident)
 
-abbrev named_alone : List table.Account → List table.Account
+abbrev named_alone : List AccountRow → List AccountRow
 named_alone rows = filter is_named rows
 
 -- rows without an id give none
-ids-named : (rows : List table.Account) (ids : List (List ℕ)) → ids_behind ids (named_alone rows) ≡ ids_behind ids rows
+ids-named : (rows : List AccountRow) (ids : List (List ℕ)) → ids_behind ids (named_alone rows) ≡ ids_behind ids rows
 ids-named [] ids = refl
 ids-named (row ∷ rows) ids = go (is_unnamed row.ident) refl (λ more. ids-named rows more)
   where
@@ -45,7 +45,7 @@ ids-named (row ∷ rows) ids = go (is_unnamed row.ident) refl (λ more. ids-name
         ∙ ap (λ t. cond (int_eq row.id (pos (length ids + 1))) t None) (more (ids ++ row.ident ∷ []))
         ∙ sym (ap (λ b. cond b (ids_behind ids rows) (cond (int_eq row.id (pos (length ids + 1))) (ids_behind (ids ++ row.ident ∷ []) rows) None)) e)
 
-above-filter : (k : ℤ) (rows : List table.Account) → AllByRecursion (λ z. k <ℤ key z) rows → AllByRecursion (λ z. k <ℤ key z) (named_alone rows)
+above-filter : (k : ℤ) (rows : List AccountRow) → AllByRecursion (λ z. k <ℤ key z) rows → AllByRecursion (λ z. k <ℤ key z) (named_alone rows)
 above-filter k [] up = tt
 above-filter k (row ∷ rows) up = go (is_named row) (above-filter k rows up.1)
   where
@@ -53,7 +53,7 @@ above-filter k (row ∷ rows) up = go (is_named row) (above-filter k rows up.1)
     go true rest = (up.0, rest)
     go false rest = rest
 
-keyed-filter : (rows : List table.Account) → IsKeyedBy key rows → IsKeyedBy key (named_alone rows)
+keyed-filter : (rows : List AccountRow) → IsKeyedBy key rows → IsKeyedBy key (named_alone rows)
 keyed-filter [] up = tt
 keyed-filter (row ∷ rows) up = go (is_named row) (keyed-filter rows up.1)
   where
@@ -62,11 +62,11 @@ keyed-filter (row ∷ rows) up = go (is_named row) (keyed-filter rows up.1)
     go false rest = rest
 
 -- the row, if it is named
-abbrev if_named : Option table.Account → Option table.Account
+abbrev if_named : Option AccountRow → Option AccountRow
 if_named None = None
 if_named (Some row) = cond (is_named row) (Some row) None
 
-get-filter : (rows : List table.Account) (id : ℤ) → IsKeyedBy key rows → get_by key (named_alone rows) id ≡ if_named (get_by key rows id)
+get-filter : (rows : List AccountRow) (id : ℤ) → IsKeyedBy key rows → get_by key (named_alone rows) id ≡ if_named (get_by key rows id)
 get-filter [] id up = refl
 get-filter (row ∷ rows) id up = go (is_named row) (int_eq row.id id) refl refl (get-filter rows id up.1)
   where
@@ -79,7 +79,7 @@ get-filter (row ∷ rows) id up = go (is_named row) (int_eq row.id id) refl refl
     go false false e f more = more
 
 module _ (r : ℕ) (old new : Content) (consistent : IsConsistent old) (after : IsConsistent new) (it : IsOpened r old new) where
-  own-named : (o : Option table.Account) → ident_in (if_named (Some (unwrap_or o (opened_row r)))) ≡ ident_in (if_named o)
+  own-named : (o : Option AccountRow) → ident_in (if_named (Some (unwrap_or o (opened_row r)))) ≡ ident_in (if_named o)
   own-named None = refl
   own-named (Some row) = refl
 
@@ -99,7 +99,7 @@ module _ (r : ℕ) (old new : Content) (consistent : IsConsistent old) (after : 
   terms-opened : terms_of new ≡ terms_of old
   terms-opened = (λ i. terms_of (record new { metas = it.others.metas i; days = it.others.days i })) ∙ go (meta_of old)
     where
-      go : (m : Option Meta) → terms_in m old.days new.accounts ≡ terms_in m old.days old.accounts
+      go : (m : Option MetaRow) → terms_in m old.days new.accounts ≡ terms_in m old.days old.accounts
       go None = refl
       go (Some row) = λ i. cond (length row.zone == 0) None (terms_made row.zone (reserved_in row.reserved) (schedule_in row old.days) (prices_in row) (ids-opened i))
 

@@ -17,7 +17,7 @@ use Rattle.books.specs.Ledgers.{put}
 use Rattle.books.specs.Tables.{with_domains}
 use Rattle.books.proofs.PutLemmas.{put-back, put-put}
 use Rattle.sqltables.specs.Content.{Content}
-use Rattle.sqltables.specs.Domain as table
+use Rattle.sqltables.specs.declared.domain.DomainRow.{DomainRow}
 use Rattle.sqltables.specs.inner.Consistent.{IsConsistent}
 use Rattle.sqldomains.specs.Domains.{domain_of, domains_of}
 use Rattle.sqlderived.specs.Redates.{is_live_right}
@@ -35,7 +35,7 @@ found-put m name d is =
     ∙ put-back (slice_cmp nat_cmp) nat_list_cmp_total (slice_cmp-IsAntisymmetric nat_cmp-IsAntisymmetric) m name (Some d)
 
 -- the row of a deleted domain is right by any lengths
-deleted-right : (xs : Content) (row : table.Domain) (o : Option Domain) → domain_of xs row ≡ o → IsDeleted o → is_live_right xs row ≡ true
+deleted-right : (xs : Content) (row : DomainRow) (o : Option Domain) → domain_of xs row ≡ o → IsDeleted o → is_live_right xs row ≡ true
 deleted-right xs row None reads is = absurd is
 deleted-right xs row (Some d) reads is =
     ap (λ o. option_map_or (λ (x : Domain). is_some x.deletion || int_eq row.due (pos (capped (earlier (expiry x) (completes_at x.transfer))))) o false) reads

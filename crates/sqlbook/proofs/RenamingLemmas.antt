@@ -18,9 +18,9 @@ use Rattle.objects.specs.Sight.{is_party}
 use Rattle.policy.specs.declared.schedule.Schedule.{Schedule}
 use Rattle.decisions.specs.Changes.{renamed, with_host_renamed}
 use Rattle.books.specs.Tables.{host_moved, host_put, with_domains}
-use Rattle.sqltables.specs.Account as account_table
+use Rattle.sqltables.specs.declared.account.AccountRow.{AccountRow}
 use Rattle.sqltables.specs.Content.{Content}
-use Rattle.sqltables.specs.Domain as table
+use Rattle.sqltables.specs.declared.domain.DomainRow.{DomainRow}
 use Rattle.sqltables.specs.Readiness.{may_be_numbered}
 use Rattle.sqlaccounts.specs.Accounts.{accounts_of, row_of, sums_are_right}
 use Rattle.sqldomains.specs.Domains.{domain_of, domains_of}
@@ -43,7 +43,7 @@ module _ (from : List ℕ) (h : Host) (xs ys : Content) (it : IsRowRenamed from 
   abbrev after : Domain → Domain
   after d = with_host_renamed from h.name d
 
-  reading : (row : table.Domain) → domain_of ys row ≡ option_map after (domain_of xs row)
+  reading : (row : DomainRow) → domain_of ys row ≡ option_map after (domain_of xs row)
   reading = reading-after from h xs ys it (renamed from h.name) (IsInPlaces h.name) (none-placed h.name) refl (λ n l before other. one-placed h.name n l before other) (λ n l before other. renamed-placed from h.name l before n other)
 
   domains : domains_of ys ≡ map_values (λ name. after) (domains_of xs)
@@ -69,8 +69,8 @@ module _ (from : List ℕ) (h : Host) (xs ys : Content) (it : IsRowRenamed from 
       go (e ∷ es) = by (is_party r e.1.sponsor e.1.transfer) (after e.1) e.1 _ _ (go es)
 
   helds : helds_are_right ys ≡ helds_are_right xs
-  helds = λ i. list_all (λ (row : account_table.Account).
-      option_map_or (λ (at : account_table.Account). option_map_or (λ place. int_eq at.held (pos (held place i))) (registrar_in at.id) true) (row_of (record ys { accounts = it.accounts i }) row.id) true)
+  helds = λ i. list_all (λ (row : AccountRow).
+      option_map_or (λ (at : AccountRow). option_map_or (λ place. int_eq at.held (pos (held place i))) (registrar_in at.id) true) (row_of (record ys { accounts = it.accounts i }) row.id) true)
       (it.accounts i)
 
   -- and each is due when it was
@@ -81,7 +81,7 @@ module _ (from : List ℕ) (h : Host) (xs ys : Content) (it : IsRowRenamed from 
       same days d None = refl
       same days d (Some x) = refl
 
-      go : (days : Schedule) (row : table.Domain) (o : Option Domain) → option_map_or (λ d. int_eq row.due (pos (capped (due_at (rules_with days) d)))) (option_map after o) false ≡ option_map_or (λ d. int_eq row.due (pos (capped (due_at (rules_with days) d)))) o false
+      go : (days : Schedule) (row : DomainRow) (o : Option Domain) → option_map_or (λ d. int_eq row.due (pos (capped (due_at (rules_with days) d)))) (option_map after o) false ≡ option_map_or (λ d. int_eq row.due (pos (capped (due_at (rules_with days) d)))) o false
       go days row None = refl
       go days row (Some d) = ap (λ n. int_eq row.due (pos (capped n))) (same days d d.deletion)
 

@@ -15,7 +15,7 @@ use Rattle.policy.specs.declared.terms.Terms.{Terms}
 use Rattle.books.specs.Kept.{book_state}
 use Rattle.sqltables.specs.Adoption.{IsAdopted}
 use Rattle.sqltables.specs.Content.{Content}
-use Rattle.sqltables.specs.Meta.{Meta}
+use Rattle.sqltables.specs.declared.meta.MetaRow.{MetaRow}
 use Rattle.sqltables.specs.Readiness.{is_numbered, may_be_numbered}
 use Rattle.sqltables.specs.inner.Reopening as rows
 use Rattle.sqltables.specs.Stored.{Covers}
@@ -40,7 +40,7 @@ has-meant (one ∷ leaves) left (inl is) = inl (ap (meant stored_of) is)
 has-meant (one ∷ leaves) left (inr h) = inr (has-meant leaves left h)
 
 -- a registry that was opened has a row of meta, so the row has the number
-numbered-if : (xs : Content) (terms : Terms) (metas : List Meta) → xs.metas ≡ metas → may_be_numbered metas ≡ true → terms_of xs ≡ Some terms → is_numbered metas ≡ true
+numbered-if : (xs : Content) (terms : Terms) (metas : List MetaRow) → xs.metas ≡ metas → may_be_numbered metas ≡ true → terms_of xs ≡ Some terms → is_numbered metas ≡ true
 numbered-if xs terms [] is e some = absurd (let never : ◌≡◌ {A = Option Terms} None (Some terms) = sym (ap (λ rows. terms_of (record xs { metas = rows })) is) ∙ some in cc)
 numbered-if xs terms (meta ∷ more) is e some = e
 

@@ -20,8 +20,8 @@ use Rattle.books.specs.Tables.{domain_put}
 use Rattle.sqltables.specs.Content.{Content}
 use Rattle.sqltables.specs.Readiness.{may_be_numbered}
 use Rattle.sqltables.specs.Domain as table
-use Rattle.sqltables.specs.inner.Domain as inner_table
-use Rattle.sqltables.specs.Host as host_table
+use Rattle.sqltables.specs.declared.domain.DomainRow.{DomainRow}
+use Rattle.sqltables.specs.declared.host.HostRow.{HostRow}
 use Rattle.sqltables.specs.inner.Consistent.{IsConsistent}
 use Rattle.sqlrows.specs.Read.{first_read, or_else}
 use Rattle.sqldomains.specs.Domains.{domain_of, domains_of}
@@ -50,9 +50,9 @@ use Rattle.sqlbook.proofs.ObjectLemmas.{IsOfReading, due-of-reading, rights-wher
 
 -- ---- what the row of a name reads as
 
-pub reading-is : (xs : Content) (row : table.Domain) → IsConsistent xs → Has xs.domains row → domain_of xs row ≡ get (domains_of xs) row.name
+pub reading-is : (xs : Content) (row : DomainRow) → IsConsistent xs → Has xs.domains row → domain_of xs row ≡ get (domains_of xs) row.name
 reading-is xs row consistent there =
-    let alone = only_named inner_table.domains.key (λ (r : table.Domain). r.name) xs.domains row consistent.keyed.domains consistent.named.domains there in
+    let alone = only_named table.domains.key (λ (r : DomainRow). r.name) xs.domains row consistent.keyed.domains consistent.named.domains there in
     sym (alone-read (domain_of xs row)) ∙ sym (ap (first_read (domain_of xs)) alone) ∙ domain-named xs row.name
   where
     alone-read : (o : Option Domain) → or_else o None ≡ o
@@ -68,7 +68,7 @@ get-put m name (Some d) = get-insert nat_list_cmp_total m name d name ∙ ap (λ
 
 -- ---- one in the place of another
 
-module _ (name : List ℕ) (right : Content → table.Domain → Bool) (after : Option Domain) (due : ℕ) (old new : Content) (it : IsReplaced name right after due old new) where
+module _ (name : List ℕ) (right : Content → DomainRow → Bool) (after : Option Domain) (due : ℕ) (old new : Content) (it : IsReplaced name right after due old new) where
   abbrev moved : Content
   moved = it.moved
 
@@ -78,14 +78,14 @@ module _ (name : List ℕ) (right : Content → table.Domain → Bool) (after : 
   put-it : IsDomainPut name after (due_with after due) there.exchanged.mid new
   put-it = there.exchanged.put
 
-  pub reads-after : (row : table.Domain) → Has new.domains row → row.name ≡ name → domain_of new row ≡ after
+  pub reads-after : (row : DomainRow) → Has new.domains row → row.name ≡ name → domain_of new row ≡ after
   reads-after row here named = reading-is new row put-it.consistent.1 here ∙ ap (get (domains_of new)) named ∙ ap (λ m. get m name) put-it.domains ∙ get-put (domains_of there.exchanged.mid) name after
 
-  pub due-after : (row : table.Domain) → Has new.domains row → row.name ≡ name → Some row.due ≡ option_map moment_column (due_with after due)
+  pub due-after : (row : DomainRow) → Has new.domains row → row.name ≡ name → Some row.due ≡ option_map moment_column (due_with after due)
   due-after = put-it.due_is
 
   -- the hosts that take a sponsor leave the other sums, and all that a book sees
-  rest-moved : (field : Content → Bool) → ((xs : Content) (hosts : List host_table.Host) → field (record xs { hosts = hosts }) ≡ field xs) → field moved ≡ field old
+  rest-moved : (field : Content → Bool) → ((xs : Content) (hosts : List HostRow) → field (record xs { hosts = hosts }) ≡ field xs) → field moved ≡ field old
   rest-moved field same = ap field it.followed.rest ∙ same old moved.hosts
 
   domains-moved : domains_of moved ≡ domains_of old
@@ -119,7 +119,7 @@ module _ (name : List ℕ) (right : Content → table.Domain → Bool) (after : 
   held-same = held-put name there.before after (due_with after due) moved there.exchanged.mid new there.consistent there.exchanged.counted there.checked.domain_is put-it ∙ held-moved
 
   -- where the row that is there now is right
-  module _ (by : IsOfReading right) (is : (row : table.Domain) → Has new.domains row → row.name ≡ name → right new row ≡ true) where
+  module _ (by : IsOfReading right) (is : (row : DomainRow) → Has new.domains row → row.name ≡ name → right new row ≡ true) where
     rights-same : list_all (right new) new.domains ≡ list_all (right old) old.domains
     rights-same =
         rights-put name there.before after (due_with after due) moved there.exchanged.mid new there.consistent there.exchanged.counted there.checked.domain_is put-it right by there.checked.right_is is
@@ -143,7 +143,7 @@ module _ (name : List ℕ) (right : Content → table.Domain → Bool) (after : 
 
 -- ---- a domain that is due when its row says
 
-pub under-right : (days : Schedule) (xs : Content) (row : table.Domain) → IsUnder days xs → is_due_right days xs row ≡ true → has_right_due xs row ≡ true
+pub under-right : (days : Schedule) (xs : Content) (row : DomainRow) → IsUnder days xs → is_due_right days xs row ≡ true → has_right_due xs row ≡ true
 under-right days xs row under is = go (days_of xs) under
   where
     go : (o : Option Schedule) → IfSome o (λ d. d ≡ days) → option_map_or (λ ds. is_due_right ds xs row) o true ≡ true
@@ -161,7 +161,7 @@ abbrev pub IsDueThen : Schedule → ℕ → Option Domain → Type 0
 IsDueThen days due after = (d : Domain) → after ≡ Some d → due ≡ capped (due_at (rules_with days) d)
 
 module _ (name : List ℕ) (days : Schedule) (after : Option Domain) (due : ℕ) (old new : Content) (under : IsUnder days old) (it : IsReplaced name has_right_due after due old new) (is_due : IsDueThen days due after) where
-  row-is : (row : table.Domain) → Has new.domains row → row.name ≡ name → is_due_right days new row ≡ true
+  row-is : (row : DomainRow) → Has new.domains row → row.name ≡ name → is_due_right days new row ≡ true
   row-is row here named = go after refl
     where
       go : (o : Option Domain) → after ≡ o → is_due_right days new row ≡ true
@@ -180,7 +180,7 @@ module _ (name : List ℕ) (days : Schedule) (after : Option Domain) (due : ℕ)
 
 -- a domain that was found under lengths that are those that were put down
 pub found-under : (name : List ℕ) (days : Schedule) (a b c : StateOf Content) → Reads a b × (b.is_clean ≡ true → IsUnder days a.content) → (r : Result (Option Domain) BookFault)
-    → FindsSome r (λ domain. (get (domains_of b.content) name ≡ domain) × ((row : table.Domain) → Has b.content.domains row → row.name ≡ name → is_due_right days b.content row ≡ true)) b c
+    → FindsSome r (λ domain. (get (domains_of b.content) name ≡ domain) × ((row : DomainRow) → Has b.content.domains row → row.name ≡ name → is_due_right days b.content row ≡ true)) b c
     → FindsSome r (λ domain. IsUnder days a.content × IsCheckedDomain name has_right_due a.content domain) a c
 found-under name days a b c asked (Err fault) met = stays-on a b c asked.0 met
 found-under name days a b c asked (Ok domain) met = (

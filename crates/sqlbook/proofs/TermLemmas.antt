@@ -7,9 +7,9 @@ use Rattle.policy.specs.declared.schedule.Schedule.{Schedule}
 use Rattle.policy.specs.declared.terms.Terms.{Terms}
 use Rattle.books.specs.Book.{with_terms}
 use Rattle.books.specs.Tables.{clock_set}
-use Rattle.sqltables.specs.Account as table
+use Rattle.sqltables.specs.declared.account.AccountRow.{AccountRow}
 use Rattle.sqltables.specs.Content.{Content}
-use Rattle.sqltables.specs.Domain as domain_table
+use Rattle.sqltables.specs.declared.domain.DomainRow.{DomainRow}
 use Rattle.sqltables.specs.Readiness.{may_be_numbered}
 use Rattle.sqlaccounts.specs.Accounts.{accounts_of, sums_are_right}
 use Rattle.sqldomains.specs.Domains.{domains_of}
@@ -55,10 +55,10 @@ module _ (m : ℕ) (old new : Content) (it : IsClockSet m old new) where
 
 -- ---- other terms
 
-abbrev held_in : Option table.Account → Option ℤ
-held_in o = option_map (λ (row : table.Account). row.held) o
+abbrev held_in : Option AccountRow → Option ℤ
+held_in o = option_map (λ (row : AccountRow). row.held) o
 
-nameless-held : (rows : List table.Account) (id : ℤ) → held_in (get_by key (map nameless rows) id) ≡ held_in (get_by key rows id)
+nameless-held : (rows : List AccountRow) (id : ℤ) → held_in (get_by key (map nameless rows) id) ≡ held_in (get_by key rows id)
 nameless-held [] id = refl
 nameless-held (row ∷ rows) id = go (int_eq row.id id) (nameless-held rows id)
   where
@@ -67,7 +67,7 @@ nameless-held (row ∷ rows) id = go (int_eq row.id id) (nameless-held rows id)
     go false more = more
 
 -- the column of a number, among rows that are alike but for their idents
-same-column : (xs ys : List table.Account) → map nameless ys ≡ map nameless xs → (id : ℤ) → held_in (get_by key ys id) ≡ held_in (get_by key xs id)
+same-column : (xs ys : List AccountRow) → map nameless ys ≡ map nameless xs → (id : ℤ) → held_in (get_by key ys id) ≡ held_in (get_by key xs id)
 same-column xs ys same id = sym (nameless-held ys id) ∙ ap (λ rows. held_in (get_by key rows id)) same ∙ nameless-held xs id
 
 module _ (value : Terms) (old new : Content) (it : IsTermsSet value old new) where
@@ -75,10 +75,10 @@ module _ (value : Terms) (old new : Content) (it : IsTermsSet value old new) whe
   same-domains = λ i. domains_of (it.others i)
 
   -- all sums are as right where the rows of domains are
-  terms-right : (right : Content → domain_table.Domain → Bool) → list_all (right new) new.domains ≡ list_all (right old) old.domains → are_right_by right new ≡ are_right_by right old
+  terms-right : (right : Content → DomainRow → Bool) → list_all (right new) new.domains ≡ list_all (right old) old.domains → are_right_by right new ≡ are_right_by right old
   terms-right right same = λ i. it.numbered i && (it.sums i && (columns-kept old new same-domains (same-column old.accounts new.accounts it.rows) i && (same i && sponsors_are_right (it.others i))))
 
-  nothing : (test : domain_table.Domain → Bool) (rows : List domain_table.Domain) → rows ≡ [] → list_all test rows ≡ true
+  nothing : (test : DomainRow → Bool) (rows : List DomainRow) → rows ≡ [] → list_all test rows ≡ true
   nothing test rows none = ap (list_all test) none
 
   same-dues : SuitDomains value.days old → dues_are_right new ≡ dues_are_right old

@@ -90,7 +90,6 @@ pub fn take_line<S: Alter>(
 /// Puts a message into a registrar's queue.
 pub fn put_message<S: Alter>(
     store: &mut RowStore<S>,
-    alloc: Global,
     registrar: RegistrarNo,
     message: Message,
 ) -> Result<(), BookFault>
@@ -99,7 +98,7 @@ pub fn put_message<S: Alter>(
         (stored_of store.old.content)) store.old store.new }
 {
     store.show_consistent();
-    sqlaccounts::put_message(store, alloc, registrar, message)?;
+    sqlaccounts::put_message(store, registrar, message)?;
     store.show_consistent();
     Ok(())
 }
@@ -107,7 +106,6 @@ pub fn put_message<S: Alter>(
 /// Takes a message out of a registrar's queue, if it is there.
 pub fn take_message<S: Alter>(
     store: &mut RowStore<S>,
-    alloc: Global,
     registrar: RegistrarNo,
     message: Message,
 ) -> Result<(), BookFault>
@@ -116,7 +114,7 @@ pub fn take_message<S: Alter>(
         (stored_of store.old.content)) store.old store.new }
 {
     store.show_consistent();
-    sqlaccounts::take_message(store, alloc, registrar, message)?;
+    sqlaccounts::take_message(store, registrar, message)?;
     store.show_consistent();
     Ok(())
 }

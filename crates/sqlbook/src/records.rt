@@ -266,12 +266,12 @@ impl<S: Alter, O: Provenance<S>> Records for SqlRecords<S, O> {
     }
 
     fn put_message(&mut self, registrar: RegistrarNo, message: Message) -> Result<(), BookFault> {
-        let said = changed_accounts::put_message(&mut self.store, self.alloc, registrar, message);
+        let said = changed_accounts::put_message(&mut self.store, registrar, message);
         rollback_on_fault::<S, O, _>(&mut self.store, said)
     }
 
     fn take_message(&mut self, registrar: RegistrarNo, message: Message) -> Result<(), BookFault> {
-        let said = changed_accounts::take_message(&mut self.store, self.alloc, registrar, message);
+        let said = changed_accounts::take_message(&mut self.store, registrar, message);
         rollback_on_fault::<S, O, _>(&mut self.store, said)
     }
 

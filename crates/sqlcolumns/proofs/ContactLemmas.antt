@@ -3,7 +3,7 @@ use Rattle.std.proofs.Common.{◌≡◌, ℤ, cond, Option, Some, None, sym, ap,
 use Rattle.objects.specs.declared.contact.Contact.{Contact}
 use Rattle.objects.specs.declared.roid.ObjectKind.TheVariants as kinds
 use Rattle.objects.specs.declared.transfer.Transfer.{Transfer}
-use Rattle.sqltables.specs.Contact as table
+use Rattle.sqltables.specs.declared.contact.ContactRow.{ContactRow}
 use Rattle.sqlcolumns.specs.inner.Contacts.{IsContact, contact_row, postal_row, postal_with, registration_of, row_with}
 use Rattle.sqlcolumns.specs.Contacts.{columns_of, contact_in, contact_with}
 use Rattle.sqlcolumns.specs.Registrations.{registration_columns, registration_in}
@@ -16,27 +16,27 @@ use Rattle.sqlcolumns.proofs.TextLemmas.{statuses_back, street_back}
 use Rattle.sqlcolumns.proofs.TransferLemmas.{same_as_itself, same_is_equal}
 
 -- what was written is read back
-pub contact_back : (id : ℤ) (c : Contact) (row : table.Contact) → IsContact c → contact_row id c ≡ Some row → contact_in row c.transfer ≡ Some c
+pub contact_back : (id : ℤ) (c : Contact) (row : ContactRow) → IsContact c → contact_row id c ≡ Some row → contact_in row c.transfer ≡ Some c
 contact_back id c row is e =
     let columns = step (registration_columns kinds.Contact (registration_of c)) (λ x. postal_row c.postal >>= (λ p. Some (row_with id c x p))) row e in
     let postal = step (postal_row c.postal) (λ p. Some (row_with id c columns.given p)) row columns.rest in
     let street = step (street_column c.postal.street) (λ s. Some (postal_with c.postal s)) postal.given postal.is in
-    let written : table.Contact = row_with id c columns.given (postal_with c.postal street.given) in
+    let written : ContactRow = row_with id c columns.given (postal_with c.postal street.given) in
     let same : written ≡ row = ap (row_with id c columns.given) (same_some (postal_with c.postal street.given) postal.given street.rest) ∙ same_some (row_with id c columns.given postal.given) row postal.rest in
     let due = maybe_due_column c.transfer in
-    sym (ap (λ (x : table.Contact). contact_in x c.transfer) same)
+    sym (ap (λ (x : ContactRow). contact_in x c.transfer) same)
     ∙ (λ i. registration_back kinds.Contact (registration_of c) columns.given is columns.is i >>= (λ r.
     statuses_back c.statuses i >>= (λ s.
     cond (is_same due due) (Some (contact_with written r s (street_back c.postal.street street.given street.is i) c.transfer)) None)))
     ∙ passed c (is_same due due) (same_as_itself due)
 
-record IsRead (row : table.Contact) (transfer : Option Transfer) (c : Contact) : Type 0 where
+record IsRead (row : ContactRow) (transfer : Option Transfer) (c : Contact) : Type 0 where
   pub registration : registration_in kinds.Contact (columns_of row) ≡ Some (registration_of c)
   pub statuses : statuses_in row.statuses ≡ Some c.statuses
   pub due : maybe_due_column transfer ≡ row.due
   pub made : contact_with row (registration_of c) c.statuses (street_in row.postal.street) transfer ≡ c
 
-is_read : (row : table.Contact) (transfer : Option Transfer) (c : Contact) → contact_in row transfer ≡ Some c → IsRead row transfer c
+is_read : (row : ContactRow) (transfer : Option Transfer) (c : Contact) → contact_in row transfer ≡ Some c → IsRead row transfer c
 is_read row transfer c e =
     let r = step (registration_in kinds.Contact (columns_of row)) _ c e in
     let s = step (statuses_in row.statuses) _ c r.rest in
@@ -49,9 +49,9 @@ is_read row transfer c e =
     }
 
 -- with this transfer
-pub contact_transfer : (row : table.Contact) (transfer : Option Transfer) (c : Contact) → contact_in row transfer ≡ Some c → c.transfer ≡ transfer
+pub contact_transfer : (row : ContactRow) (transfer : Option Transfer) (c : Contact) → contact_in row transfer ≡ Some c → c.transfer ≡ transfer
 contact_transfer row transfer c e = sym (ap (λ (x : Contact). x.transfer) (is_read row transfer c e).made)
 
 -- and is a contact's
-pub contact_is : (row : table.Contact) (transfer : Option Transfer) (c : Contact) → contact_in row transfer ≡ Some c → IsContact c
+pub contact_is : (row : ContactRow) (transfer : Option Transfer) (c : Contact) → contact_in row transfer ≡ Some c → IsContact c
 contact_is row transfer c e = registration_is kinds.Contact (columns_of row) (registration_of c) (is_read row transfer c e).registration

@@ -5,7 +5,7 @@ use Rattle.objects.specs.declared.domain.Domain.{Domain}
 use Rattle.objects.specs.declared.domain.Links.{Links}
 use Rattle.objects.specs.declared.roid.ObjectKind.TheVariants as kinds
 use Rattle.objects.specs.declared.transfer.Transfer.{Transfer}
-use Rattle.sqltables.specs.Domain as table
+use Rattle.sqltables.specs.declared.domain.DomainRow.{DomainRow}
 use Rattle.sqlcolumns.specs.declared.domain.DeletionColumns.{DeletionColumns}
 use Rattle.sqlcolumns.specs.inner.Domains.{IsDeletion, IsDomain, deletion_columns, domain_row, registration_of, row_with}
 use Rattle.sqlcolumns.specs.Domains.{columns_of, deletion_in, domain_in, domain_with, some_deletion_in}
@@ -64,26 +64,26 @@ deletion_is (Some m) r (Some d) e =
 -- ---- domains
 
 -- what was written is read back
-pub domain_back : (id registrant : ℤ) (due : ℕ) (d : Domain) (row : table.Domain) → IsDomain d → domain_row id registrant due d ≡ Some row → domain_in row d.links d.transfer ≡ Some d
+pub domain_back : (id registrant : ℤ) (due : ℕ) (d : Domain) (row : DomainRow) → IsDomain d → domain_row id registrant due d ≡ Some row → domain_in row d.links d.transfer ≡ Some d
 domain_back id registrant due d row is e =
     let columns = step (registration_columns kinds.Domain (registration_of d)) (λ x. Some (row_with id registrant due d x (deletion_columns d.deletion))) row e in
-    let written : table.Domain = row_with id registrant due d columns.given (deletion_columns d.deletion) in
+    let written : DomainRow = row_with id registrant due d columns.given (deletion_columns d.deletion) in
     let same = same_some written row columns.rest in
-    sym (ap (λ (x : table.Domain). domain_in x d.links d.transfer) same)
+    sym (ap (λ (x : DomainRow). domain_in x d.links d.transfer) same)
     ∙ (λ i. registration_back kinds.Domain (registration_of d) columns.given is.registration columns.is i >>= (λ r.
     years_back d.years is.years i >>= (λ y.
     statuses_back d.statuses i >>= (λ s.
     deletion_back d.deletion is.deletion i >>= (λ x.
     Some (domain_with written r y s x d.links d.transfer))))))
 
-record IsRead (row : table.Domain) (links : Links) (transfer : Option Transfer) (d : Domain) : Type 0 where
+record IsRead (row : DomainRow) (links : Links) (transfer : Option Transfer) (d : Domain) : Type 0 where
   pub registration : registration_in kinds.Domain (columns_of row) ≡ Some (registration_of d)
   pub years : years_in row.years ≡ Some d.years
   pub statuses : statuses_in row.statuses ≡ Some d.statuses
   pub deletion : deletion_in row.deleted row.restore_requested ≡ Some d.deletion
   pub made : domain_with row (registration_of d) d.years d.statuses d.deletion links transfer ≡ d
 
-is_read : (row : table.Domain) (links : Links) (transfer : Option Transfer) (d : Domain) → domain_in row links transfer ≡ Some d → IsRead row links transfer d
+is_read : (row : DomainRow) (links : Links) (transfer : Option Transfer) (d : Domain) → domain_in row links transfer ≡ Some d → IsRead row links transfer d
 is_read row links transfer d e =
     let r = step (registration_in kinds.Domain (columns_of row)) _ d e in
     let y = step (years_in row.years) _ d r.rest in
@@ -98,11 +98,11 @@ is_read row links transfer d e =
       made = sym (λ i. domain_with row (registration_of (same i)) ((same i).years) ((same i).statuses) ((same i).deletion) links transfer) ∙ same;
     }
 
-pub domain_transfer : (row : table.Domain) (links : Links) (transfer : Option Transfer) (d : Domain) → domain_in row links transfer ≡ Some d → d.transfer ≡ transfer
+pub domain_transfer : (row : DomainRow) (links : Links) (transfer : Option Transfer) (d : Domain) → domain_in row links transfer ≡ Some d → d.transfer ≡ transfer
 domain_transfer row links transfer d e = sym (ap (λ (x : Domain). x.transfer) (is_read row links transfer d e).made)
 
 -- and is a domain's
-pub domain_is : (row : table.Domain) (links : Links) (transfer : Option Transfer) (d : Domain) → domain_in row links transfer ≡ Some d → IsDomain d
+pub domain_is : (row : DomainRow) (links : Links) (transfer : Option Transfer) (d : Domain) → domain_in row links transfer ≡ Some d → IsDomain d
 domain_is row links transfer d e =
     let read = is_read row links transfer d e in
     record {
@@ -112,5 +112,5 @@ domain_is row links transfer d e =
     }
 
 -- what is read was deleted as its row says
-pub deletion_reads : (row : table.Domain) (links : Links) (transfer : Option Transfer) (d : Domain) → domain_in row links transfer ≡ Some d → deletion_in row.deleted row.restore_requested ≡ Some d.deletion
+pub deletion_reads : (row : DomainRow) (links : Links) (transfer : Option Transfer) (d : Domain) → domain_in row links transfer ≡ Some d → deletion_in row.deleted row.restore_requested ≡ Some d.deletion
 deletion_reads row links transfer d e = (is_read row links transfer d e).deletion

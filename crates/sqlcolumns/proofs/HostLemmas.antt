@@ -4,7 +4,7 @@ use Rattle.std.specs.Str.{bytes_eq}
 use Rattle.std.proofs.lemmas.Slice.Eq.{bytes_eq-Decides}
 use Rattle.objects.specs.declared.host.Host.{Host}
 use Rattle.objects.specs.declared.roid.ObjectKind.TheVariants as kinds
-use Rattle.sqltables.specs.Host as table
+use Rattle.sqltables.specs.declared.host.HostRow.{HostRow}
 use Rattle.sqlcolumns.specs.Above.{above}
 use Rattle.sqlcolumns.specs.inner.Hosts.{IsHost, host_row, row_with}
 use Rattle.sqlcolumns.specs.Hosts.{host_in, host_with}
@@ -19,12 +19,12 @@ same_bytes : (text : List ℕ) → bytes_eq text text ≡ true
 same_bytes text = (bytes_eq-Decides text text).1 refl
 
 -- what was written is read back
-pub host_back : (id : ℤ) (sponsor : Option ℤ) (h : Host) (row : table.Host) → IsHost h → host_row id sponsor h ≡ Some row → host_in row h.addresses ≡ Some h
+pub host_back : (id : ℤ) (sponsor : Option ℤ) (h : Host) (row : HostRow) → IsHost h → host_row id sponsor h ≡ Some row → host_in row h.addresses ≡ Some h
 host_back id sponsor h row is e =
     let roid = step (roid_columns kinds.Host h.roid) (λ x. Some (row_with id sponsor h x)) row e in
-    let written : table.Host = row_with id sponsor h roid.given in
+    let written : HostRow = row_with id sponsor h roid.given in
     let same : written ≡ row = same_some written row roid.rest in
-    sym (ap (λ (x : table.Host). host_in x h.addresses) same)
+    sym (ap (λ (x : HostRow). host_in x h.addresses) same)
     ∙ (λ i. (roid_back kinds.Host h.roid roid.given is.roid roid.is i >>= (λ x.
     maybe_registrar_back h.external_sponsor is.external_sponsor i >>= (λ s.
     moment_back h.created is.created i >>= (λ c.

@@ -4,7 +4,7 @@ use Rattle.std.specs.Prelude.{option_map}
 use Rattle.objects.specs.declared.roid.ObjectKind.TheVariants.{Domain}
 use Rattle.objects.specs.declared.roid.Roid.{Roid}
 use Rattle.accounts.specs.declared.line.Line.{Line}
-use Rattle.sqltables.specs.Line as table
+use Rattle.sqltables.specs.declared.line.LineRow.{LineRow}
 use Rattle.sqlcolumns.specs.declared.line.DomainColumns.{DomainColumns}
 use Rattle.sqlcolumns.specs.declared.roid.RoidColumns.{RoidColumns}
 use Rattle.sqlcolumns.specs.Codes.{kind_column, kind_in}
@@ -53,7 +53,7 @@ maybe_domain_is (Some c) None roid e = cc
 -- ---- written
 
 -- each column of the row is the line's
-record HasColumns (line : Line) (row : table.Line) : Type 0 where
+record HasColumns (line : Line) (row : LineRow) : Type 0 where
   pub kind : row.kind ≡ kind_column line.kind
   pub domain_is : domain_columns line.roid ≡ Some (record { creator = row.creator; serial = row.serial })
   pub recorded : row.recorded ≡ moment_column line.recorded
@@ -62,23 +62,23 @@ record HasColumns (line : Line) (row : table.Line) : Type 0 where
   pub started : row.grace.started ≡ maybe_moment_column line.started
   pub refunded : row.refunded ≡ maybe_moment_column line.refunded
 
-has_columns : (id account : ℤ) (line : Line) (ends : Option ℤ) (row : table.Line) → line_row id account line ends ≡ Some row → HasColumns line row
+has_columns : (id account : ℤ) (line : Line) (ends : Option ℤ) (row : LineRow) → line_row id account line ends ≡ Some row → HasColumns line row
 has_columns id account line ends row e =
     let domain = step (domain_columns line.roid) (λ d. exact_column line.cents >>= (λ c. Some (row_with id account line ends d c))) row e in
     let cents = step (exact_column line.cents) (λ c. Some (row_with id account line ends domain.given c)) row domain.rest in
     let same = same_some (row_with id account line ends domain.given cents.given) row cents.rest in
     record {
-      kind = sym (ap (λ (r : table.Line). r.kind) same);
+      kind = sym (ap (λ (r : LineRow). r.kind) same);
       domain_is = domain.is ∙ λ i. Some (record { creator = (same i).creator; serial = (same i).serial });
-      recorded = sym (ap (λ (r : table.Line). r.recorded) same);
-      years = sym (ap (λ (r : table.Line). r.years) same);
+      recorded = sym (ap (λ (r : LineRow). r.recorded) same);
+      years = sym (ap (λ (r : LineRow). r.years) same);
       cents_are = cents.is ∙ λ i. Some ((same i).cents);
-      started = sym (ap (λ (r : table.Line). r.grace.started) same);
-      refunded = sym (ap (λ (r : table.Line). r.refunded) same);
+      started = sym (ap (λ (r : LineRow). r.grace.started) same);
+      refunded = sym (ap (λ (r : LineRow). r.refunded) same);
     }
 
 -- what was written is read back
-pub line_back : (id account : ℤ) (line : Line) (ends : Option ℤ) (row : table.Line) → IsLine line → line_row id account line ends ≡ Some row → line_in row ≡ Some line
+pub line_back : (id account : ℤ) (line : Line) (ends : Option ℤ) (row : LineRow) → IsLine line → line_row id account line ends ≡ Some row → line_in row ≡ Some line
 line_back id account line ends row is e =
     let has = has_columns id account line ends row e in
     λ i. line_made
@@ -93,7 +93,7 @@ line_back id account line ends row is e =
 -- ---- read
 
 -- each column reads as the line's
-record IsRead (row : table.Line) (line : Line) : Type 0 where
+record IsRead (row : LineRow) (line : Line) : Type 0 where
   pub kind : kind_in row.kind ≡ Some line.kind
   pub roid : maybe_domain_in row.creator row.serial ≡ Some line.roid
   pub recorded : moment_in row.recorded ≡ Some line.recorded
@@ -102,7 +102,7 @@ record IsRead (row : table.Line) (line : Line) : Type 0 where
   pub started : maybe_moment_in row.grace.started ≡ Some line.started
   pub refunded : maybe_moment_in row.refunded ≡ Some line.refunded
 
-is_read : (row : table.Line) (line : Line) → line_in row ≡ Some line → IsRead row line
+is_read : (row : LineRow) (line : Line) → line_in row ≡ Some line → IsRead row line
 is_read row line e =
     let kind = step (kind_in row.kind) _ line e in
     let roid = step (maybe_domain_in row.creator row.serial) _ line kind.rest in
@@ -123,7 +123,7 @@ is_read row line e =
     }
 
 -- what is read was written so
-pub line_written : (row : table.Line) (line : Line) → line_in row ≡ Some line → line_row row.id row.account line row.grace.ends ≡ Some row
+pub line_written : (row : LineRow) (line : Line) → line_in row ≡ Some line → line_row row.id row.account line row.grace.ends ≡ Some row
 line_written row line e =
     let read = is_read row line e in
     (λ i. maybe_domain_written row.creator row.serial line.roid read.roid i >>= (λ d. exact_written row.cents line.cents read.cents i >>= (λ c. Some (row_with row.id row.account line row.grace.ends d c))))
@@ -136,7 +136,7 @@ line_written row line e =
     }))
 
 -- and is a line's
-pub line_is : (row : table.Line) (line : Line) → line_in row ≡ Some line → IsLine line
+pub line_is : (row : LineRow) (line : Line) → line_in row ≡ Some line → IsLine line
 line_is row line e =
     let read = is_read row line e in
     record {

@@ -9,7 +9,7 @@ use Rattle.accounts.specs.declared.message.LapseNotice.{LapseNotice}
 use Rattle.accounts.specs.declared.message.Message.{Message}
 use Rattle.accounts.specs.declared.message.Origin.{Origin}
 use Rattle.accounts.specs.declared.message.Origin.TheVariants.{Lapse, Command}
-use Rattle.sqltables.specs.Message as table
+use Rattle.sqltables.specs.declared.message.MessageRow.{MessageRow}
 use Rattle.sqlcolumns.specs.declared.origin.OriginColumns.{OriginColumns}
 use Rattle.sqlcolumns.specs.Codes.{subject_column, subject_in}
 use Rattle.sqlcolumns.specs.Numbers.{exact_column, exact_in, moment_column, moment_in}
@@ -77,27 +77,27 @@ origin_written c origin e =
 
 -- ---- messages
 
-abbrev origin_of : table.Message → OriginColumns
+abbrev origin_of : MessageRow → OriginColumns
 origin_of row = record { class = row.class; number = row.number; notice = row.notice }
 
-abbrev row_with : ℤ → ℤ → Message → OriginColumns → table.Message
+abbrev row_with : ℤ → ℤ → Message → OriginColumns → MessageRow
 row_with id account m o = record { id = id; account = account; moment = moment_column m.moment; class = o.class; number = o.number; name = m.name; subject = subject_column m.subject; notice = o.notice }
 
 -- what was written is read back
-pub message_back : (id account : ℤ) (m : Message) (row : table.Message) → IsMoment m.moment → message_row id account m ≡ Some row → message_in row ≡ Some m
+pub message_back : (id account : ℤ) (m : Message) (row : MessageRow) → IsMoment m.moment → message_row id account m ≡ Some row → message_in row ≡ Some m
 message_back id account m row is e =
     let o = step (origin_columns m.origin) (λ o. Some (row_with id account m o)) row e in
     let same = same_some (row_with id account m o.given) row o.rest in
     sym (ap message_in same)
     ∙ (λ i. message_made (moment_back m.moment is i) (origin_back m.origin o.given o.is i) (subject_back m.subject i) m.name)
 
-record IsRead (row : table.Message) (m : Message) : Type 0 where
+record IsRead (row : MessageRow) (m : Message) : Type 0 where
   pub moment : moment_in row.moment ≡ Some m.moment
   pub origin : origin_in (origin_of row) ≡ Some m.origin
   pub subject : subject_in row.subject ≡ Some m.subject
   pub name : row.name ≡ m.name
 
-is_read : (row : table.Message) (m : Message) → message_in row ≡ Some m → IsRead row m
+is_read : (row : MessageRow) (m : Message) → message_in row ≡ Some m → IsRead row m
 is_read row m e =
     let moment = step (moment_in row.moment) _ m e in
     let origin = step (origin_in (origin_of row)) _ m moment.rest in
@@ -111,12 +111,12 @@ is_read row m e =
     }
 
 -- what is read was written so
-pub message_written : (row : table.Message) (m : Message) → message_in row ≡ Some m → message_row row.id row.account m ≡ Some row
+pub message_written : (row : MessageRow) (m : Message) → message_in row ≡ Some m → message_row row.id row.account m ≡ Some row
 message_written row m e =
     let read = is_read row m e in
     (λ i. origin_written (origin_of row) m.origin read.origin i >>= (λ o. Some (row_with row.id row.account m o)))
     ∙ (λ i. Some (record row { moment = moment_written row.moment m.moment read.moment i; name = sym read.name i; subject = subject_written row.subject m.subject read.subject i }))
 
 -- and is of a moment
-pub message_is : (row : table.Message) (m : Message) → message_in row ≡ Some m → IsMoment m.moment
+pub message_is : (row : MessageRow) (m : Message) → message_in row ≡ Some m → IsMoment m.moment
 message_is row m e = moment_is row.moment m.moment (is_read row m e).moment

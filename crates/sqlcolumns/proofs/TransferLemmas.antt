@@ -3,7 +3,7 @@ use Rattle.std.proofs.Common.{◌≡◌, ℤ, true, cond, Option, Some, None, re
 use Rattle.std.proofs.lemmas.Bool.{false≢true}
 use Rattle.std.proofs.lemmas.Bool.Decides.{Decides-int_eq}
 use Rattle.objects.specs.declared.transfer.Transfer.{Transfer}
-use Rattle.sqltables.specs.Transfer as table
+use Rattle.sqltables.specs.declared.transfer.TransferRow.{TransferRow}
 use Rattle.sqlcolumns.specs.Codes.{state_in}
 use Rattle.sqlcolumns.specs.Numbers.{moment_in, registrar_in}
 use Rattle.sqlcolumns.specs.Transfers.{IsTransfer, due_column, is_same, transfer_in, transfer_made, transfer_row, with_due}
@@ -36,7 +36,7 @@ transfer_back id contact domain t is =
     (state_back t.state i)) (due_column t))
     ∙ passed t (is_same (due_column t) (due_column t)) (same_as_itself (due_column t))
 
-record IsRead (row : table.Transfer) (t : Transfer) : Type 0 where
+record IsRead (row : TransferRow) (t : Transfer) : Type 0 where
   pub requester : registrar_in row.requester ≡ Some t.requester
   pub losing_registrar : registrar_in row.losing ≡ Some t.losing_registrar
   pub requested : moment_in row.requested ≡ Some t.requested
@@ -44,7 +44,7 @@ record IsRead (row : table.Transfer) (t : Transfer) : Type 0 where
   pub state : state_in row.state ≡ Some t.state
   pub due : due_column t ≡ row.due
 
-is_read : (row : table.Transfer) (t : Transfer) → transfer_in row ≡ Some t → IsRead row t
+is_read : (row : TransferRow) (t : Transfer) → transfer_in row ≡ Some t → IsRead row t
 is_read row t e =
     let made : Option Transfer = transfer_made (registrar_in row.requester) (registrar_in row.losing) (moment_in row.requested) (moment_in row.ac_date) (state_in row.state) in
     let dated = step made (λ x. cond (is_same (due_column x) row.due) (Some x) None) t e in
@@ -65,7 +65,7 @@ is_read row t e =
     }
 
 -- what is read was written so
-pub transfer_written : (row : table.Transfer) (t : Transfer) → transfer_in row ≡ Some t → transfer_row row.id row.contact row.domain t ≡ row
+pub transfer_written : (row : TransferRow) (t : Transfer) → transfer_in row ≡ Some t → transfer_row row.id row.contact row.domain t ≡ row
 transfer_written row t e =
     let read = is_read row t e in
     λ i. record row {
@@ -78,7 +78,7 @@ transfer_written row t e =
     }
 
 -- and is a transfer's
-pub transfer_is : (row : table.Transfer) (t : Transfer) → transfer_in row ≡ Some t → IsTransfer t
+pub transfer_is : (row : TransferRow) (t : Transfer) → transfer_in row ≡ Some t → IsTransfer t
 transfer_is row t e =
     let read = is_read row t e in
     record {

@@ -5,7 +5,8 @@ use Rattle.objects.specs.declared.contact.Postal.{Postal}
 use Rattle.objects.specs.declared.roid.ObjectKind.TheVariants as kinds
 use Rattle.objects.specs.declared.status.Status.{Status}
 use Rattle.objects.specs.declared.transfer.Transfer.{Transfer}
-use Rattle.sqltables.specs.Contact as table
+use Rattle.sqltables.specs.declared.contact.ContactRow.{ContactRow}
+use Rattle.sqltables.specs.declared.contact.PostalRow.{PostalRow}
 use Rattle.sqlcolumns.specs.declared.registration.Registration.{Registration}
 use Rattle.sqlcolumns.specs.declared.registration.RegistrationColumns.{RegistrationColumns}
 use Rattle.sqlcolumns.specs.Registrations.{registration_in}
@@ -15,13 +16,13 @@ use Rattle.sqlcolumns.specs.Transfers.{is_same, maybe_due_column}
 
 -- ---- read
 
-abbrev pub columns_of : table.Contact → RegistrationColumns
+abbrev pub columns_of : ContactRow → RegistrationColumns
 columns_of row = record { creator = row.creator; serial = row.serial; sponsor = row.sponsor; created = row.created; transferred = row.transferred; updated = row.updated }
 
-abbrev pub postal_in : table.Postal → List (List ℕ) → Postal
+abbrev pub postal_in : PostalRow → List (List ℕ) → Postal
 postal_in p street = record { name = p.name; org = p.org; street = street; city = p.city; sp = p.state; pc = p.postal_code; cc = p.country }
 
-abbrev pub contact_with : table.Contact → Registration → List Status → List (List ℕ)
+abbrev pub contact_with : ContactRow → Registration → List Status → List (List ℕ)
     → Option Transfer → Contact
 contact_with row r statuses street transfer = record {
   name = row.name;
@@ -39,7 +40,7 @@ contact_with row r statuses street transfer = record {
 }
 
 -- the contact of these parts, if all are there, and it is due when its transfer says
-abbrev pub contact_made : table.Contact → Option (List Status) → List (List ℕ) → Option Transfer
+abbrev pub contact_made : ContactRow → Option (List Status) → List (List ℕ) → Option Transfer
     → Option Contact
 contact_made row statuses street transfer = do
   r ← registration_in kinds.Contact (columns_of row)
@@ -47,6 +48,6 @@ contact_made row statuses street transfer = do
   if is_same (maybe_due_column transfer) row.due then Some (contact_with row r s street transfer) else None
 
 -- the contact of a row, if each column reads, whose last transfer is this
-abbrev pub contact_in : table.Contact → Option Transfer → Option Contact
+abbrev pub contact_in : ContactRow → Option Transfer → Option Contact
 contact_in row transfer =
     contact_made row (statuses_in row.statuses) (street_in row.postal.street) transfer

@@ -6,7 +6,7 @@ use Rattle.objects.specs.declared.domain.Links.{Links}
 use Rattle.objects.specs.declared.roid.ObjectKind.TheVariants as kinds
 use Rattle.objects.specs.declared.status.Status.{Status}
 use Rattle.objects.specs.declared.transfer.Transfer.{Transfer}
-use Rattle.sqltables.specs.Domain as table
+use Rattle.sqltables.specs.declared.domain.DomainRow.{DomainRow}
 use Rattle.sqlcolumns.specs.declared.registration.Registration.{Registration}
 use Rattle.sqlcolumns.specs.declared.registration.RegistrationColumns.{RegistrationColumns}
 use Rattle.sqlcolumns.specs.Numbers.{maybe_moment_in, moment_in, years_in}
@@ -16,7 +16,7 @@ use Rattle.sqlcolumns.specs.Texts.{statuses_in}
 
 -- ---- read
 
-abbrev pub columns_of : table.Domain → RegistrationColumns
+abbrev pub columns_of : DomainRow → RegistrationColumns
 columns_of row = record { creator = row.creator; serial = row.serial; sponsor = row.sponsor; created = row.created; transferred = row.transferred; updated = row.updated }
 
 abbrev pub some_deletion_in : ℤ → Option ℤ → Option (Option Deletion)
@@ -31,7 +31,7 @@ deletion_in None None = Some None
 deletion_in None (Some restore_requested) = None
 deletion_in (Some deleted) restore_requested = some_deletion_in deleted restore_requested
 
-abbrev pub domain_with : table.Domain → Registration → ℕ → List Status → Option Deletion → Links
+abbrev pub domain_with : DomainRow → Registration → ℕ → List Status → Option Deletion → Links
     → Option Transfer → Domain
 domain_with row r years statuses deletion links transfer = record {
   name = row.name;
@@ -49,7 +49,7 @@ domain_with row r years statuses deletion links transfer = record {
 }
 
 -- the domain of these parts, if all are there
-abbrev pub domain_made : table.Domain → Option (List Status) → Links → Option Transfer
+abbrev pub domain_made : DomainRow → Option (List Status) → Links → Option Transfer
     → Option Domain
 domain_made row statuses links transfer = do
   r ← registration_in kinds.Domain (columns_of row)
@@ -59,5 +59,5 @@ domain_made row statuses links transfer = do
   Some (domain_with row r y s d links transfer)
 
 -- the domain of a row, if each column reads, which names these and whose last transfer is this
-abbrev pub domain_in : table.Domain → Links → Option Transfer → Option Domain
+abbrev pub domain_in : DomainRow → Links → Option Transfer → Option Domain
 domain_in row links transfer = domain_made row (statuses_in row.statuses) links transfer

@@ -4,7 +4,7 @@ use Rattle.std.specs.Str.{bytes_eq}
 use Rattle.objects.specs.declared.host.Host.{Host}
 use Rattle.objects.specs.declared.roid.ObjectKind.TheVariants as kinds
 use Rattle.objects.specs.declared.status.Status.{Status}
-use Rattle.sqltables.specs.Host as table
+use Rattle.sqltables.specs.declared.host.HostRow.{HostRow}
 use Rattle.sqlcolumns.specs.declared.host.HostColumns.{HostColumns}
 use Rattle.sqlcolumns.specs.Above.{above}
 use Rattle.sqlcolumns.specs.Numbers.{maybe_moment_in, maybe_registrar_in, moment_in}
@@ -15,7 +15,7 @@ use Rattle.sqlcolumns.specs.Texts.{statuses_in}
 -- ---- read
 
 -- which host it is, who sponsors it outside the zone, and since when, if each column reads
-abbrev pub columns_in : table.Host → Option HostColumns
+abbrev pub columns_in : HostRow → Option HostColumns
 columns_in row = do
   roid ← roid_in kinds.Host row.creator row.serial
   external_sponsor ← maybe_registrar_in row.external_sponsor
@@ -23,7 +23,7 @@ columns_in row = do
   updated ← maybe_moment_in row.updated
   Some (record { roid = roid; external_sponsor = external_sponsor; created = created; updated = updated })
 
-abbrev pub host_with : table.Host → HostColumns → List Status → List (List ℕ) → Host
+abbrev pub host_with : HostRow → HostColumns → List Status → List (List ℕ) → Host
 host_with row columns statuses addresses = record {
   name = row.name;
   roid = columns.roid;
@@ -35,12 +35,12 @@ host_with row columns statuses addresses = record {
 }
 
 -- the host of these parts, if all are there, and it lies below the last two labels of its name
-abbrev pub host_made : table.Host → Option (List Status) → List ℕ → List (List ℕ) → Option Host
+abbrev pub host_made : HostRow → Option (List Status) → List ℕ → List (List ℕ) → Option Host
 host_made row statuses above addresses = do
   columns ← columns_in row
   s ← statuses
   if bytes_eq row.above above then Some (host_with row columns s addresses) else None
 
 -- the host of a row, if each column reads, with these addresses
-abbrev pub host_in : table.Host → List (List ℕ) → Option Host
+abbrev pub host_in : HostRow → List (List ℕ) → Option Host
 host_in row addresses = host_made row (statuses_in row.statuses) (above row.name) addresses

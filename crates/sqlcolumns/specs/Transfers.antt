@@ -5,7 +5,7 @@ use Rattle.calendar.specs.Moment.{IsMoment}
 use Rattle.objects.specs.Transfers.{is_pending_state}
 use Rattle.objects.specs.declared.transfer.Transfer.{Transfer}
 use Rattle.objects.specs.declared.transfer.TransferState.{TransferState}
-use Rattle.sqltables.specs.Transfer as table
+use Rattle.sqltables.specs.declared.transfer.TransferRow.{TransferRow}
 use Rattle.sqlcolumns.specs.Codes.{state_column, state_in}
 use Rattle.sqlcolumns.specs.Numbers.{IsPlace, moment_column, moment_in, registrar_column, registrar_in}
 use Rattle.sqlcolumns.specs.Steps.{◌>>=◌}
@@ -26,7 +26,7 @@ maybe_due_column None = None
 maybe_due_column (Some t) = due_column t
 
 -- the row of a transfer, under its number, of the contact or the domain with this one
-abbrev pub transfer_row : ℤ → Option ℤ → Option ℤ → Transfer → table.Transfer
+abbrev pub transfer_row : ℤ → Option ℤ → Option ℤ → Transfer → TransferRow
 transfer_row id contact domain t = record {
   id = id;
   contact = contact;
@@ -65,6 +65,6 @@ with_due transfer due = do
   if is_same (due_column t) due then Some t else None
 
 -- the transfer of a row, if each column reads, and it is due when it says
-abbrev pub transfer_in : table.Transfer → Option Transfer
+abbrev pub transfer_in : TransferRow → Option Transfer
 transfer_in row =
     with_due (transfer_made (registrar_in row.requester) (registrar_in row.losing) (moment_in row.requested) (moment_in row.ac_date) (state_in row.state)) row.due

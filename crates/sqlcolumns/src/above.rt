@@ -3,15 +3,16 @@ ghost use Rattle.std.specs.Prelude.{◌≡◌, map, IfOk, string_bytes};
 ghost use Rattle.std.specs.List.{join_with_byte};
 ghost use Rattle.sqlcolumns.specs.Above as spec;
 
+use basis::text::Text;
 use std::alloc::{AllocError, Global};
 
 /// The last two labels of a name, and the whole name where it has fewer.
 #[tactic(auto, unfolding(crate::specs::Above::above))]
-pub fn above_column(alloc: Global, name: &str) -> Result<String, AllocError>
-    ensures { IfOk result (λ text. string_bytes text ≡ spec.above name.now) }
+pub fn above_column(alloc: Global, name: &str) -> Result<Text, AllocError>
+    ensures { IfOk result (λ text. text ≡ spec.above name.now) }
 {
     let labels = labels_of(alloc, name)?;
-    joined(alloc, last_two(&labels))
+    Ok(Text::from_string(joined(alloc, last_two(&labels))?))
 }
 
 fn labels_of(alloc: Global, name: &str) -> Result<Vec<&str>, AllocError>

@@ -10,10 +10,9 @@ use crate::registration::{
 };
 use crate::statuses::{statuses_column, statuses_of_column};
 use crate::street::{street_column, street_of_column};
-use crate::text::{maybe_text_column, maybe_text_of_column, text_column};
 use crate::transfer::{is_same, maybe_due_column};
 use basis::list::Seq;
-use basis::text::Text;
+use basis::text::{Text, copied};
 use objects::{Contact, ObjectKind, Postal, Status, Transfer};
 use sqltables::{ContactRow, PostalRow};
 use std::alloc::{AllocError, Global};
@@ -63,13 +62,13 @@ fn postal_row(alloc: Global, postal: &Postal) -> Result<Option<PostalRow>, Alloc
         return Ok(None);
     };
     Ok(Some(PostalRow {
-        name: text_column(alloc, &postal.name)?,
-        org: maybe_text_column(alloc, &postal.org)?,
+        name: postal.name.clone()?,
+        org: copied(&postal.org)?,
         street,
-        city: text_column(alloc, &postal.city)?,
-        state: maybe_text_column(alloc, &postal.sp)?,
-        postal_code: maybe_text_column(alloc, &postal.pc)?,
-        country: text_column(alloc, &postal.cc)?,
+        city: postal.city.clone()?,
+        state: copied(&postal.sp)?,
+        postal_code: copied(&postal.pc)?,
+        country: postal.cc.clone()?,
     }))
 }
 
@@ -84,7 +83,7 @@ fn row_with(
 {
     Ok(ContactRow {
         id,
-        name: text_column(alloc, &contact.name)?,
+        name: contact.name.clone()?,
         creator: columns.creator,
         serial: columns.serial,
         sponsor: columns.sponsor,
@@ -92,9 +91,9 @@ fn row_with(
         transferred: columns.transferred,
         updated: columns.updated,
         statuses: statuses_column(alloc, contact.statuses.as_slice())?,
-        secret: text_column(alloc, &contact.secret)?,
-        voice: maybe_text_column(alloc, &contact.voice)?,
-        mail: text_column(alloc, &contact.mail)?,
+        secret: contact.secret.clone()?,
+        voice: copied(&contact.voice)?,
+        mail: contact.mail.clone()?,
         due: maybe_due_column(&contact.transfer),
         postal,
     })
@@ -165,17 +164,17 @@ fn contact_with(
     ensures { result ≡ spec.contact_with row registration statuses street transfer }
 {
     Contact {
-        name: Text::from_string(row.name),
+        name: row.name,
         roid: registration.roid,
         sponsor: registration.sponsor,
         created: registration.created,
         transferred: registration.transferred,
         updated: registration.updated,
         statuses,
-        secret: Text::from_string(row.secret),
+        secret: row.secret,
         postal: postal_of_row(row.postal, street),
-        voice: maybe_text_of_column(row.voice),
-        mail: Text::from_string(row.mail),
+        voice: row.voice,
+        mail: row.mail,
         transfer,
     }
 }
@@ -184,12 +183,12 @@ fn postal_of_row(row: PostalRow, street: Seq<Text>) -> Postal
     ensures { result ≡ spec.postal_in row street }
 {
     Postal {
-        name: Text::from_string(row.name),
-        org: maybe_text_of_column(row.org),
+        name: row.name,
+        org: row.org,
         street,
-        city: Text::from_string(row.city),
-        sp: maybe_text_of_column(row.state),
-        pc: maybe_text_of_column(row.postal_code),
-        cc: Text::from_string(row.country),
+        city: row.city,
+        sp: row.state,
+        pc: row.postal_code,
+        cc: row.country,
     }
 }

@@ -14,9 +14,7 @@ use crate::registration::{
     registration_of_columns,
 };
 use crate::statuses::{statuses_column, statuses_of_column};
-use crate::text::text_column;
 use basis::list::Seq;
-use basis::text::Text;
 use calendar::Moment;
 use objects::{Deletion, Domain, Links, ObjectKind, Status, Transfer};
 use sqltables::DomainRow;
@@ -107,7 +105,7 @@ fn row_with(
 {
     Ok(DomainRow {
         id,
-        name: text_column(alloc, &domain.name)?,
+        name: domain.name.clone()?,
         creator: columns.creator,
         serial: columns.serial,
         sponsor: columns.sponsor,
@@ -116,7 +114,7 @@ fn row_with(
         transferred: columns.transferred,
         updated: columns.updated,
         statuses: statuses_column(alloc, domain.statuses.as_slice())?,
-        secret: text_column(alloc, &domain.secret)?,
+        secret: domain.secret.clone()?,
         registrant,
         deleted: deletion.deleted,
         restore_requested: deletion.restore_requested,
@@ -227,7 +225,7 @@ fn domain_with(
     ensures { result ≡ spec.domain_with row registration years statuses deletion links transfer }
 {
     Domain {
-        name: Text::from_string(row.name),
+        name: row.name,
         roid: registration.roid,
         sponsor: registration.sponsor,
         created: registration.created,
@@ -235,7 +233,7 @@ fn domain_with(
         transferred: registration.transferred,
         updated: registration.updated,
         statuses,
-        secret: Text::from_string(row.secret),
+        secret: row.secret,
         links,
         transfer,
         deletion,

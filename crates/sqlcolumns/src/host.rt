@@ -13,7 +13,6 @@ use crate::moment::{
 use crate::number::{is_maybe_place, maybe_registrar_column, maybe_registrar_of_column};
 use crate::roid::{RoidColumns, is_roid, roid_columns, roid_of_columns};
 use crate::statuses::{statuses_column, statuses_of_column};
-use crate::text::text_column;
 use basis::list::Seq;
 use basis::registrar::RegistrarNo;
 use basis::text::Text;
@@ -58,7 +57,7 @@ fn row_with(
 {
     Ok(HostRow {
         id,
-        name: text_column(alloc, &host.name)?,
+        name: host.name.clone()?,
         creator: roid.creator,
         serial: roid.serial,
         above: above_column(alloc, host.name.as_str())?,
@@ -101,7 +100,7 @@ fn statuses_of(alloc: Global, row: &HostRow) -> Result<Option<Seq<Status>>, Allo
 fn above_of(alloc: Global, row: &HostRow) -> Result<Text, AllocError>
     ensures { IfOk result (λ text. text ≡ above row.now.name) }
 {
-    Ok(Text::from_string(above_column(alloc, row.name.as_str())?))
+    above_column(alloc, row.name.as_str())
 }
 
 /// The host of these parts, if all are there.
@@ -145,7 +144,7 @@ fn host_with(
     ensures { result ≡ spec.host_with row columns statuses addresses }
 {
     Host {
-        name: Text::from_string(row.name),
+        name: row.name,
         roid: columns.roid,
         external_sponsor: columns.external_sponsor,
         created: columns.created,

@@ -18,7 +18,6 @@ mod registration;
 mod roid;
 mod statuses;
 mod street;
-mod text;
 mod transfer;
 
 pub use above::above_column;

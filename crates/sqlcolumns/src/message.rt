@@ -11,19 +11,18 @@ use accounts::{Message, Origin, Subject};
 use basis::text::Text;
 use calendar::Moment;
 use sqltables::MessageRow;
-use std::alloc::{AllocError, Global};
+use std::alloc::AllocError;
 
 /// The row of a message, under its number and its account's; none where the recipient's number of it
 /// is too great.
 pub fn message_row(
-    alloc: Global,
     id: i64,
     account: i64,
     message: &Message,
 ) -> Result<Option<MessageRow>, AllocError>
     ensures { IfOk result (λ row. row ≡ spec.message_row id account message.now) }
 {
-    let name = String::from_str(alloc, message.name.as_str())?;
+    let name = message.name.clone()?;
     let Some(origin) = origin_columns(message.origin) else {
         return Ok(None);
     };
@@ -55,7 +54,7 @@ pub fn message_of_row(row: MessageRow) -> Option<Message>
         moment_of_column(row.moment),
         origin_of_columns(columns),
         Subject::of_column(row.subject),
-        Text::from_string(row.name),
+        row.name,
     )
 }
 

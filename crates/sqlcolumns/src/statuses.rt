@@ -6,20 +6,21 @@ ghost use Rattle.objects.specs.declared.status.Status.{Status};
 ghost use Rattle.sqlcolumns.specs.Texts as spec;
 
 use basis::list::Seq;
+use basis::text::Text;
 use objects::Status;
 use std::alloc::{AllocError, Global};
 
 /// The statuses' texts, with a blank between them.
-pub fn statuses_column(alloc: Global, statuses: &[Status]) -> Result<String, AllocError>
-    ensures { IfOk result (λ text. string_bytes text ≡ spec.statuses_column statuses.now) }
+pub fn statuses_column(alloc: Global, statuses: &[Status]) -> Result<Text, AllocError>
+    ensures { IfOk result (λ text. text ≡ spec.statuses_column statuses.now) }
 {
     let mut text = String::new(alloc);
     let Some((first, rest)) = statuses.split_first() else {
-        return Ok(text);
+        return Ok(Text::from_string(text));
     };
     text.push_str(first.text())?;
     push_statuses(&mut text, rest)?;
-    Ok(text)
+    Ok(Text::from_string(text))
 }
 
 /// Puts each after a blank.

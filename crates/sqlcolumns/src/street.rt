@@ -1,7 +1,6 @@
 //! Lines of a street as one text.
 ghost use Rattle.std.specs.Prelude.{◌≡◌, ◌==◌, ℕ, List, Some, map, IfOk, OnOk, string_bytes};
 ghost use Rattle.std.specs.List.{list_any, slice_split};
-ghost use Rattle.std.specs.Option.{option_map};
 ghost use Rattle.sqlcolumns.specs.Texts as spec;
 
 use basis::list::Seq;
@@ -9,8 +8,8 @@ use basis::text::Text;
 use std::alloc::{AllocError, Global};
 
 /// The lines, with a line feed between them; none where there is no line, or one has a line feed.
-pub fn street_column(alloc: Global, lines: &[Text]) -> Result<Option<String>, AllocError>
-    ensures { IfOk result (λ text. option_map string_bytes text ≡ spec.street_column lines.now) }
+pub fn street_column(alloc: Global, lines: &[Text]) -> Result<Option<Text>, AllocError>
+    ensures { IfOk result (λ text. text ≡ spec.street_column lines.now) }
 {
     if have_feeds(lines) {
         return Ok(None);
@@ -20,7 +19,7 @@ pub fn street_column(alloc: Global, lines: &[Text]) -> Result<Option<String>, Al
     };
     let mut text = String::from_str(alloc, first.as_str())?;
     push_lines(&mut text, rest)?;
-    Ok(Some(text))
+    Ok(Some(Text::from_string(text)))
 }
 
 fn have_feeds(lines: &[Text]) -> bool

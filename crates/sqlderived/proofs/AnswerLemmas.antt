@@ -7,7 +7,7 @@ use Rattle.lifecycle.specs.declared.due_object.Due.{Due}
 use Rattle.model.specs.DueBy.{due_by}
 use Rattle.sqltables.specs.Content.{Content}
 use Rattle.sqltables.specs.inner.Consistent.{IsConsistent}
-use Rattle.sqltables.specs.Domain as table
+use Rattle.sqltables.specs.declared.domain.DomainRow.{DomainRow}
 use Rattle.sqlcolumns.specs.Steps.{◌>>=◌}
 use Rattle.states.specs.declared.fault.BookFault.{BookFault}
 use Rattle.states.specs.States.{FindsSome, Reads, StateOf}
@@ -49,20 +49,20 @@ told-after P rows asked-for (Ok it) s m t asked met = (
 )
 
 module _ (p : PolicyRules) (moment : ℕ) (s : StateOf Content) where
-  abbrev test : table.Domain → Bool
+  abbrev test : DomainRow → Bool
   test = is_due_right p.days s.content
 
-  abbrev read : table.Domain → Option (Option Due)
+  abbrev read : DomainRow → Option (Option Due)
   read = domain_in p moment s.content
 
   -- of rows whose columns are right these are left, and give with what was found what all of them give
-  abbrev pub IsLeft : (before : List Due) (rows : List table.Domain) (found : List Due) (rest : List table.Domain) → StateOf Content → Type 0
+  abbrev pub IsLeft : (before : List Due) (rows : List DomainRow) (found : List Due) (rest : List DomainRow) → StateOf Content → Type 0
   IsLeft before rows found rest m =
       Reads s m
       × (m.is_clean ≡ true → list_all test rows ≡ true → (list_all test rest ≡ true) × (with_rows read found rest ≡ with_rows read before rows))
 
   -- one row fewer is left
-  pub one-fewer : (before : List Due) (rows : List table.Domain) (found more : List Due) (row : table.Domain) (rest : List table.Domain) (m t : StateOf Content) → IsLeft before rows found (row ∷ rest) m
+  pub one-fewer : (before : List Due) (rows : List DomainRow) (found more : List Due) (row : DomainRow) (rest : List DomainRow) (m t : StateOf Content) → IsLeft before rows found (row ∷ rest) m
       → Reads m t × (t.is_clean ≡ true → is_due_right p.days m.content row ≡ true → with_row found (domain_in p moment m.content row) ≡ Some more) → IsLeft before rows more rest t
   one-fewer before rows found more row rest m t left step = (
     reads-on s m t left.0 step.0,

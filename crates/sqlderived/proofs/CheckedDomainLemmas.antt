@@ -7,6 +7,7 @@ use Rattle.policy.specs.declared.schedule.Schedule.{Schedule}
 use Rattle.sqlite_rules.specs.Lists.{Has}
 use Rattle.sqltables.specs.Content.{Content}
 use Rattle.sqltables.specs.Domain as table
+use Rattle.sqltables.specs.declared.domain.DomainRow.{DomainRow}
 use Rattle.sqltables.proofs.RowLemmas.{bytes_same}
 use Rattle.states.specs.declared.fault.BookFault.{BookFault}
 use Rattle.states.specs.States.{Finds, FindsSome, StateOf}
@@ -17,10 +18,10 @@ use Rattle.sqldomains.specs.Domains.{domain_of, domains_of}
 use Rattle.sqldomains.proofs.FoundLemmas.{domain-named}
 use Rattle.sqlderived.specs.Dues.{is_due_right}
 
-pub checked-domain-found : (s m t : StateOf Content) (given name : List ℕ) (same : given ≡ name) (days : Schedule) (r : Result (Option Domain) BookFault) (rows : List table.Domain)
-    → Finds {A = List table.Domain} (Ok rows) (filter (table.domain_with_name given) s.content.domains) s m
-    → FindsSome r (λ d. (first_read (domain_of m.content) rows ≡ d) × ((row : table.Domain) → Has rows row → is_due_right days m.content row ≡ true)) m t
-    → FindsSome r (λ d. (get (domains_of s.content) name ≡ d) × ((row : table.Domain) → Has s.content.domains row → row.name ≡ name → is_due_right days s.content row ≡ true)) s t
+pub checked-domain-found : (s m t : StateOf Content) (given name : List ℕ) (same : given ≡ name) (days : Schedule) (r : Result (Option Domain) BookFault) (rows : List DomainRow)
+    → Finds {A = List DomainRow} (Ok rows) (filter (table.domain_with_name given) s.content.domains) s m
+    → FindsSome r (λ d. (first_read (domain_of m.content) rows ≡ d) × ((row : DomainRow) → Has rows row → is_due_right days m.content row ≡ true)) m t
+    → FindsSome r (λ d. (get (domains_of s.content) name ≡ d) × ((row : DomainRow) → Has s.content.domains row → row.name ≡ name → is_due_right days s.content row ≡ true)) s t
 checked-domain-found s m t given name same days (Err fault) rows asked met = stays-on s m t asked.0 met
 checked-domain-found s m t given name same days (Ok it) rows asked met = (
   reads-on s m t asked.0 met.0,

@@ -30,9 +30,10 @@ use Rattle.sqlrows.specs.inner.Layouts.{by_then_key}
 use Rattle.lifecycle.specs.declared.due_object.Due.{Due}
 use Rattle.lifecycle.specs.DueObjects.{contact_due, domain_due, due_then, found_due}
 use Rattle.sqltables.specs.Contact as contact_table
+use Rattle.sqltables.specs.declared.contact.ContactRow.{ContactRow}
 use Rattle.sqltables.specs.Content.{Content}
 use Rattle.sqltables.specs.Domain as domain_table
-use Rattle.sqltables.specs.inner.Domain as inner_domain_table
+use Rattle.sqltables.specs.declared.domain.DomainRow.{DomainRow}
 use Rattle.sqltables.specs.inner.Due.{is_due_by}
 use Rattle.sqltables.specs.Transfer.{transfer_with_contact}
 use Rattle.sqltables.specs.inner.Consistent.{IsConsistent}
@@ -102,11 +103,11 @@ has-come t m u e = go (nat_lt t m) refl e
 
 -- ---- contacts
 
-pub record IsContactRow (row : contact_table.Contact) (c : Contact) : Type 0 where
+pub record IsContactRow (row : ContactRow) (c : Contact) : Type 0 where
   pub name : c.name ≡ row.name
   pub due : maybe_due_column c.transfer ≡ row.due
 
-pub contact-row : (xs : Content) (row : contact_table.Contact) (c : Contact) → contact_of xs row ≡ Some c → IsContactRow row c
+pub contact-row : (xs : Content) (row : ContactRow) (c : Contact) → contact_of xs row ≡ Some c → IsContactRow row c
 contact-row xs row c e =
     let transfer = step (last_transfer (filter (transfer_with_contact row.id) xs.transfers)) (contact_in row) c e in
     let r = step (registration_in kinds.Contact (columns_of row)) _ c transfer.rest in
@@ -117,11 +118,11 @@ contact-row xs row c e =
       due = ap (λ (x : Contact). maybe_due_column x.transfer) (sym due.1) ∙ same_is_equal (maybe_due_column transfer.given) row.due due.0;
     }
 
-pub contact-stands : (xs : Content) (row : contact_table.Contact) (c : Contact) → IsConsistent xs → Has xs.contacts row → contact_of xs row ≡ Some c → get (contacts_of xs) row.name ≡ Some c
+pub contact-stands : (xs : Content) (row : ContactRow) (c : Contact) → IsConsistent xs → Has xs.contacts row → contact_of xs row ≡ Some c → get (contacts_of xs) row.name ≡ Some c
 contact-stands xs row c consistent there reads =
-    sym (contact-named xs row.name) ∙ ap (first_read (contact_of xs)) (only_named contact_table.contacts.key (λ (r : contact_table.Contact). r.name) xs.contacts row consistent.keyed.contacts consistent.named.contacts there) ∙ ap (λ o. or_else o None) reads
+    sym (contact-named xs row.name) ∙ ap (first_read (contact_of xs)) (only_named contact_table.contacts.key (λ (r : ContactRow). r.name) xs.contacts row consistent.keyed.contacts consistent.named.contacts there) ∙ ap (λ o. or_else o None) reads
 
-pub contact-under : (xs : Content) (n : List ℕ) (c : Contact) → get (contacts_of xs) n ≡ Some c → (row : contact_table.Contact) × Has xs.contacts row × (contact_of xs row ≡ Some c) × (row.name ≡ n)
+pub contact-under : (xs : Content) (n : List ℕ) (c : Contact) → get (contacts_of xs) n ≡ Some c → (row : ContactRow) × Has xs.contacts row × (contact_of xs row ≡ Some c) × (row.name ≡ n)
 contact-under xs n c e =
     let it = first-has (contact_of xs) (filter (contact_table.contact_with_name n) xs.contacts) c (contact-named xs n ∙ e) in
     let there = has-filter (contact_table.contact_with_name n) xs.contacts it.0 it.1 in
@@ -143,12 +144,12 @@ column-within t u (Some x) e = go (is_pending_state x.state) e
     go false f = cc
 
 -- a contact that is due has a row that may be
-pub contact-within : (xs : Content) (t : ℕ) (row : contact_table.Contact) (c : Contact) (d : Due) → contact_of xs row ≡ Some c → contact_due t (row.name, c) ≡ Some d → contact_table.contact_within_due (pos t) row ≡ true
+pub contact-within : (xs : Content) (t : ℕ) (row : ContactRow) (c : Contact) (d : Due) → contact_of xs row ≡ Some c → contact_due t (row.name, c) ≡ Some d → contact_table.contact_within_due (pos t) row ≡ true
 contact-within xs t row c d reads due =
     let moment = some-due kinds.Contact row.name (option_and_then (passed t) (completes_at c.transfer)) d due in
     ap (is_due_by (pos t)) (sym (contact-row xs row c reads).due) ∙ column-within t moment.0 c.transfer moment.1
 
-contact-asked : (xs : Content) (t : ℕ) (row : contact_table.Contact) (c : Contact) (d : Due) → Has xs.contacts row → contact_of xs row ≡ Some c → contact_due t (row.name, c) ≡ Some d
+contact-asked : (xs : Content) (t : ℕ) (row : ContactRow) (c : Contact) (d : Due) → Has xs.contacts row → contact_of xs row ≡ Some c → contact_due t (row.name, c) ≡ Some d
     → Has (spec.contacts_until t xs) row
 contact-asked xs t row c d there reads due =
     sorted-has (by_then_key contact_table.contacts contact_table.by_due) (filter (contact_table.contact_within_due (pos t)) xs.contacts) row
@@ -156,7 +157,7 @@ contact-asked xs t row c d there reads due =
 
 pub contacts-found : (xs : Content) (t : ℕ) (found : List Due) → IsConsistent xs → spec.with_rows (spec.contact_in t xs) [] (spec.contacts_until t xs) ≡ Some found → found ≡ found_due (contact_due t) [] (entries (contacts_of xs))
 contacts-found xs t found consistent e =
-    found-of_rows (λ (r : contact_table.Contact). r.name) (λ (c : Contact). c.name) (contact_of xs) (contact_due t) xs.contacts (spec.contacts_until t xs) (contacts_of xs)
+    found-of_rows (λ (r : ContactRow). r.name) (λ (c : Contact). c.name) (contact_of xs) (contact_due t) xs.contacts (spec.contacts_until t xs) (contacts_of xs)
     (λ row c reads. (contact-row xs row c reads).name)
     (λ row c there reads. contact-stands xs row c consistent there reads)
     (contact-under xs)
@@ -194,7 +195,7 @@ column-is : (n m : ℕ) → n < 7_258_118_399 → int_eq (pos n) (pos (capped m)
 column-is n m before e = grind (arith, ints, e)
 
 -- where it isn't the last moment it is when the domain is due
-pub due-by-column : (p : PolicyRules) (t : ℕ) (xs : Content) (row : domain_table.Domain) (n : ℕ) → row.due ≡ pos n → n < 7_258_118_399 → is_due_right p.days xs row ≡ true
+pub due-by-column : (p : PolicyRules) (t : ℕ) (xs : Content) (row : DomainRow) (n : ℕ) → row.due ≡ pos n → n < 7_258_118_399 → is_due_right p.days xs row ≡ true
     → spec.domain_in p t xs row ≡ Some (due_then kinds.Domain row.name (passed t n))
 due-by-column p t xs row n column before right = go (domain_of xs row) refl
   where
@@ -206,29 +207,29 @@ due-by-column p t xs row n column before right = go (domain_of xs row) refl
         let due : due_at p d ≡ n = sym (same-due p d) ∙ column-is n (due_at (rules_with p.days) d) before is in
         λ i. Some (due_then kinds.Domain (name-read xs row d reads i) (passed t (due i)))
 
-pub until-there : (xs : Content) (t : ℕ) (row : domain_table.Domain) → Has (spec.domains_until t xs) row → Has xs.domains row
+pub until-there : (xs : Content) (t : ℕ) (row : DomainRow) → Has (spec.domains_until t xs) row → Has xs.domains row
 until-there xs t row there =
-    (has-filter (inner_domain_table.domain_within_due (pos t)) xs.domains row (has-sorted (by_then_key inner_domain_table.domains inner_domain_table.by_due) (filter (inner_domain_table.domain_within_due (pos t)) xs.domains) row there)).0
+    (has-filter (domain_table.domain_within_due (pos t)) xs.domains row (has-sorted (by_then_key domain_table.domains domain_table.by_due) (filter (domain_table.domain_within_due (pos t)) xs.domains) row there)).0
 
 module _ (xs : Content) (p : PolicyRules) (t : ℕ) (consistent : IsConsistent xs) (days : days_of xs ≡ Some p.days) (right : dues_are_right xs ≡ true) where
-  row-right : (row : domain_table.Domain) → Has xs.domains row → is_due_right p.days xs row ≡ true
+  row-right : (row : DomainRow) → Has xs.domains row → is_due_right p.days xs row ≡ true
   row-right row there = each-passes (is_due_right p.days xs) xs.domains (all-under p.days xs days right) row there
 
   -- a domain that is due has a row that may be
-  pub domain-within : (row : domain_table.Domain) (d : Domain) (it : Due) → Has xs.domains row → domain_of xs row ≡ Some d → domain_due p t (row.name, d) ≡ Some it → inner_domain_table.domain_within_due (pos t) row ≡ true
+  pub domain-within : (row : DomainRow) (d : Domain) (it : Due) → Has xs.domains row → domain_of xs row ≡ Some d → domain_due p t (row.name, d) ≡ Some it → domain_table.domain_within_due (pos t) row ≡ true
   domain-within row d it there reads due =
       let moment = some-due kinds.Domain row.name (passed t (due_at p d)) it due in
       let column : int_le row.due (pos (due_at (rules_with p.days) d)) ≡ true = column-comes row.due (due_at (rules_with p.days) d) (sym (ap (λ o. option_map_or (λ x. int_eq row.due (pos (capped (due_at (rules_with p.days) x)))) o false) reads) ∙ row-right row there) in
       no-later row.due (pos (due_at p d)) (pos t) (ap (λ m. int_le row.due (pos m)) (sym (same-due p d)) ∙ column) (has-come t (due_at p d) moment.0 moment.1)
 
-  domain-asked : (row : domain_table.Domain) (d : Domain) (it : Due) → Has xs.domains row → domain_of xs row ≡ Some d → domain_due p t (row.name, d) ≡ Some it → Has (spec.domains_until t xs) row
+  domain-asked : (row : DomainRow) (d : Domain) (it : Due) → Has xs.domains row → domain_of xs row ≡ Some d → domain_due p t (row.name, d) ≡ Some it → Has (spec.domains_until t xs) row
   domain-asked row d it there reads due =
-      sorted-has (by_then_key inner_domain_table.domains inner_domain_table.by_due) (filter (inner_domain_table.domain_within_due (pos t)) xs.domains) row
-      (filter-has (inner_domain_table.domain_within_due (pos t)) xs.domains row there (domain-within row d it there reads due))
+      sorted-has (by_then_key domain_table.domains domain_table.by_due) (filter (domain_table.domain_within_due (pos t)) xs.domains) row
+      (filter-has (domain_table.domain_within_due (pos t)) xs.domains row there (domain-within row d it there reads due))
 
   domains-found : (found all : List Due) → InOrder found → spec.with_rows (spec.domain_in p t xs) found (spec.domains_until t xs) ≡ Some all → all ≡ found_due (domain_due p t) found (entries (domains_of xs))
   domains-found found all rise e =
-      found-of_rows (λ (r : domain_table.Domain). r.name) (λ (d : Domain). d.name) (domain_of xs) (domain_due p t) xs.domains (spec.domains_until t xs) (domains_of xs)
+      found-of_rows (λ (r : DomainRow). r.name) (λ (d : Domain). d.name) (domain_of xs) (domain_due p t) xs.domains (spec.domains_until t xs) (domains_of xs)
       (name-read xs)
       (λ row d there reads. stands-there xs row d consistent there reads)
       (row-under xs)

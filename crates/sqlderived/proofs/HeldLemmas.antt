@@ -9,19 +9,20 @@ use Rattle.sqlaccounts.specs.Accounts.{row_of}
 use Rattle.sqlderived.specs.Held.{has_right_held, held_of, helds_are_right, is_held_right}
 use Rattle.sqlderived.proofs.NobodyLemmas.{holds-none}
 use Rattle.sqltables.specs.Account as table
+use Rattle.sqltables.specs.declared.account.AccountRow.{AccountRow}
 use Rattle.sqltables.specs.Content.{Content}
 use Rattle.sqltables.specs.inner.Consistent.{IsConsistent}
 
-abbrev key : table.Account → ℤ
+abbrev key : AccountRow → ℤ
 key = table.accounts.key
 
 -- the row of a place
-at_place : (xs : Content) (r : ℕ) (row : table.Account) → is_place r ≡ true → row.id ≡ pos r → is_held_right xs row ≡ int_eq row.held (pos (held_of xs r))
+at_place : (xs : Content) (r : ℕ) (row : AccountRow) → is_place r ≡ true → row.id ≡ pos r → is_held_right xs row ≡ int_eq row.held (pos (held_of xs r))
 at_place xs r row place at =
     ap (λ id. option_map_or (λ q. int_eq row.held (pos (held_of xs q))) (registrar_in id) true) at
     ∙ ap (λ b. option_map_or (λ q. int_eq row.held (pos (held_of xs q))) (cond b (Some r) None) true) place
 
-pub held-found : (xs : Content) (r : ℕ) (row : table.Account) → is_place r ≡ true → Some row ≡ row_of xs (pos r) → helds_are_right xs ≡ true → row.held ≡ pos (held_of xs r)
+pub held-found : (xs : Content) (r : ℕ) (row : AccountRow) → is_place r ≡ true → Some row ≡ row_of xs (pos r) → helds_are_right xs ≡ true → row.held ≡ pos (held_of xs r)
 held-found xs r row place found right =
     let mine : has_right_held xs (pos r) ≡ true = (and_parts _ _ (all_with key (has_right_held xs) xs.accounts (pos r) row (sym found) ∙ right)).0 in
     let at : row.id ≡ pos r = key-get_by key xs.accounts (pos r) row (sym found) in
@@ -32,8 +33,8 @@ exact-is n m true e = sym (ap (λ o. unwrap_or o n) e)
 exact-is n m false e = cc
 
 -- what the row says, if there is one
-pub count-found : (xs : Content) (r : ℕ) (row : Option table.Account) (n : ℕ) → IsConsistent xs → is_place r ≡ true → row ≡ row_of xs (pos r) → helds_are_right xs ≡ true
-    → exact_in (option_map_or (λ (a : table.Account). a.held) row (pos 0)) ≡ Some n → n ≡ held_of xs r
+pub count-found : (xs : Content) (r : ℕ) (row : Option AccountRow) (n : ℕ) → IsConsistent xs → is_place r ≡ true → row ≡ row_of xs (pos r) → helds_are_right xs ≡ true
+    → exact_in (option_map_or (λ (a : AccountRow). a.held) row (pos 0)) ≡ Some n → n ≡ held_of xs r
 count-found xs r None n consistent place found right e = exact-is n 0 (is_exact 0) e ∙ sym (holds-none xs r consistent (sym found))
 count-found xs r (Some row) n consistent place found right e =
     exact-is n (held_of xs r) (is_exact (held_of xs r)) (sym (ap exact_in (held-found xs r row place found right)) ∙ e)

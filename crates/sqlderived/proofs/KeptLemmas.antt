@@ -21,23 +21,24 @@ use Rattle.sqlderived.specs.Held.{counts_where, has_right_held, held_of, helds_a
 use Rattle.sqlderived.specs.inner.Recounts.{AreAlike, AreCounted, IsRecounted}
 use Rattle.sqlderived.proofs.CountLemmas.{count, count-put}
 use Rattle.sqltables.specs.Account as table
+use Rattle.sqltables.specs.declared.account.AccountRow.{AccountRow}
 use Rattle.sqlderived.proofs.NobodyLemmas.{holds-none}
 use Rattle.sqltables.specs.Content.{Content}
 use Rattle.sqltables.specs.inner.Consistent.{IsConsistent}
 
-abbrev key : table.Account → ℤ
+abbrev key : AccountRow → ℤ
 key = table.accounts.key
 
 -- ---- all are right where that of each number is
 
-all-true : (test : ℤ → Bool) (rows : List table.Account) → ((id : ℤ) → test id ≡ true) → list_all (λ (row : table.Account). test row.id) rows ≡ true
+all-true : (test : ℤ → Bool) (rows : List AccountRow) → ((id : ℤ) → test id ≡ true) → list_all (λ (row : AccountRow). test row.id) rows ≡ true
 all-true test [] each = refl
-all-true test (row ∷ rows) each = ap (λ b. b && list_all (λ (x : table.Account). test x.id) rows) (each row.id) ∙ all-true test rows each
+all-true test (row ∷ rows) each = ap (λ b. b && list_all (λ (x : AccountRow). test x.id) rows) (each row.id) ∙ all-true test rows each
 
 each-right : (xs : Content) → helds_are_right xs ≡ true → (id : ℤ) → has_right_held xs id ≡ true
 each-right xs right id = go (row_of xs id) refl
   where
-    go : (o : Option table.Account) → row_of xs id ≡ o → has_right_held xs id ≡ true
+    go : (o : Option AccountRow) → row_of xs id ≡ o → has_right_held xs id ≡ true
     go None e = ap (λ o. option_map_or (is_held_right xs) o true) e
     go (Some row) e = (and_parts _ _ (all_with key (has_right_held xs) xs.accounts id row e ∙ right)).0
 
@@ -68,23 +69,23 @@ same-right a b x y l m e f =
     (λ is. equal b (pos y) (there a b x y l m e f (same_int a (pos x) is)))
 
 -- a row's column, by its number
-right-at : (xs : Content) (id : ℤ) (row : table.Account) → row_of xs id ≡ Some row → is_held_right xs row ≡ option_map_or (λ r. int_eq row.held (pos (held_of xs r))) (registrar_in id) true
+right-at : (xs : Content) (id : ℤ) (row : AccountRow) → row_of xs id ≡ Some row → is_held_right xs row ≡ option_map_or (λ r. int_eq row.held (pos (held_of xs r))) (registrar_in id) true
 right-at xs id row e = ap (λ k. option_map_or (λ r. int_eq row.held (pos (held_of xs r))) (registrar_in k) true) (key-get_by key xs.accounts id row e)
 
 module _ (xs ys : Content) (l m : ℕ → ℕ) (domains : (r : ℕ) → held_of ys r + l r ≡ held_of xs r + m r) where
-  at-place : (r : ℕ) (a b : table.Account) (p : Bool) → b.held +ℤ pos (l r) ≡ a.held +ℤ pos (m r)
+  at-place : (r : ℕ) (a b : AccountRow) (p : Bool) → b.held +ℤ pos (l r) ≡ a.held +ℤ pos (m r)
       → option_map_or (λ q. int_eq b.held (pos (held_of ys q))) (cond p (Some r) None) true ≡ option_map_or (λ q. int_eq a.held (pos (held_of xs q))) (cond p (Some r) None) true
   at-place r a b true e = same-right a.held b.held (held_of xs r) (held_of ys r) (l r) (m r) e (domains r)
   at-place r a b false e = refl
 
-  place-right : (r : ℕ) (o n : Option table.Account) → row_of xs (pos r) ≡ o → row_of ys (pos r) ≡ n → AreCounted (l r) (m r) o n
+  place-right : (r : ℕ) (o n : Option AccountRow) → row_of xs (pos r) ≡ o → row_of ys (pos r) ≡ n → AreCounted (l r) (m r) o n
       → option_map_or (is_held_right ys) n true ≡ option_map_or (is_held_right xs) o true
   place-right r None None e f it = refl
   place-right r None (Some b) e f it = absurd it
   place-right r (Some a) None e f it = absurd it
   place-right r (Some a) (Some b) e f it = right-at ys (pos r) b f ∙ at-place r a b (is_place r) it.held ∙ sym (right-at xs (pos r) a e)
 
-  other-right : (n : ℕ) (o p : Option table.Account) → row_of xs (negsuc n) ≡ o → row_of ys (negsuc n) ≡ p → AreAlike o p
+  other-right : (n : ℕ) (o p : Option AccountRow) → row_of xs (negsuc n) ≡ o → row_of ys (negsuc n) ≡ p → AreAlike o p
       → option_map_or (is_held_right ys) p true ≡ option_map_or (is_held_right xs) o true
   other-right n None None e f it = refl
   other-right n None (Some b) e f it = absurd it
@@ -122,15 +123,15 @@ held-kept old mid new before after name counted was is accounts =
 
 -- ---- other changes
 
-abbrev column : Option table.Account → Option ℤ
-column o = option_map (λ (row : table.Account). row.held) o
+abbrev column : Option AccountRow → Option ℤ
+column o = option_map (λ (row : AccountRow). row.held) o
 
 -- the domains are the same, and the columns of each number
 module _ (xs ys : Content) (domains : domains_of ys ≡ domains_of xs) where
   same-held : (r : ℕ) → held_of ys r ≡ held_of xs r
   same-held r = ap (λ m. count (is_held_by r) (values m)) domains
 
-  column-right : (id : ℤ) (o n : Option table.Account) → row_of xs id ≡ o → row_of ys id ≡ n → column n ≡ column o → option_map_or (is_held_right ys) n true ≡ option_map_or (is_held_right xs) o true
+  column-right : (id : ℤ) (o n : Option AccountRow) → row_of xs id ≡ o → row_of ys id ≡ n → column n ≡ column o → option_map_or (is_held_right ys) n true ≡ option_map_or (is_held_right xs) o true
   column-right id None None e f same = refl
   column-right id None (Some b) e f same = cc
   column-right id (Some a) None e f same = cc
@@ -150,7 +151,7 @@ domains-kept old new it = λ i. domains_of (record new { contacts = it.contacts 
 pub change-kept : (r : ℕ) (f : Account → Account) (old new : Content) → IsChange r f old new → helds_are_right new ≡ helds_are_right old
 change-kept r f old new it = columns-kept old new (domains-kept old new it.others) (λ id. held-of (row_of old id) (row_of new id) (it.idents_and_held id))
   where
-    held-of : (o n : Option table.Account) → option_map ident_and_held n ≡ option_map ident_and_held o → column n ≡ column o
+    held-of : (o n : Option AccountRow) → option_map ident_and_held n ≡ option_map ident_and_held o → column n ≡ column o
     held-of None None e = refl
     held-of None (Some b) e = cc
     held-of (Some a) None e = cc
@@ -165,7 +166,7 @@ module _ (old new : Content) (r : ℕ) (consistent : IsConsistent old) (it : IsO
   own-right true none = equal (pos 0) (pos (held_of new r)) (ap pos (sym (opened-held ∙ holds-none old r consistent none)))
   own-right false none = refl
 
-  opened-own : (o : Option table.Account) → row_of old (pos r) ≡ o → has_right_held new (pos r) ≡ option_map_or (is_held_right old) o true
+  opened-own : (o : Option AccountRow) → row_of old (pos r) ≡ o → has_right_held new (pos r) ≡ option_map_or (is_held_right old) o true
   opened-own None e =
       let mine : row_of new (pos r) ≡ Some (opened_row r) = it.own ∙ ap (λ o. Some (unwrap_or o (opened_row r))) e in
       ap (λ o. option_map_or (is_held_right new) o true) mine ∙ own-right (is_place r) e

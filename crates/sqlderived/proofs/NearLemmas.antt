@@ -41,13 +41,17 @@ use Rattle.states.specs.declared.fault.BookFault.{BookFault}
 use Rattle.states.specs.States.{FindsSome, Reads, StateOf}
 use Rattle.sqlrows.proofs.StateLemmas.{reads-on, stays-on}
 use Rattle.sqltables.specs.Contact as contact_table
+use Rattle.sqltables.specs.declared.contact.ContactRow.{ContactRow}
 use Rattle.sqltables.specs.Content.{Content}
 use Rattle.sqltables.specs.Domain as domain_table
-use Rattle.sqltables.specs.inner.Domain as inner_domain_table
+use Rattle.sqltables.specs.declared.domain.DomainRow.{DomainRow}
 use Rattle.sqltables.specs.inner.Due.{falls_due, is_due_by}
 use Rattle.sqltables.specs.Host as host_table
+use Rattle.sqltables.specs.declared.host.HostRow.{HostRow}
 use Rattle.sqltables.specs.Link as link_table
+use Rattle.sqltables.specs.declared.link.LinkRow.{LinkRow}
 use Rattle.sqltables.specs.Transfer as transfer_table
+use Rattle.sqltables.specs.declared.transfer.TransferRow.{TransferRow}
 use Rattle.sqltables.specs.inner.Consistent.{IsConsistent}
 use Rattle.sqltables.proofs.RowLemmas.{bytes_same}
 use Rattle.sqlobjects.specs.Objects.{contact_of, contacts_of, last_transfer}
@@ -101,34 +105,34 @@ module _ {A R : Type 0} (gives : A → List R) where
 -- ---- each row that is found is there
 
 module _ (xs : Content) where
-  contact-numbered-in : (id : Option ℤ) (row : contact_table.Contact) → Has (contact_numbered xs id) row → Has xs.contacts row
+  contact-numbered-in : (id : Option ℤ) (row : ContactRow) → Has (contact_numbered xs id) row → Has xs.contacts row
   contact-numbered-in None row there = absurd there
   contact-numbered-in (Some id) row there = in-filter (contact_table.contact_with_id id) xs.contacts row there
 
-  domain-numbered-in : (id : Option ℤ) (row : domain_table.Domain) → Has (domain_numbered xs id) row → Has xs.domains row
+  domain-numbered-in : (id : Option ℤ) (row : DomainRow) → Has (domain_numbered xs id) row → Has xs.domains row
   domain-numbered-in None row there = absurd there
-  domain-numbered-in (Some id) row there = in-filter (inner_domain_table.domain_with_id id) xs.domains row there
+  domain-numbered-in (Some id) row there = in-filter (domain_table.domain_with_id id) xs.domains row there
 
-  contact-sponsored-in : (r : Option ℕ) (t : ℕ) (row : contact_table.Contact) → Has (contacts_sponsored r t xs) row → Has xs.contacts row
+  contact-sponsored-in : (r : Option ℕ) (t : ℕ) (row : ContactRow) → Has (contacts_sponsored r t xs) row → Has xs.contacts row
   contact-sponsored-in None t row there = absurd there
   contact-sponsored-in (Some r) t row there = in-filter (contact_table.contact_of_sponsor_within (registrar_column r) (pos t)) xs.contacts row there
 
-  domain-sponsored-in : (r : Option ℕ) (t : ℕ) (row : domain_table.Domain) → Has (domains_sponsored r t xs) row → Has xs.domains row
+  domain-sponsored-in : (r : Option ℕ) (t : ℕ) (row : DomainRow) → Has (domains_sponsored r t xs) row → Has xs.domains row
   domain-sponsored-in None t row there = absurd there
-  domain-sponsored-in (Some r) t row there = in-filter (inner_domain_table.domain_of_sponsor_within (registrar_column r) (pos t)) xs.domains row there
+  domain-sponsored-in (Some r) t row there = in-filter (domain_table.domain_of_sponsor_within (registrar_column r) (pos t)) xs.domains row there
 
-  of-link-in : (links : List link_table.Link) (row : domain_table.Domain) → Has (each_of (domain_of_link xs) links) row → Has xs.domains row
-  of-link-in links row there = each-in (domain_of_link xs) xs.domains (λ l r h. in-filter (inner_domain_table.domain_with_id l.domain) xs.domains r h) links row there
+  of-link-in : (links : List LinkRow) (row : DomainRow) → Has (each_of (domain_of_link xs) links) row → Has xs.domains row
+  of-link-in links row there = each-in (domain_of_link xs) xs.domains (λ l r h. in-filter (domain_table.domain_with_id l.domain) xs.domains r h) links row there
 
-  to-contact-in : (t : ℕ) (c : contact_table.Contact) (row : domain_table.Domain) → Has (domains_to_contact t xs c) row → Has xs.domains row
+  to-contact-in : (t : ℕ) (c : ContactRow) (row : DomainRow) → Has (domains_to_contact t xs c) row → Has xs.domains row
   to-contact-in t c row there =
-      ⊎_elim (in-filter (inner_domain_table.domain_of_registrant_within c.id (pos t)) xs.domains row) (of-link-in (filter (link_table.link_of_contact_within c.id (pos t)) xs.links) row)
-      (append-from (filter (inner_domain_table.domain_of_registrant_within c.id (pos t)) xs.domains) (each_of (domain_of_link xs) (filter (link_table.link_of_contact_within c.id (pos t)) xs.links)) row there)
+      ⊎_elim (in-filter (domain_table.domain_of_registrant_within c.id (pos t)) xs.domains row) (of-link-in (filter (link_table.link_of_contact_within c.id (pos t)) xs.links) row)
+      (append-from (filter (domain_table.domain_of_registrant_within c.id (pos t)) xs.domains) (each_of (domain_of_link xs) (filter (link_table.link_of_contact_within c.id (pos t)) xs.links)) row there)
 
-  to-host-in : (t : ℕ) (h : host_table.Host) (row : domain_table.Domain) → Has (domains_to_host t xs h) row → Has xs.domains row
+  to-host-in : (t : ℕ) (h : HostRow) (row : DomainRow) → Has (domains_to_host t xs h) row → Has xs.domains row
   to-host-in t h row there = of-link-in (filter (link_table.link_of_host_within h.id (pos t)) xs.links) row there
 
-  pub contact-there : (r : Option ℕ) (g : Names) (t : ℕ) (row : contact_table.Contact) → Has (contacts_near r g t xs) row → Has xs.contacts row
+  pub contact-there : (r : Option ℕ) (g : Names) (t : ℕ) (row : ContactRow) → Has (contacts_near r g t xs) row → Has xs.contacts row
   contact-there r g t row there =
       ⊎_elim (contact-sponsored-in r t row) (λ rest.
       ⊎_elim
@@ -137,17 +141,17 @@ module _ (xs : Content) where
       (append-from (each_of (contact_of_transfer xs) (pending_of r xs)) (each_of (contacts_named xs) g.contacts) row rest))
       (append-from (contacts_sponsored r t xs) (each_of (contact_of_transfer xs) (pending_of r xs) ++ each_of (contacts_named xs) g.contacts) row there)
 
-  by-names-in : (g : Names) (t : ℕ) (row : domain_table.Domain) → Has (domains_by_names g t xs) row → Has xs.domains row
+  by-names-in : (g : Names) (t : ℕ) (row : DomainRow) → Has (domains_by_names g t xs) row → Has xs.domains row
   by-names-in g t row there =
       ⊎_elim
-      (each-in (domains_alike xs) xs.domains (λ a d h. in-filter (inner_domain_table.domain_with_roid a.creator a.serial) xs.domains d h) (each_of (domains_named xs) g.domains) row) (λ rest.
+      (each-in (domains_alike xs) xs.domains (λ a d h. in-filter (domain_table.domain_with_roid a.creator a.serial) xs.domains d h) (each_of (domains_named xs) g.domains) row) (λ rest.
       ⊎_elim
       (each-in (domains_to_contacts t xs) xs.domains (λ n d h. each-in (domains_to_contact t xs) xs.domains (to-contact-in t) (contacts_named xs n) d h) g.contacts row)
       (each-in (domains_to_hosts t xs) xs.domains (λ n d h. each-in (domains_to_host t xs) xs.domains (to-host-in t) (hosts_named xs n) d h) g.hosts row)
       (append-from (each_of (domains_to_contacts t xs) g.contacts) (each_of (domains_to_hosts t xs) g.hosts) row rest))
       (append-from (each_of (domains_alike xs) (each_of (domains_named xs) g.domains)) (each_of (domains_to_contacts t xs) g.contacts ++ each_of (domains_to_hosts t xs) g.hosts) row there)
 
-  pub domain-there : (r : Option ℕ) (g : Names) (t : ℕ) (row : domain_table.Domain) → Has (domains_near r g t xs) row → Has xs.domains row
+  pub domain-there : (r : Option ℕ) (g : Names) (t : ℕ) (row : DomainRow) → Has (domains_near r g t xs) row → Has xs.domains row
   domain-there r g t row there =
       ⊎_elim (domain-sponsored-in r t row) (λ rest.
       ⊎_elim
@@ -206,11 +210,11 @@ contact-name-is xs k c e = let it = contact-under xs k c e in (contact-row xs it
 
 -- ---- pending transfers
 
-last-has : (rows : List transfer_table.Transfer) (x : Transfer) → last_transfer rows ≡ Some (Some x) → (row : transfer_table.Transfer) × Has rows row × (transfer_in row ≡ Some x)
+last-has : (rows : List TransferRow) (x : Transfer) → last_transfer rows ≡ Some (Some x) → (row : TransferRow) × Has rows row × (transfer_in row ≡ Some x)
 last-has [] x e = cc
 last-has (row ∷ []) x e = go (transfer_in row) refl e
   where
-    go : (o : Option Transfer) → transfer_in row ≡ o → option_map Some o ≡ Some (Some x) → (r : transfer_table.Transfer) × Has (row ∷ []) r × (transfer_in r ≡ Some x)
+    go : (o : Option Transfer) → transfer_in row ≡ o → option_map Some o ≡ Some (Some x) → (r : TransferRow) × Has (row ∷ []) r × (transfer_in r ≡ Some x)
     go None is f = cc
     go (Some y) is f = (row, inl refl, is ∙ same_some (Some y) (Some x) f)
 last-has (row ∷ next ∷ rows) x e = cc
@@ -220,7 +224,7 @@ points-is None id e = cc
 points-is (Some a) id e = ap Some (same_int a id e)
 
 -- the row of a pending transfer that is about a registrar is found by it
-pending-has : (xs : Content) (r : ℕ) (x : Transfer) (row : transfer_table.Transfer) → Has xs.transfers row → transfer_in row ≡ Some x → (is_pending_state x.state && names r x) ≡ true → Has (pending_of (Some r) xs) row
+pending-has : (xs : Content) (r : ℕ) (x : Transfer) (row : TransferRow) → Has xs.transfers row → transfer_in row ≡ Some x → (is_pending_state x.state && names r x) ≡ true → Has (pending_of (Some r) xs) row
 pending-has xs r x row there reads at = go (is_pending_state x.state) refl at
   where
     written : transfer_row row.id row.contact row.domain x ≡ row
@@ -229,14 +233,14 @@ pending-has xs r x row there reads at = go (is_pending_state x.state) refl at
     go : (b : Bool) → is_pending_state x.state ≡ b → (b && names r x) ≡ true → Has (pending_of (Some r) xs) row
     go false is e = cc
     go true is e =
-        let due : falls_due row.due ≡ true = sym (ap (λ (z : transfer_table.Transfer). falls_due z.due) written) ∙ ap (λ b. falls_due (cond b (Some (pos x.ac_date)) None)) is ∙ never-before x.ac_date in
+        let due : falls_due row.due ≡ true = sym (ap (λ (z : TransferRow). falls_due z.due) written) ∙ ap (λ b. falls_due (cond b (Some (pos x.ac_date)) None)) is ∙ never-before x.ac_date in
         ⊎_elim
         (λ asked. has-left (filter (transfer_table.transfer_pending_by (registrar_column r)) xs.transfers) (filter (transfer_table.transfer_pending_from (registrar_column r)) xs.transfers) row
         (filter-has (transfer_table.transfer_pending_by (registrar_column r)) xs.transfers row there
-        (and_from (int_eq row.requester (registrar_column r)) (falls_due row.due) (equal row.requester (registrar_column r) (sym (ap (λ (z : transfer_table.Transfer). z.requester) written) ∙ ap registrar_column (eqb-true x.requester r asked))) due)))
+        (and_from (int_eq row.requester (registrar_column r)) (falls_due row.due) (equal row.requester (registrar_column r) (sym (ap (λ (z : TransferRow). z.requester) written) ∙ ap registrar_column (eqb-true x.requester r asked))) due)))
         (λ lost. has-right (filter (transfer_table.transfer_pending_by (registrar_column r)) xs.transfers) (filter (transfer_table.transfer_pending_from (registrar_column r)) xs.transfers) row
         (filter-has (transfer_table.transfer_pending_from (registrar_column r)) xs.transfers row there
-        (and_from (int_eq row.losing (registrar_column r)) (falls_due row.due) (equal row.losing (registrar_column r) (sym (ap (λ (z : transfer_table.Transfer). z.losing) written) ∙ ap registrar_column (eqb-true x.losing_registrar r lost))) due)))
+        (and_from (int_eq row.losing (registrar_column r)) (falls_due row.due) (equal row.losing (registrar_column r) (sym (ap (λ (z : TransferRow). z.losing) written) ∙ ap registrar_column (eqb-true x.losing_registrar r lost))) due)))
         (or_cases (x.requester == r) (x.losing_registrar == r) e)
 
 points : (to : Option ℤ) (id : ℤ) → to ≡ Some id → points_to to id ≡ true
@@ -244,11 +248,11 @@ points to id e = ap (λ o. points_to o id) e ∙ equal id id refl
 
 -- ---- a contact that is concerned
 
-record ContactParts (xs : Content) (row : contact_table.Contact) (c : Contact) : Type 0 where
+record ContactParts (xs : Content) (row : ContactRow) (c : Contact) : Type 0 where
   pub sponsor : row.sponsor ≡ registrar_column c.sponsor
   pub transfer : last_transfer (filter (transfer_table.transfer_with_contact row.id) xs.transfers) ≡ Some c.transfer
 
-contact-parts : (xs : Content) (row : contact_table.Contact) (c : Contact) → contact_of xs row ≡ Some c → ContactParts xs row c
+contact-parts : (xs : Content) (row : ContactRow) (c : Contact) → contact_of xs row ≡ Some c → ContactParts xs row c
 contact-parts xs row c e =
     let transfer = step (last_transfer (filter (transfer_table.transfer_with_contact row.id) xs.transfers)) (contact_in row) c e in
     let r = step (registration_in kinds.Contact (columns_of row)) _ c transfer.rest in
@@ -264,7 +268,7 @@ contact-parts xs row c e =
       transfer = transfer.is ∙ ap (λ (z : Contact). Some z.transfer) due.1;
     }
 
-module _ (xs : Content) (t : ℕ) (g : Names) (row : contact_table.Contact) (c : Contact) (there : Has xs.contacts row) (reads : contact_of xs row ≡ Some c) (within : contact_table.contact_within_due (pos t) row ≡ true) where
+module _ (xs : Content) (t : ℕ) (g : Names) (row : ContactRow) (c : Contact) (there : Has xs.contacts row) (reads : contact_of xs row ≡ Some c) (within : contact_table.contact_within_due (pos t) row ≡ true) where
   contact-later : (r : Option ℕ) → Has (each_of (contact_of_transfer xs) (pending_of r xs) ++ each_of (contacts_named xs) g.contacts) row → Has (contacts_near r g t xs) row
   contact-later r has = has-right (contacts_sponsored r t xs) (each_of (contact_of_transfer xs) (pending_of r xs) ++ each_of (contacts_named xs) g.contacts) row has
 
@@ -306,24 +310,24 @@ read-object : {X A : Type 0} (of_it : X → A) (o : Option X) (a : A) → option
 read-object of_it None a e = cc
 read-object of_it (Some x) a e = (x, refl, same_some (of_it x) a e)
 
-module _ (xs : Content) (row : domain_table.Domain) (d : Domain) (reads : domain_of xs row ≡ Some d) where
+module _ (xs : Content) (row : DomainRow) (d : Domain) (reads : domain_of xs row ≡ Some d) where
   creator-read : row.creator ≡ registrar_column d.roid.creator
   creator-read = sym (registrar_written row.creator d.roid.creator (roid_read kinds.Domain row.creator row.serial d.roid (parts xs row d reads).roid).creator_is)
 
   serial-read : row.serial ≡ counter_column d.roid.serial
   serial-read = sym (serial_written row.serial d.roid.serial (roid_read kinds.Domain row.creator row.serial d.roid (parts xs row d reads).roid).serial_is)
 
-module _ (xs : Content) (t : ℕ) (g : Names) (row : domain_table.Domain) (d : Domain) (there : Has xs.domains row) (reads : domain_of xs row ≡ Some d) (within : int_le row.due (pos t) ≡ true) where
-  abbrev alike : List domain_table.Domain
+module _ (xs : Content) (t : ℕ) (g : Names) (row : DomainRow) (d : Domain) (there : Has xs.domains row) (reads : domain_of xs row ≡ Some d) (within : int_le row.due (pos t) ≡ true) where
+  abbrev alike : List DomainRow
   alike = each_of (domains_alike xs) (each_of (domains_named xs) g.domains)
 
-  abbrev to_contacts : List domain_table.Domain
+  abbrev to_contacts : List DomainRow
   to_contacts = each_of (domains_to_contacts t xs) g.contacts
 
-  abbrev to_hosts : List domain_table.Domain
+  abbrev to_hosts : List DomainRow
   to_hosts = each_of (domains_to_hosts t xs) g.hosts
 
-  abbrev transferred : Option ℕ → List domain_table.Domain
+  abbrev transferred : Option ℕ → List DomainRow
   transferred r = each_of (domain_of_transfer xs) (pending_of r xs)
 
   domain-later : (r : Option ℕ) → Has (transferred r ++ domains_by_names g t xs) row → Has (domains_near r g t xs) row
@@ -333,12 +337,12 @@ module _ (xs : Content) (t : ℕ) (g : Names) (row : domain_table.Domain) (d : D
   domain-by-names r has = domain-later r (has-right (transferred r) (domains_by_names g t xs) row has)
 
   -- the same identifier as one that is named
-  domain-alike : (r : Option ℕ) (k : List ℕ) (other : domain_table.Domain) → Has g.domains k → Has xs.domains other → other.name ≡ k → row.creator ≡ other.creator → row.serial ≡ other.serial → Has (domains_near r g t xs) row
+  domain-alike : (r : Option ℕ) (k : List ℕ) (other : DomainRow) → Has g.domains k → Has xs.domains other → other.name ≡ k → row.creator ≡ other.creator → row.serial ≡ other.serial → Has (domains_near r g t xs) row
   domain-alike r k other has other_there named creator serial =
       domain-by-names r (has-left alike (to_contacts ++ to_hosts) row
       (each-has (domains_alike xs) (each_of (domains_named xs) g.domains) other row
       (each-has (domains_named xs) g.domains k other has (filter-has (domain_table.domain_with_name k) xs.domains other other_there (bytes_same other.name k named)))
-      (filter-has (inner_domain_table.domain_with_roid other.creator other.serial) xs.domains row there
+      (filter-has (domain_table.domain_with_roid other.creator other.serial) xs.domains row there
       (and_from (int_eq row.creator other.creator) (int_eq row.serial other.serial) (equal row.creator other.creator creator) (equal row.serial other.serial serial)))))
 
   domain-by-name : (r : Option ℕ) → Has g.domains row.name → Has (domains_near r g t xs) row
@@ -354,19 +358,19 @@ module _ (xs : Content) (t : ℕ) (g : Names) (row : domain_table.Domain) (d : D
       (creator-read xs row d reads ∙ ap (λ (x : Roid). registrar_column x.creator) same ∙ sym (creator-read xs other.0 object.0 other.2))
       (serial-read xs row d reads ∙ ap (λ (x : Roid). counter_column x.serial) same ∙ sym (serial-read xs other.0 object.0 other.2))
 
-  at-link : (l : link_table.Link) (links : List link_table.Link) → Has links l → l.domain ≡ row.id → Has (each_of (domain_of_link xs) links) row
-  at-link l links has domain = each-has (domain_of_link xs) links l row has (filter-has (inner_domain_table.domain_with_id l.domain) xs.domains row there (equal row.id l.domain (sym domain)))
+  at-link : (l : LinkRow) (links : List LinkRow) → Has links l → l.domain ≡ row.id → Has (each_of (domain_of_link xs) links) row
+  at-link l links has domain = each-has (domain_of_link xs) links l row has (filter-has (domain_table.domain_with_id l.domain) xs.domains row there (equal row.id l.domain (sym domain)))
 
-  dated : (l : link_table.Link) → l.due ≡ row.due → int_le l.due (pos t) ≡ true
+  dated : (l : LinkRow) → l.due ≡ row.due → int_le l.due (pos t) ≡ true
   dated l due = ap (λ z. int_le z (pos t)) due ∙ within
 
-  to-contact : (contact : contact_table.Contact) → (row.registrant ≡ contact.id) ⊎ LinksContact xs row contact.id → Has (domains_to_contact t xs contact) row
+  to-contact : (contact : ContactRow) → (row.registrant ≡ contact.id) ⊎ LinksContact xs row contact.id → Has (domains_to_contact t xs contact) row
   to-contact contact way =
-      let registered = filter (inner_domain_table.domain_of_registrant_within contact.id (pos t)) xs.domains in
+      let registered = filter (domain_table.domain_of_registrant_within contact.id (pos t)) xs.domains in
       let links = filter (link_table.link_of_contact_within contact.id (pos t)) xs.links in
       ⊎_elim
       (λ same. has-left registered (each_of (domain_of_link xs) links) row
-      (filter-has (inner_domain_table.domain_of_registrant_within contact.id (pos t)) xs.domains row there (and_from (int_eq row.registrant contact.id) (int_le row.due (pos t)) (equal row.registrant contact.id same) within)))
+      (filter-has (domain_table.domain_of_registrant_within contact.id (pos t)) xs.domains row there (and_from (int_eq row.registrant contact.id) (int_le row.due (pos t)) (equal row.registrant contact.id same) within)))
       (λ (it : LinksContact xs row contact.id). has-right registered (each_of (domain_of_link xs) links) row
       (at-link it.link links
       (filter-has (link_table.link_of_contact_within contact.id (pos t)) xs.links it.link it.there (and_from (points_to it.link.contact contact.id) (int_le it.link.due (pos t)) (points it.link.contact contact.id it.contact) (dated it.link it.due)))
@@ -404,14 +408,14 @@ module _ (xs : Content) (t : ℕ) (g : Names) (row : domain_table.Domain) (d : D
       let found = has-filter (transfer_table.transfer_with_domain row.id) xs.transfers it.0 it.1 in
       domain-later (Some q) (has-left (transferred (Some q)) (domains_by_names g t xs) row
       (each-has (domain_of_transfer xs) (pending_of (Some q) xs) it.0 row (pending-has xs q x it.0 found.0 it.2 e)
-      (subst (λ o. Has (domain_numbered xs o) row) (sym (points-is it.0.domain row.id found.1)) (filter-has (inner_domain_table.domain_with_id row.id) xs.domains row there (equal row.id row.id refl)))))
+      (subst (λ o. Has (domain_numbered xs o) row) (sym (points-is it.0.domain row.id found.1)) (filter-has (domain_table.domain_with_id row.id) xs.domains row there (equal row.id row.id refl)))))
 
   domain-about : (r : Option ℕ) → is_about r d.sponsor d.transfer ≡ true → Has (domains_near r g t xs) row
   domain-about None e = cc
   domain-about (Some q) e =
       ⊎_elim
       (λ own. has-left (domains_sponsored (Some q) t xs) (transferred (Some q) ++ domains_by_names g t xs) row
-      (filter-has (inner_domain_table.domain_of_sponsor_within (registrar_column q) (pos t)) xs.domains row there
+      (filter-has (domain_table.domain_of_sponsor_within (registrar_column q) (pos t)) xs.domains row there
       (and_from (int_eq row.sponsor (registrar_column q)) (int_le row.due (pos t)) (equal row.sponsor (registrar_column q) (sponsor-read xs row d reads ∙ ap registrar_column (eqb-true d.sponsor q own))) within)))
       (domain-at-stake q d.transfer refl)
       (or_cases (d.sponsor == q) (is_at_stake q d.transfer) e)
@@ -454,7 +458,7 @@ module _ (xs : Content) (p : PolicyRules) (t : ℕ) (r : Option ℕ) (g : Names)
 
     contacts-forth : (d : Due) → Has contacts d → Has all_contacts d
     contacts-forth d has =
-        objects-found (λ (x : contact_table.Contact). x.name) (λ (c : Contact). c.name) (contact_of xs) (contact_due t) xs.contacts (contacts_asked r g t xs) (contacts_of xs)
+        objects-found (λ (x : ContactRow). x.name) (λ (c : Contact). c.name) (contact_of xs) (contact_due t) xs.contacts (contacts_asked r g t xs) (contacts_of xs)
         (λ row c reads. (contact-row xs row c reads).name)
         (λ row c there reads. contact-stands xs row c consistent there reads)
         (λ row has. contact-there xs r g t row (in-filter (contact_table.contact_within_due (pos t)) (contacts_near r g t xs) row has))
@@ -462,7 +466,7 @@ module _ (xs : Content) (p : PolicyRules) (t : ℕ) (r : Option ℕ) (g : Names)
 
     contacts-back : (d : Due) → pick d ≡ true → Has all_contacts d → Has contacts d
     contacts-back d picked has =
-        subst (λ l. Has l d) (sym contacts-are) (rows-found (λ (x : contact_table.Contact). x.name) (λ (c : Contact). c.name) (contact_of xs) (contact_due t) xs.contacts (contacts_asked r g t xs) (contacts_of xs) pick
+        subst (λ l. Has l d) (sym contacts-are) (rows-found (λ (x : ContactRow). x.name) (λ (c : Contact). c.name) (contact_of xs) (contact_due t) xs.contacts (contacts_asked r g t xs) (contacts_of xs) pick
         (λ row c reads. (contact-row xs row c reads).name)
         (contact-under xs)
         (λ row c due there reads is chosen.
@@ -478,18 +482,18 @@ module _ (xs : Content) (p : PolicyRules) (t : ℕ) (r : Option ℕ) (g : Names)
         (subst InOrder (sym are) (found-rises (λ row. shown (spec.domain_in p t xs row)) contacts (domains_asked r g t xs) (subst InOrder (sym contacts-are) (found-rises (λ row. shown (spec.contact_in t xs row)) [] (contacts_asked r g t xs) tt))))
         (found-rises (domain_due p t) all_contacts (entries (domains_of xs)) (found-rises (contact_due t) [] (entries (contacts_of xs)) tt))
         (λ d picked has.
-        objects-found (λ (x : domain_table.Domain). x.name) (λ (c : Domain). c.name) (domain_of xs) (domain_due p t) xs.domains (domains_asked r g t xs) (domains_of xs)
+        objects-found (λ (x : DomainRow). x.name) (λ (c : Domain). c.name) (domain_of xs) (domain_due p t) xs.domains (domains_asked r g t xs) (domains_of xs)
         (name-read xs)
         (λ row c there reads. stands-there xs row c consistent there reads)
-        (λ row has. domain-there xs r g t row (in-filter (inner_domain_table.domain_within_due (pos t)) (domains_near r g t xs) row has))
+        (λ row has. domain-there xs r g t row (in-filter (domain_table.domain_within_due (pos t)) (domains_near r g t xs) row has))
         contacts all_contacts contacts-forth d (subst (λ l. Has l d) are has))
         (λ d picked has.
-        subst (λ l. Has l d) (sym are) (rows-found (λ (x : domain_table.Domain). x.name) (λ (c : Domain). c.name) (domain_of xs) (domain_due p t) xs.domains (domains_asked r g t xs) (domains_of xs) pick
+        subst (λ l. Has l d) (sym are) (rows-found (λ (x : DomainRow). x.name) (λ (c : Domain). c.name) (domain_of xs) (domain_due p t) xs.domains (domains_asked r g t xs) (domains_of xs) pick
         (name-read xs)
         (row-under xs)
         (λ row c due there reads is chosen.
         let within = domain-within xs p t consistent days right row c due there reads is in
-        filter-has (inner_domain_table.domain_within_due (pos t)) (domains_near r g t xs) row (domain-near xs t g row c there reads within r consistent (picked-domain xs r g row.name _ due is chosen)) within)
+        filter-has (domain_table.domain_within_due (pos t)) (domains_near r g t xs) row (domain-near xs t g row c there reads within r consistent (picked-domain xs r g row.name _ due is chosen)) within)
         contacts all_contacts contacts-back d picked has))
 
 -- ---- nothing
@@ -509,7 +513,7 @@ nothing-due xs p t consistent days right still =
 
 -- ---- one call after another
 
-pub near-told : (s a b c d e : StateOf Content) (p : PolicyRules) (r : Option ℕ) (g : Names) (m : ℕ) (pending first second : List transfer_table.Transfer) (cfound crows : List contact_table.Contact) (contacts : List Due) (dfound drows : List domain_table.Domain) (all list : List Due)
+pub near-told : (s a b c d e : StateOf Content) (p : PolicyRules) (r : Option ℕ) (g : Names) (m : ℕ) (pending first second : List TransferRow) (cfound crows : List ContactRow) (contacts : List Due) (dfound drows : List DomainRow) (all list : List Due)
     → Reads s a × (a.is_clean ≡ true → pending ≡ pending_of r s.content)
     → first ≡ pending
     → Reads a b × (b.is_clean ≡ true → cfound ≡ contacts_found r first g m a.content)
@@ -517,7 +521,7 @@ pub near-told : (s a b c d e : StateOf Content) (p : PolicyRules) (r : Option �
     → Reads b c × (c.is_clean ≡ true → spec.with_rows (spec.contact_in m b.content) [] crows ≡ Some contacts)
     → second ≡ pending
     → Reads c d × (d.is_clean ≡ true → dfound ≡ domains_found r second g m c.content)
-    → drows ≡ filter (inner_domain_table.domain_within_due (pos m)) dfound
+    → drows ≡ filter (domain_table.domain_within_due (pos m)) dfound
     → Reads d e × (e.is_clean ≡ true → list_all (is_due_right p.days d.content) drows ≡ true → spec.with_rows (spec.domain_in p m d.content) contacts drows ≡ Some all)
     → list ≡ all
     → Reads s e × (e.is_clean ≡ true → list_all (is_due_right p.days s.content) s.content.domains ≡ true → IsFoundNear p r g m s.content list)
@@ -539,11 +543,11 @@ near-told s a b c d e p r g m pending first second cfound crows contacts dfound 
           let here : first ≡ pending_of r s.content = one ∙ pend in
           let there : second ≡ pending_of r s.content = two ∙ pend in
           let cs : crows ≡ contacts_asked r g m s.content = ckept ∙ ap (filter (contact_table.contact_within_due (pos m))) (cgot.1 at_b ∙ (λ i. contacts_found r (here i) g m (of_a i))) in
-          let ds : drows ≡ domains_asked r g m s.content = dkept ∙ ap (filter (inner_domain_table.domain_within_due (pos m))) (dgot.1 at_d ∙ (λ i. domains_found r (there i) g m (of_c i))) in
+          let ds : drows ≡ domains_asked r g m s.content = dkept ∙ ap (filter (domain_table.domain_within_due (pos m))) (dgot.1 at_d ∙ (λ i. domains_found r (there i) g m (of_c i))) in
           let asked_right : list_all (is_due_right p.days d.content) drows ≡ true =
           (λ i. list_all (is_due_right p.days (of_d i)) (ds i))
           ∙ some-right (is_due_right p.days s.content) s.content.domains (domains_asked r g m s.content)
-          (λ row has. domain-there s.content r g m row (in-filter (inner_domain_table.domain_within_due (pos m)) (domains_near r g m s.content) row has)) right in
+          (λ row has. domain-there s.content r g m row (in-filter (domain_table.domain_within_due (pos m)) (domains_near r g m s.content) row has)) right in
           record {
             contacts = contacts;
             first = sym (λ i. spec.with_rows (spec.contact_in m (of_b i)) [] (cs i)) ∙ cread.1 at_c;

@@ -21,10 +21,11 @@ use Rattle.sqldomains.proofs.LinkedLemmas.{none-passes}
 use Rattle.sqldomains.proofs.SponsorLemmas.{parts}
 use Rattle.sqlderived.specs.Held.{held_of, is_held_by}
 use Rattle.sqltables.specs.Account as account_table
+use Rattle.sqltables.specs.declared.account.AccountRow.{AccountRow}
 use Rattle.sqltables.specs.Content.{Content}
-use Rattle.sqltables.specs.Domain as table
-use Rattle.sqltables.specs.Transfer as transfer_table
+use Rattle.sqltables.specs.declared.domain.DomainRow.{DomainRow}
 use Rattle.sqltables.specs.Transfer.{transfer_with_domain}
+use Rattle.sqltables.specs.declared.transfer.TransferRow.{TransferRow}
 use Rattle.sqltables.specs.inner.Consistent.{IsConsistent}
 
 -- ---- what a domain's rows refer to
@@ -33,7 +34,7 @@ place-read : (column : ℤ) (q : ℕ) → registrar_in column ≡ Some q → col
 place-read (pos n) q e = ap pos (kept n q (is_place n) e).1
 place-read (negsuc n) q e = cc
 
-requested : (row : transfer_table.Transfer) (t : Transfer) → transfer_in row ≡ Some t → registrar_in row.requester ≡ Some t.requester
+requested : (row : TransferRow) (t : Transfer) → transfer_in row ≡ Some t → registrar_in row.requester ≡ Some t.requester
 requested row t e =
     let made = step (transfer_made (registrar_in row.requester) (registrar_in row.losing) (moment_in row.requested) (moment_in row.ac_date) (state_in row.state)) _ t e in
     let requester = step (registrar_in row.requester) _ made.given made.is in
@@ -59,25 +60,25 @@ and-false false = refl
 
 -- ---- who has no account
 
-there : (ys : List account_table.Account) (y : account_table.Account) (id : ℤ) → Has ys y → y.id ≡ id → get_by account_table.accounts.key ys id ≡ None → ⊥
+there : (ys : List AccountRow) (y : AccountRow) (id : ℤ) → Has ys y → y.id ≡ id → get_by account_table.accounts.key ys id ≡ None → ⊥
 there [] y id h e none = absurd h
 there (z ∷ ys) y id h e none = go (int_eq z.id id) refl h none (λ k. there ys y id k e)
   where
     go : (b : Bool) → int_eq z.id id ≡ b → Has (z ∷ ys) y → cond b (Some z) (get_by account_table.accounts.key ys id) ≡ None → (Has ys y → get_by account_table.accounts.key ys id ≡ None → ⊥) → ⊥
     go true at k n later = cc
-    go false at (inl k) n later = let here : true ≡ false = sym (equal z.id id (ap (λ (a : account_table.Account). a.id) (sym k) ∙ e)) ∙ at in cc
+    go false at (inl k) n later = let here : true ≡ false = sym (equal z.id id (ap (λ (a : AccountRow). a.id) (sym k) ∙ e)) ∙ at in cc
     go false at (inr k) n later = later k n
 
 module _ (xs : Content) (r : ℕ) (consistent : IsConsistent xs) (none : row_of xs (pos r) ≡ None) where
   -- whom a column refers to is another
-  another : (column : ℤ) (q : ℕ) → registrar_in column ≡ Some q → (y : account_table.Account) × Has xs.accounts y × (y.id ≡ column) → (q == r) ≡ false
+  another : (column : ℤ) (q : ℕ) → registrar_in column ≡ Some q → (y : AccountRow) × Has xs.accounts y × (y.id ≡ column) → (q == r) ≡ false
   another column q reads leads = go (q == r) refl
     where
       go : (b : Bool) → (q == r) ≡ b → (q == r) ≡ false
       go false e = e
       go true e = absurd (there xs.accounts leads.0 (pos r) leads.1 (leads.2 ∙ place-read column q reads ∙ ap pos (eqb-true q r e)) none)
 
-  no-incoming : (rows : List transfer_table.Transfer) (o : Option Transfer) → last_transfer rows ≡ Some o → ((x : transfer_table.Transfer) → Has rows x → Has xs.transfers x) → is_incoming r o ≡ false
+  no-incoming : (rows : List TransferRow) (o : Option Transfer) → last_transfer rows ≡ Some o → ((x : TransferRow) → Has rows x → Has xs.transfers x) → is_incoming r o ≡ false
   no-incoming [] o e among = ap (is_incoming r) (sym (same_some None o e))
   no-incoming (row ∷ []) o e among = go (transfer_in row) refl e
     where
@@ -89,7 +90,7 @@ module _ (xs : Content) (r : ℕ) (consistent : IsConsistent xs) (none : row_of 
           ∙ and-false (is_pending_state t.state)
   no-incoming (row ∷ next ∷ rows) o e among = cc
 
-  unheld : (row : table.Domain) (d : Domain) → Has xs.domains row → domain_of xs row ≡ Some d → is_held_by r d ≡ false
+  unheld : (row : DomainRow) (d : Domain) → Has xs.domains row → domain_of xs row ≡ Some d → is_held_by r d ≡ false
   unheld row d here reads =
       let it = parts xs row d reads in
       let rows = filter (transfer_with_domain row.id) xs.transfers in

@@ -14,10 +14,11 @@ use Rattle.sqlaccounts.proofs.FindingLemmas.{equal}
 use Rattle.sqlderived.specs.Held.{counts_where}
 use Rattle.sqlderived.specs.inner.Recounts.{AreAlike, AreCounted, IsCounted, IsCountedAnew}
 use Rattle.sqltables.specs.Account as table
+use Rattle.sqltables.specs.declared.account.AccountRow.{AccountRow}
 use Rattle.sqltables.specs.Content.{Content}
 use Rattle.sqltables.specs.inner.Content.{accounts_to}
 
-abbrev key : table.Account → ℤ
+abbrev key : AccountRow → ℤ
 key = table.accounts.key
 
 -- ---- single rows
@@ -25,21 +26,21 @@ key = table.accounts.key
 nothing : (a b : ℤ) → a ≡ b → a +ℤ pos 0 ≡ b +ℤ pos 0
 nothing a b e = ap (λ z. z +ℤ pos 0) e
 
-pub alike-itself : (o : Option table.Account) → AreAlike o o
+pub alike-itself : (o : Option AccountRow) → AreAlike o o
 alike-itself None = tt
 alike-itself (Some row) = refl
 
-counted-itself : (o : Option table.Account) → AreCounted 0 0 o o
+counted-itself : (o : Option AccountRow) → AreCounted 0 0 o o
 counted-itself None = tt
 counted-itself (Some row) = record { rest = refl; held = refl }
 
-alike-on : (a b c : Option table.Account) → AreAlike a b → AreAlike b c → AreAlike a c
+alike-on : (a b c : Option AccountRow) → AreAlike a b → AreAlike b c → AreAlike a c
 alike-on None None None e f = tt
 alike-on None None (Some c) e f = f
 alike-on None (Some b) c e f = absurd e
 alike-on (Some a) None c e f = absurd e
 alike-on (Some a) (Some b) None e f = f
-alike-on (Some a) (Some b) (Some c) e f = f ∙ ap (λ (x : table.Account). record x { held = c.held }) e
+alike-on (Some a) (Some b) (Some c) e f = f ∙ ap (λ (x : AccountRow). record x { held = c.held }) e
 
 sum-on : (a b c : ℤ) (l m p q : ℕ) → b +ℤ pos l ≡ a +ℤ pos m → c +ℤ pos p ≡ b +ℤ pos q → c +ℤ pos (l + p) ≡ a +ℤ pos (m + q)
 sum-on a b c l m p q e f = omega (arith, ints, e, f)
@@ -47,18 +48,18 @@ sum-on a b c l m p q e f = omega (arith, ints, e, f)
 sum-as : (a b : ℤ) (l m p q : ℕ) → b +ℤ pos l ≡ a +ℤ pos m → l + q ≡ m + p → b +ℤ pos p ≡ a +ℤ pos q
 sum-as a b l m p q e f = omega (arith, ints, e, f)
 
-counted-on : (l m p q : ℕ) (a b c : Option table.Account) → AreCounted l m a b → AreCounted p q b c → AreCounted (l + p) (m + q) a c
+counted-on : (l m p q : ℕ) (a b c : Option AccountRow) → AreCounted l m a b → AreCounted p q b c → AreCounted (l + p) (m + q) a c
 counted-on l m p q None None None e f = tt
 counted-on l m p q None None (Some c) e f = f
 counted-on l m p q None (Some b) c e f = absurd e
 counted-on l m p q (Some a) None c e f = absurd e
 counted-on l m p q (Some a) (Some b) None e f = f
 counted-on l m p q (Some a) (Some b) (Some c) e f = record {
-  rest = f.rest ∙ ap (λ (x : table.Account). record x { held = c.held }) e.rest;
+  rest = f.rest ∙ ap (λ (x : AccountRow). record x { held = c.held }) e.rest;
   held = sum-on a.held b.held c.held l m p q e.held f.held;
 }
 
-counted-as : (l m p q : ℕ) (a b : Option table.Account) → l + q ≡ m + p → AreCounted l m a b → AreCounted p q a b
+counted-as : (l m p q : ℕ) (a b : Option AccountRow) → l + q ≡ m + p → AreCounted l m a b → AreCounted p q a b
 counted-as l m p q None None same e = tt
 counted-as l m p q None (Some b) same e = absurd e
 counted-as l m p q (Some a) None same e = absurd e
@@ -100,12 +101,12 @@ same-place r q = go (int_eq (pos r) (pos q)) (r == q) refl refl
     go true false e f = absurd (true≢false (sym (eq-eqb r q (ap number (same_int (pos r) (pos q) e))) ∙ f))
     go false true e f = absurd (true≢false (sym (equal (pos r) (pos q) (ap pos (eqb-true r q f))) ∙ e))
 
-module _ (xs : Content) (r l m : ℕ) (row new : table.Account) (place : is_place r ≡ true) (found : Some row ≡ row_of xs (pos r)) (it : IsCounted l m row new) where
+module _ (xs : Content) (r l m : ℕ) (row new : AccountRow) (place : is_place r ≡ true) (found : Some row ≡ row_of xs (pos r)) (it : IsCounted l m row new) where
   abbrev ys : Content
   ys = accounts_to (λ rows. insert_by key rows new) xs
 
   at : new.id ≡ pos r
-  at = ap (λ (a : table.Account). a.id) it.rest ∙ key-get_by key xs.accounts (pos r) row (sym found)
+  at = ap (λ (a : AccountRow). a.id) it.rest ∙ key-get_by key xs.accounts (pos r) row (sym found)
 
   here : account_in ys new ≡ unwrap_or (get (accounts_of xs) r) empty_account
   here = ap (account_in xs) it.rest ∙ sym (ap (λ a. unwrap_or a empty_account) (get-found xs r row place (sym found)))
@@ -144,7 +145,7 @@ come : (b : Bool) → cond b 0 0 + cond b 1 0 ≡ cond b 1 0 + 0
 come true = refl
 come false = refl
 
-module _ (xs : Content) (who : Option ℕ) (r : ℕ) (row new : table.Account) (is : who ≡ Some r) (place : is_place r ≡ true) (found : Some row ≡ row_of xs (pos r)) where
+module _ (xs : Content) (who : Option ℕ) (r : ℕ) (row new : AccountRow) (is : who ≡ Some r) (place : is_place r ≡ true) (found : Some row ≡ row_of xs (pos r)) where
   pub one-gone : IsCounted 1 0 row new → IsCountedAnew (λ q. counts_where (λ x. x == q) who) (λ q. 0) xs (accounts_to (λ rows. insert_by key rows new) xs)
   one-gone it =
       subst (λ o. IsCountedAnew (λ q. counts_where (λ x. x == q) o) (λ q. 0) xs (accounts_to (λ rows. insert_by key rows new) xs)) (sym is)

@@ -18,7 +18,7 @@ use Rattle.objects.specs.declared.domain.Deletion.{Deletion}
 use Rattle.objects.specs.declared.domain.Domain as object
 use Rattle.policy.specs.declared.schedule.Schedule.{Schedule}
 use Rattle.sqltables.specs.Content.{Content}
-use Rattle.sqltables.specs.Domain.{Domain}
+use Rattle.sqltables.specs.declared.domain.DomainRow.{DomainRow}
 use Rattle.sqltables.specs.Transfer.{transfer_with_domain}
 use Rattle.sqlobjects.specs.Objects.{last_transfer}
 use Rattle.sqldomains.specs.Domains.{domain_of, links_of}
@@ -27,7 +27,7 @@ use Rattle.sqlderived.specs.Dues.{dues_are_right, is_due_right}
 use Rattle.sqlderived.specs.Redates.{ends_are, is_end, is_live_right, is_timed, lives_are_right, of_deletion}
 
 -- a domain that reads is deleted as its row says
-deletion-read : (xs : Content) (row : Domain) (d : object.Domain) → domain_of xs row ≡ Some d
+deletion-read : (xs : Content) (row : DomainRow) (d : object.Domain) → domain_of xs row ≡ Some d
     → deletion_in row.deleted row.restore_requested ≡ Some d.deletion
 deletion-read xs row d e =
     let links = step (links_of xs row) _ d e in
@@ -37,16 +37,16 @@ deletion-read xs row d e =
 -- ---- columns that are the ends of deletions
 
 module _ (days : Schedule) (xs : Content) where
-  abbrev ends : Domain → Deletion → Bool
+  abbrev ends : DomainRow → Deletion → Bool
   ends row x = int_eq row.due (pos (capped (purge_at (rules_with days) x)))
 
   -- when a domain is due that isn't deleted hangs on no length
-  one-due : (row : Domain) (d : object.Domain) → is_end days row ≡ true → (c : Option Deletion) → deletion_in row.deleted row.restore_requested ≡ Some c
+  one-due : (row : DomainRow) (d : object.Domain) → is_end days row ≡ true → (c : Option Deletion) → deletion_in row.deleted row.restore_requested ≡ Some c
       → int_eq row.due (pos (capped (due_of (rules_with days) c d))) ≡ (is_some c || int_eq row.due (pos (capped (earlier (expiry d) (completes_at d.transfer)))))
   one-due row d is None reads = refl
   one-due row d is (Some x) reads = sym (ap (of_deletion (ends row)) reads) ∙ is
 
-  one-live : (row : Domain) → is_end days row ≡ true → is_due_right days xs row ≡ is_live_right xs row
+  one-live : (row : DomainRow) → is_end days row ≡ true → is_due_right days xs row ≡ is_live_right xs row
   one-live row is = go (domain_of xs row) refl
     where
       go : (o : Option object.Domain) → domain_of xs row ≡ o
@@ -55,7 +55,7 @@ module _ (days : Schedule) (xs : Content) where
       go None reads = refl
       go (Some d) reads = one-due row d is d.deletion (deletion-read xs row d reads)
 
-  all-live : (rows : List Domain) → list_all (is_end days) rows ≡ true → list_all (is_due_right days xs) rows ≡ list_all (is_live_right xs) rows
+  all-live : (rows : List DomainRow) → list_all (is_end days) rows ≡ true → list_all (is_due_right days xs) rows ≡ list_all (is_live_right xs) rows
   all-live [] are = refl
   all-live (row ∷ rows) are =
       let parts = and_parts (is_end days row) (list_all (is_end days) rows) are in
@@ -86,7 +86,7 @@ module _ (days : Schedule) where
   by-column (pos n) c e = by-moment n (is_moment n) c e
   by-column (negsuc n) c e = absurd (true≢false (sym e))
 
-  pub all-timed : (rows : List Domain) → list_all (is_timed days) rows ≡ true → list_all (is_end days) rows ≡ true
+  pub all-timed : (rows : List DomainRow) → list_all (is_timed days) rows ≡ true → list_all (is_end days) rows ≡ true
   all-timed [] e = refl
   all-timed (row ∷ rows) e =
       let parts = and_parts (is_timed days row) (list_all (is_timed days) rows) e in

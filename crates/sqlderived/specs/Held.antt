@@ -9,7 +9,7 @@ use Rattle.objects.specs.Sight.{is_party}
 use Rattle.sqlcolumns.specs.Numbers.{registrar_in}
 use Rattle.sqlaccounts.specs.Accounts.{row_of}
 use Rattle.sqldomains.specs.Domains.{domains_of}
-use Rattle.sqltables.specs.Account as account_table
+use Rattle.sqltables.specs.declared.account.AccountRow.{AccountRow}
 use Rattle.sqltables.specs.Content.{Content}
 
 -- how many domains a registrar sponsors, or gets by a pending transfer
@@ -17,7 +17,7 @@ abbrev pub held_of : Content → ℕ → ℕ
 held_of xs r = length (filter (λ d. is_party r d.sponsor d.transfer) (values (domains_of xs)))
 
 -- the column says how many; a row whose number is no registrar's place has nothing to say
-abbrev pub is_held_right : Content → account_table.Account → Bool
+abbrev pub is_held_right : Content → AccountRow → Bool
 is_held_right xs row =
     option_map_or (λ place. int_eq row.held (pos (held_of xs place))) (registrar_in row.id) true
 
@@ -28,7 +28,7 @@ has_right_held xs id = option_map_or (is_held_right xs) (row_of xs id) true
 -- all accounts' columns say it
 abbrev pub helds_are_right : Content → Bool
 helds_are_right xs =
-    list_all (λ (row : account_table.Account). has_right_held xs row.id) xs.accounts
+    list_all (λ (row : AccountRow). has_right_held xs row.id) xs.accounts
 
 -- ---- one domain more, or less
 

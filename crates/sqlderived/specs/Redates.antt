@@ -14,7 +14,7 @@ use Rattle.objects.specs.declared.domain.Deletion.{Deletion}
 use Rattle.objects.specs.declared.domain.Domain as object
 use Rattle.policy.specs.declared.schedule.Schedule.{Schedule}
 use Rattle.sqltables.specs.Content.{Content}
-use Rattle.sqltables.specs.Domain.{Domain}
+use Rattle.sqltables.specs.declared.domain.DomainRow.{DomainRow}
 use Rattle.sqldomains.specs.Domains.{domain_of}
 
 -- what is asked of the column of a deleted domain, by its deletion; of another nothing is
@@ -24,7 +24,7 @@ of_deletion asked (Some None) = true
 of_deletion asked (Some (Some x)) = asked x
 
 -- the column of a deleted domain is the moment when it is purged, or the last one where that lies past it
-abbrev pub is_end : Schedule → Domain → Bool
+abbrev pub is_end : Schedule → DomainRow → Bool
 is_end days row =
     of_deletion (λ x. int_eq row.due (pos (capped (purge_at (rules_with days) x))))
     (deletion_in row.deleted row.restore_requested)
@@ -34,7 +34,7 @@ abbrev pub ends_are : Schedule → Content → Bool
 ends_are days xs = list_all (is_end days) xs.domains
 
 -- what is checked, exactly: the column is a moment, and of a deleted domain it is that one
-abbrev pub is_timed : Schedule → Domain → Bool
+abbrev pub is_timed : Schedule → DomainRow → Bool
 is_timed days row =
     option_map_or (λ due. of_deletion (λ x. due == capped (purge_at (rules_with days) x)) (deletion_in row.deleted row.restore_requested))
     (moment_in row.due) false
@@ -42,7 +42,7 @@ is_timed days row =
 -- ---- which domains are right by any lengths
 
 -- The row reads. Its column is when the domain is due, if that isn't deleted: then no length bears on it.
-abbrev pub is_live_right : Content → Domain → Bool
+abbrev pub is_live_right : Content → DomainRow → Bool
 is_live_right xs row =
     option_map_or (λ (d : object.Domain). is_some d.deletion || int_eq row.due (pos (capped (earlier (expiry d) (completes_at d.transfer)))))
     (domain_of xs row) false
@@ -52,9 +52,9 @@ lives_are_right xs = list_all (is_live_right xs) xs.domains
 
 -- ---- which domains are deleted
 
-abbrev pub is_deleted : Domain → Bool
+abbrev pub is_deleted : DomainRow → Bool
 is_deleted row = is_some row.deleted
 
 -- the names of deleted domains, by their rows
-abbrev pub deleted_names : List Domain → List (List ℕ)
+abbrev pub deleted_names : List DomainRow → List (List ℕ)
 deleted_names rows = map (λ row. row.name) (filter is_deleted rows)

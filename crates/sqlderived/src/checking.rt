@@ -9,7 +9,7 @@ ghost use Rattle.sqlrows.specs.Read.{first_read};
 ghost use Rattle.sqldomains.specs.Domains as domains;
 ghost use Rattle.sqlderived.specs.Dues.{is_due_right};
 ghost use Rattle.sqlite_rules.specs.Lists.{Has};
-ghost use Rattle.sqltables.specs.Domain as table;
+ghost use Rattle.sqltables.specs.declared.domain.DomainRow.{DomainRow};
 ghost use Rattle.states.specs.States.{FindsSome};
 
 use basis::list::Seq;
@@ -54,7 +54,7 @@ pub fn checked_domain<S: Alter>(
     policy: &Policy,
 ) -> Result<Option<Domain>, BookFault>
     ensures { FindsSome result (λ domain. (get (domains.domains_of store.old.content) name.now ≡ domain)
-        × ((row : table.Domain) → Has store.old.content.domains row → row.name ≡ name.now
+        × ((row : DomainRow) → Has store.old.content.domains row → row.name ≡ name.now
         → is_due_right policy.now.days store.old.content row ≡ true)) store.old store.new }
 {
     let rows = store.domains_by_name(name.as_str())?;
@@ -69,7 +69,7 @@ fn first_right<S: Alter>(
     policy: &Policy,
 ) -> Result<Option<Domain>, BookFault>
     ensures { FindsSome result (λ domain. (first_read (domains.domain_of store.old.content) rows
-        ≡ domain) × ((row : table.Domain) → Has rows row
+        ≡ domain) × ((row : DomainRow) → Has rows row
         → is_due_right policy.now.days store.old.content row ≡ true)) store.old store.new }
 {
     let Some(row) = only(rows)? else {

@@ -1,5 +1,5 @@
 //! What is due by a moment.
-ghost use Rattle.std.specs.Prelude.{◌≡◌, true, [], Some, IfOk, string_bytes};
+ghost use Rattle.std.specs.Prelude.{◌≡◌, true, [], Some, IfOk};
 ghost use Rattle.std.specs.List.{list_all};
 ghost use Rattle.sqlcolumns.specs.Numbers.{moment_column};
 ghost use Rattle.sqlrows.specs.Meanings.{FindsIfRight};
@@ -180,19 +180,14 @@ fn with_domain<S: Alter>(
 /// With the domain of a name that is due at a moment, if that is by another.
 fn with_due_at(
     found: BTreeSet<Due>,
-    name: String,
+    name: Text,
     due: Moment,
     moment: Moment,
 ) -> Result<BTreeSet<Due>, AllocError>
     ensures { IfOk result (λ more. more.keys ≡ dues.with_due
-        (dues.due_then ObjectKind.Domain (string_bytes name) (passed moment due)) found.keys) }
+        (dues.due_then ObjectKind.Domain name (passed moment due)) found.keys) }
 {
-    with_due(
-        found,
-        ObjectKind::Domain,
-        Text::from_string(name),
-        come(due, moment),
-    )
+    with_due(found, ObjectKind::Domain, name, come(due, moment))
 }
 
 /// The first moment, if it is no later than the second.

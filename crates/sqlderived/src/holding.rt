@@ -3,7 +3,7 @@ ghost use Rattle.std.specs.Prelude.{◌≡◌, nat_le, pos};
 ghost use Rattle.std.specs.Option.{option_map_or};
 ghost use Rattle.sqlrows.specs.Meanings.{FindsIfRight};
 ghost use Rattle.sqlderived.specs.Held.{held_of, helds_are_right};
-ghost use Rattle.sqltables.specs.Account.{Account};
+ghost use Rattle.sqltables.specs.declared.account.AccountRow.{AccountRow};
 
 use basis::registrar::RegistrarNo;
 use sqlaccounts::maybe_row;
@@ -31,7 +31,7 @@ pub fn is_at_holding_limit<S: Alter>(
 }
 
 fn held_in(row: Option<AccountRow>) -> i64
-    ensures { result ≡ option_map_or (λ (row : Account). row.held) row (pos 0) }
+    ensures { result ≡ option_map_or (λ (row : AccountRow). row.held) row (pos 0) }
 {
     let Some(row) = row else {
         return 0;

@@ -6,7 +6,7 @@ ghost use Rattle.sqlderived.specs.Dues.{dues_are_right, is_due_right};
 ghost use Rattle.sqlderived.specs.inner.Finding as finding;
 ghost use Rattle.sqlderived.specs.inner.Near as spec;
 ghost use Rattle.sqltables.specs.Contact.{contact_within_due};
-ghost use Rattle.sqltables.specs.inner.Domain.{domain_within_due};
+ghost use Rattle.sqltables.specs.Domain.{domain_within_due};
 ghost use Rattle.states.specs.States.{Finds, FindsSome};
 
 use crate::by_names::{contacts_named, domains_by_names};

@@ -84,7 +84,7 @@ fn names_of_deleted(alloc: Global, rows: Seq<DomainRow>) -> Result<Seq<Text>, Al
     let mut names = Seq::new(alloc);
     for row in rows.into_vec() {
         if row.deleted.is_some() {
-            names.push(Text::from_str(alloc, row.name.as_str())?)?;
+            names.push(row.name)?;
         }
     }
     Ok(names)

@@ -7,10 +7,12 @@ use Rattle.sqlite_keyed.proofs.KeyedLemmas.{key-get_by}
 use Rattle.sqlite_rules.specs.Lists.{Has}
 use Rattle.objects.specs.Links.{names_contact, names_host}
 use Rattle.sqltables.specs.Contact as contact_table
+use Rattle.sqltables.specs.declared.contact.ContactRow.{ContactRow}
 use Rattle.sqltables.specs.Content.{Content}
 use Rattle.sqltables.specs.Domain as table
-use Rattle.sqltables.specs.inner.Domain as inner_table
+use Rattle.sqltables.specs.declared.domain.DomainRow.{DomainRow}
 use Rattle.sqltables.specs.Host as host_table
+use Rattle.sqltables.specs.declared.host.HostRow.{HostRow}
 use Rattle.sqltables.specs.Link.{link_with_contact, link_with_host}
 use Rattle.sqltables.specs.inner.Consistent.{IsConsistent}
 use Rattle.sqltables.proofs.RowLemmas.{bytes_same}
@@ -42,8 +44,8 @@ first-in p xs row e = (has-filter p xs row (has-taken (filter p xs) row e)).0
 
 -- ---- contacts
 
-pub number-of-contact : (xs : Content) (given name : List ℕ) (rows : List contact_table.Contact) (row : Option contact_table.Contact) (id : Option ℤ) → given ≡ name → rows ≡ filter (contact_table.contact_with_name given) xs.contacts → rows ≡ rows_of row
-    → id ≡ option_map (λ (r : contact_table.Contact). r.id) row → IsNumberOfContact xs name id
+pub number-of-contact : (xs : Content) (given name : List ℕ) (rows : List ContactRow) (row : Option ContactRow) (id : Option ℤ) → given ≡ name → rows ≡ filter (contact_table.contact_with_name given) xs.contacts → rows ≡ rows_of row
+    → id ≡ option_map (λ (r : ContactRow). r.id) row → IsNumberOfContact xs name id
 number-of-contact xs given name rows None id same asked one is =
     subst (IsNumberOfContact xs name) (sym is) (sym (ap (λ n. filter (contact_table.contact_with_name n) xs.contacts) same) ∙ sym asked ∙ one)
 number-of-contact xs given name rows (Some row) id same asked one is =
@@ -51,11 +53,11 @@ number-of-contact xs given name rows (Some row) id same asked one is =
     subst (IsNumberOfContact xs name) (sym is) (row, found.0, bytes_is row.name given found.1 ∙ same, refl)
 
 -- the row of a contact whose name something leads to
-pub row-of-contact : (xs : Content) (name : List ℕ) (id : ℤ) → contact_name xs id ≡ Some name → (row : contact_table.Contact) × Has xs.contacts row × (row.name ≡ name) × (row.id ≡ id)
+pub row-of-contact : (xs : Content) (name : List ℕ) (id : ℤ) → contact_name xs id ≡ Some name → (row : ContactRow) × Has xs.contacts row × (row.name ≡ name) × (row.id ≡ id)
 row-of-contact xs name id e = go (get_by contact_table.contacts.key xs.contacts id) refl e
   where
-    go : (o : Option contact_table.Contact) → get_by contact_table.contacts.key xs.contacts id ≡ o → option_map (λ (r : contact_table.Contact). r.name) o ≡ Some name
-        → (row : contact_table.Contact) × Has xs.contacts row × (row.name ≡ name) × (row.id ≡ id)
+    go : (o : Option ContactRow) → get_by contact_table.contacts.key xs.contacts id ≡ o → option_map (λ (r : ContactRow). r.name) o ≡ Some name
+        → (row : ContactRow) × Has xs.contacts row × (row.name ≡ name) × (row.id ≡ id)
     go None is f = cc
     go (Some row) is f = (row, has-get_by contact_table.contacts.key xs.contacts id row is, cc, key-get_by contact_table.contacts.key xs.contacts id row is)
 
@@ -68,7 +70,7 @@ module _ (xs : Content) (name : List ℕ) (consistent : IsConsistent xs) where
   only-contact : (id : ℤ) → IsNumberOfContact xs name (Some id) → (other : ℤ) → contact_name xs other ≡ Some name → other ≡ id
   only-contact id it other e =
       let that = row-of-contact xs name other e in
-      sym that.3 ∙ ap (λ (r : contact_table.Contact). r.id) (consistent.named.contacts that.0 it.0 that.1 it.1 (that.2 ∙ sym it.2)) ∙ it.3
+      sym that.3 ∙ ap (λ (r : ContactRow). r.id) (consistent.named.contacts that.0 it.0 that.1 it.1 (that.2 ∙ sym it.2)) ∙ it.3
 
   pub contact-nowhere : IsNumberOfContact xs name None → is_linked_contact xs name ≡ false
   contact-nowhere none = contact-unnamed xs name (λ row there at. nowhere-contact none row.registrant at) (λ row there leads. nowhere-contact none leads.0 leads.2)
@@ -76,16 +78,16 @@ module _ (xs : Content) (name : List ℕ) (consistent : IsConsistent xs) where
   pub contact-unused : (id : ℤ) → IsNumberOfContact xs name (Some id) → IsNoContact xs id → is_linked_contact xs name ≡ false
   contact-unused id it none =
       contact-unnamed xs name
-      (λ row there at. subst (λ l. Has l row) none.registrant (filter-has (inner_table.domain_with_registrant id) xs.domains row there (equal row.registrant id (only-contact id it row.registrant at))))
+      (λ row there at. subst (λ l. Has l row) none.registrant (filter-has (table.domain_with_registrant id) xs.domains row there (equal row.registrant id (only-contact id it row.registrant at))))
       (λ row there leads. subst (λ l. Has l row) none.links (filter-has (link_with_contact id) xs.links row there (subst (λ c. link_with_contact id (record row { contact = c }) ≡ true) (sym leads.1) (equal leads.0 id (only-contact id it leads.0 leads.2)))))
 
-  pub contact-used : (row : table.Domain) → Has xs.domains row → Passes xs (λ d. names_contact name d.links) row → is_linked_contact xs name ≡ true
+  pub contact-used : (row : DomainRow) → Has xs.domains row → Passes xs (λ d. names_contact name d.links) row → is_linked_contact xs name ≡ true
   contact-used row there passes = one-passes xs (λ d. names_contact name d.links) consistent row passes.0 there passes.1 passes.2
 
 -- ---- hosts
 
-pub number-of-host : (xs : Content) (given name : List ℕ) (rows : List host_table.Host) (row : Option host_table.Host) (id : Option ℤ) → given ≡ name → rows ≡ filter (host_table.host_with_name given) xs.hosts → rows ≡ rows_of row
-    → id ≡ option_map (λ (r : host_table.Host). r.id) row → IsNumberOfHost xs name id
+pub number-of-host : (xs : Content) (given name : List ℕ) (rows : List HostRow) (row : Option HostRow) (id : Option ℤ) → given ≡ name → rows ≡ filter (host_table.host_with_name given) xs.hosts → rows ≡ rows_of row
+    → id ≡ option_map (λ (r : HostRow). r.id) row → IsNumberOfHost xs name id
 number-of-host xs given name rows None id same asked one is =
     subst (IsNumberOfHost xs name) (sym is) (sym (ap (λ n. filter (host_table.host_with_name n) xs.hosts) same) ∙ sym asked ∙ one)
 number-of-host xs given name rows (Some row) id same asked one is =
@@ -93,11 +95,11 @@ number-of-host xs given name rows (Some row) id same asked one is =
     subst (IsNumberOfHost xs name) (sym is) (row, found.0, bytes_is row.name given found.1 ∙ same, refl)
 
 -- the row of a host whose name something leads to
-pub row-of-host : (xs : Content) (name : List ℕ) (id : ℤ) → host_name xs id ≡ Some name → (row : host_table.Host) × Has xs.hosts row × (row.name ≡ name) × (row.id ≡ id)
+pub row-of-host : (xs : Content) (name : List ℕ) (id : ℤ) → host_name xs id ≡ Some name → (row : HostRow) × Has xs.hosts row × (row.name ≡ name) × (row.id ≡ id)
 row-of-host xs name id e = go (get_by host_table.hosts.key xs.hosts id) refl e
   where
-    go : (o : Option host_table.Host) → get_by host_table.hosts.key xs.hosts id ≡ o → option_map (λ (r : host_table.Host). r.name) o ≡ Some name
-        → (row : host_table.Host) × Has xs.hosts row × (row.name ≡ name) × (row.id ≡ id)
+    go : (o : Option HostRow) → get_by host_table.hosts.key xs.hosts id ≡ o → option_map (λ (r : HostRow). r.name) o ≡ Some name
+        → (row : HostRow) × Has xs.hosts row × (row.name ≡ name) × (row.id ≡ id)
     go None is f = cc
     go (Some row) is f = (row, has-get_by host_table.hosts.key xs.hosts id row is, cc, key-get_by host_table.hosts.key xs.hosts id row is)
 
@@ -110,7 +112,7 @@ module _ (xs : Content) (name : List ℕ) (consistent : IsConsistent xs) where
   pub only-host : (id : ℤ) → IsNumberOfHost xs name (Some id) → (other : ℤ) → host_name xs other ≡ Some name → other ≡ id
   only-host id it other e =
       let that = row-of-host xs name other e in
-      sym that.3 ∙ ap (λ (r : host_table.Host). r.id) (consistent.named.hosts that.0 it.0 that.1 it.1 (that.2 ∙ sym it.2)) ∙ it.3
+      sym that.3 ∙ ap (λ (r : HostRow). r.id) (consistent.named.hosts that.0 it.0 that.1 it.1 (that.2 ∙ sym it.2)) ∙ it.3
 
   pub host-nowhere : IsNumberOfHost xs name None → is_linked_host xs name ≡ false
   host-nowhere none = host-unnamed xs name (λ row there leads. nowhere-host none leads.0 leads.2)
@@ -120,13 +122,13 @@ module _ (xs : Content) (name : List ℕ) (consistent : IsConsistent xs) where
       host-unnamed xs name
       (λ row there leads. subst (λ l. Has l row) none (filter-has (link_with_host id) xs.links row there (subst (λ h. link_with_host id (record row { host = h }) ≡ true) (sym leads.1) (equal leads.0 id (only-host id it leads.0 leads.2)))))
 
-  pub host-used : (row : table.Domain) → Has xs.domains row → Passes xs (λ d. names_host name d.links) row → is_linked_host xs name ≡ true
+  pub host-used : (row : DomainRow) → Has xs.domains row → Passes xs (λ d. names_host name d.links) row → is_linked_host xs name ≡ true
   host-used row there passes = one-passes xs (λ d. names_host name d.links) consistent row passes.0 there passes.1 passes.2
 
 -- ---- the same of states that are alike
 
-pub use-of-contact : (xs ys : Content) (a b : ℤ) (o p : Option table.Domain) → xs ≡ ys → a ≡ b → o ≡ p → IsUseOfContact xs a o → IsUseOfContact ys b p
+pub use-of-contact : (xs ys : Content) (a b : ℤ) (o p : Option DomainRow) → xs ≡ ys → a ≡ b → o ≡ p → IsUseOfContact xs a o → IsUseOfContact ys b p
 use-of-contact xs ys a b o p same alike is used = subst (IsUseOfContact ys b) is (subst (λ n. IsUseOfContact ys n o) alike (subst (λ c. IsUseOfContact c a o) same used))
 
-pub use-of-host : (xs ys : Content) (a b : ℤ) (o p : Option table.Domain) → xs ≡ ys → a ≡ b → o ≡ p → IsUseOfHost xs a o → IsUseOfHost ys b p
+pub use-of-host : (xs ys : Content) (a b : ℤ) (o p : Option DomainRow) → xs ≡ ys → a ≡ b → o ≡ p → IsUseOfHost xs a o → IsUseOfHost ys b p
 use-of-host xs ys a b o p same alike is used = subst (IsUseOfHost ys b) is (subst (λ n. IsUseOfHost ys n o) alike (subst (λ c. IsUseOfHost c a o) same used))

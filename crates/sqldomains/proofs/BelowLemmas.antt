@@ -15,6 +15,7 @@ use Rattle.sqlcolumns.proofs.AboveLemmas.{same_above}
 use Rattle.sqlcolumns.proofs.ReadLemmas as reading
 use Rattle.sqltables.specs.Content.{Content}
 use Rattle.sqltables.specs.Host as table
+use Rattle.sqltables.specs.declared.host.HostRow.{HostRow}
 use Rattle.sqltables.proofs.RowLemmas.{bytes_same}
 use Rattle.sqlobjects.specs.Objects.{addresses_of, host_of, hosts_of}
 use Rattle.sqlobjects.proofs.NameLemmas.{host-named}
@@ -24,7 +25,7 @@ use Rattle.sqldomains.proofs.LinkedLemmas.{first-has}
 use Rattle.sqldomains.proofs.NameOrderLemmas.{by-rows}
 
 -- a host that reads lies below the last two labels of its name
-above-read : (xs : Content) (row : table.Host) (h : Host) → host_of xs row ≡ Some h → row.above ≡ above row.name
+above-read : (xs : Content) (row : HostRow) (h : Host) → host_of xs row ≡ Some h → row.above ≡ above row.name
 above-read xs row h e =
     let texts = addresses_of xs row.id in
     let columns = reading.step (columns_in row) (λ c. statuses_in row.statuses >>= (λ s. cond (str.bytes_eq row.above (above row.name)) (Some (host_with row c s texts)) None)) h e in
@@ -50,14 +51,14 @@ keys-where {X} p (e ∷ es) = go (p e.0) (keys-where p es)
     go false more = more
 
 module _ (xs : Content) (domain : List ℕ) where
-  abbrev name_of : table.Host → List ℕ
+  abbrev name_of : HostRow → List ℕ
   name_of row = row.name
 
   abbrev found_below : List (List ℕ)
   found_below = filter (is_below domain) (map name_of (rows_around domain xs))
 
   -- the row of each host below it is among those that are looked at
-  is-around : (row : table.Host) (h : Host) → host_of xs row ≡ Some h → Has xs.hosts row → is_below domain row.name ≡ true → Has (rows_around domain xs) row
+  is-around : (row : HostRow) (h : Host) → host_of xs row ≡ Some h → Has xs.hosts row → is_below domain row.name ≡ true → Has (rows_around domain xs) row
   is-around row h reads there below = go (is_dotted domain) refl
     where
       go : (b : Bool) → is_dotted domain ≡ b → Has (cond b (filter (table.host_with_above (above domain)) xs.hosts) xs.hosts) row

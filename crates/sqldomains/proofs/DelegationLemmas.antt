@@ -12,7 +12,7 @@ use Rattle.objects.specs.declared.zone.Delegation.{Delegation}
 use Rattle.objects.specs.Delegations.{delegation_of}
 use Rattle.sqlcolumns.proofs.ReadLemmas.{same_some, step}
 use Rattle.sqltables.specs.Content.{Content}
-use Rattle.sqltables.specs.Domain as table
+use Rattle.sqltables.specs.declared.domain.DomainRow.{DomainRow}
 use Rattle.sqltables.specs.inner.Consistent.{IsConsistent}
 use Rattle.sqlobjects.proofs.PutLemmas.{bytes_is}
 use Rattle.sqldomains.specs.Domains.{domain_of, domains_of}
@@ -32,16 +32,16 @@ put-here a d = put-in a d d.name ∙ ap (λ b. cond b (Some (delegation_of d)) (
 
 module _ (xs : Content) where
   -- what is under a name is of a row that gives it
-  abbrev IsGiven : List table.Domain → List ℕ → Delegation → Type 0
-  IsGiven rows n y = (row : table.Domain) × Has rows row × (d : Domain) × (domain_of xs row ≡ Some d) × (d.name ≡ n) × (y ≡ delegation_of d)
+  abbrev IsGiven : List DomainRow → List ℕ → Delegation → Type 0
+  IsGiven rows n y = (row : DomainRow) × Has rows row × (d : Domain) × (domain_of xs row ≡ Some d) × (d.name ≡ n) × (y ≡ delegation_of d)
 
   abbrev IsUnder : Delegations → List ℕ → Type 0
   IsUnder all n = (y : Delegation) × (get all n ≡ Some y)
 
-  record Gathered (a b : Delegations) (rows : List table.Domain) : Type 0 where
+  record Gathered (a b : Delegations) (rows : List DomainRow) : Type 0 where
     pub kept : (n : List ℕ) → IsUnder a n → IsUnder b n
     pub sound : (n : List ℕ) (y : Delegation) → get b n ≡ Some y → (get a n ≡ Some y) ⊎ IsGiven rows n y
-    pub complete : (row : table.Domain) → Has rows row → (d : Domain) × (domain_of xs row ≡ Some d) × IsUnder b d.name
+    pub complete : (row : DomainRow) → Has rows row → (d : Domain) × (domain_of xs row ≡ Some d) × IsUnder b d.name
 
   module _ (a : Delegations) (d : Domain) (n : List ℕ) where
     still-under : IsUnder a n → IsUnder (with_domain a d) n
@@ -58,7 +58,7 @@ module _ (xs : Content) where
         go true same is = inr (sym (bytes_is n d.name same), sym (same_some (delegation_of d) y is))
         go false other is = inl is
 
-  gathered : (rows : List table.Domain) (a b : Delegations) → with_rows xs a rows ≡ Some b → Gathered a b rows
+  gathered : (rows : List DomainRow) (a b : Delegations) → with_rows xs a rows ≡ Some b → Gathered a b rows
   gathered [] a b e = record {
     kept = λ n it. subst (λ c. IsUnder c n) (same_some a b e) it;
     sound = λ n y is. inl (subst (λ c. get c n ≡ Some y) (sym (same_some a b e)) is);
@@ -84,7 +84,7 @@ module _ (xs : Content) where
           from n y (inl now) = here n y (put-or-before a d n y now)
           from n y (inr it) = inr (it.0, inr it.1, it.2, it.3, it.4, it.5)
 
-          each : (other : table.Domain) → Has (row ∷ rows) other → (d : Domain) × (domain_of xs other ≡ Some d) × IsUnder b d.name
+          each : (other : DomainRow) → Has (row ∷ rows) other → (d : Domain) × (domain_of xs other ≡ Some d) × IsUnder b d.name
           each other (inl same) = (d, ap (domain_of xs) same ∙ reads, more.kept d.name (delegation_of d, put-here a d))
           each other (inr later) = more.complete other later
 
@@ -93,7 +93,7 @@ module _ (xs : Content) where
     found = gathered xs.domains empty all e
 
     -- a row's domain is under its name
-    there : (row : table.Domain) (d : Domain) → Has xs.domains row → domain_of xs row ≡ Some d → get (domains_of xs) d.name ≡ Some d
+    there : (row : DomainRow) (d : Domain) → Has xs.domains row → domain_of xs row ≡ Some d → get (domains_of xs) d.name ≡ Some d
     there row d has reads = ap (get (domains_of xs)) (name-read xs row d reads) ∙ stands-there xs row d consistent has reads
 
     given : (n : List ℕ) (y : Delegation) → (get (empty {X = Delegation} {R = slice_cmp nat_cmp}) n ≡ Some y) ⊎ IsGiven xs.domains n y → option_map delegation_of (get (domains_of xs) n) ≡ Some y

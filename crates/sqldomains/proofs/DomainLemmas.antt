@@ -16,11 +16,11 @@ use Rattle.sqlcolumns.specs.Roids.{roid_columns}
 use Rattle.sqlcolumns.specs.Steps.{◌>>=◌}
 use Rattle.sqlcolumns.proofs.DomainLemmas.{domain_back}
 use Rattle.sqlcolumns.proofs.ReadLemmas.{passed, same_some, step}
-use Rattle.sqltables.specs.Contact as contact_table
+use Rattle.sqltables.specs.declared.contact.ContactRow.{ContactRow}
 use Rattle.sqltables.specs.Content.{Content}
 use Rattle.sqltables.specs.inner.Content.{domains_to}
 use Rattle.sqltables.specs.Domain as table
-use Rattle.sqltables.specs.inner.Domain as inner_table
+use Rattle.sqltables.specs.declared.domain.DomainRow.{DomainRow}
 use Rattle.sqltables.specs.Link.{link_with_domain}
 use Rattle.sqltables.specs.Transfer.{transfer_with_contact, transfer_with_domain}
 use Rattle.sqltables.specs.inner.Consistent.{IsConsistent}
@@ -39,17 +39,17 @@ use Rattle.sqldomains.specs.Domains.{are_dated, dated, domain_of, domains_of, li
 use Rattle.sqldomains.specs.inner.Stages.{AreLinksCleared, AreLinksPut, AreOtherPartsKept, IsDomainDropped, IsDomainPlaced, IsDomainRemoved, row_beside}
 use Rattle.sqldomains.proofs.LinkRowLemmas.{links-alike}
 
-abbrev name_of : table.Domain → List ℕ
+abbrev name_of : DomainRow → List ℕ
 name_of row = row.name
 
-abbrev key : table.Domain → ℤ
-key = inner_table.domains.key
+abbrev key : DomainRow → ℤ
+key = table.domains.key
 
 -- ---- what else is as it was
 
 module _ (xs ys : Content) (id : ℤ) (kept : AreOtherPartsKept id xs ys) where
   -- a domain whose row, links and transfer are as they were is read as before
-  pub reads-alike : (r : table.Domain) → int_eq id r.id ≡ false → domain_of ys r ≡ domain_of xs r
+  pub reads-alike : (r : DomainRow) → int_eq id r.id ≡ false → domain_of ys r ≡ domain_of xs r
   reads-alike r other =
       let links : links_of ys r ≡ links_of xs r =
       λ i. ap (λ (x : Content). contact_name x r.registrant) kept.rest i >>= (λ a.
@@ -57,18 +57,18 @@ module _ (xs ys : Content) (id : ℤ) (kept : AreOtherPartsKept id xs ys) where
       links-alike xs ys (λ k. ap (λ (x : Content). contact_name x k) kept.rest) (λ k. ap (λ (x : Content). host_name x k) kept.rest) rows (registrant_alone a) i)) in
       λ i. links i >>= (λ l. last_transfer (kept.transfers r.id other i) >>= (λ transfer. domain_in r l transfer))
 
-  contact-same : (row : contact_table.Contact) → contact_of ys row ≡ contact_of xs row
+  contact-same : (row : ContactRow) → contact_of ys row ≡ contact_of xs row
   contact-same row = λ i. last_transfer (kept.contacts row.id i) >>= (λ transfer. contact_in row transfer)
 
   contacts-same : contacts_of ys ≡ contacts_of xs
   contacts-same =
       ap (λ (x : Content). from_entries (filter_map (contact_entry ys) x.contacts)) kept.rest
-      ∙ (λ i. from_entries (filter_map (λ (row : contact_table.Contact). named row.name (contact-same row i)) xs.contacts))
+      ∙ (λ i. from_entries (filter_map (λ (row : ContactRow). named row.name (contact-same row i)) xs.contacts))
 
   assembled : (name : List ℕ) (value : Option Domain) (due : Option ℕ) → domains_of ys ≡ put (domains_of xs) name value → AreOthersKept name_of name xs.domains ys.domains
-      → ((r : table.Domain) → Has xs.domains r → Has ys.domains r → bytes_eq r.name name ≡ false → int_eq id r.id ≡ false)
-      → ((r : table.Domain) → Has ys.domains r → r.name ≡ name → Some r.due ≡ option_map moment_column due)
-      → ((r : table.Domain) → Has ys.domains r → r.name ≡ name → Some r.sponsor ≡ maybe_registrar_column (sponsor_in value))
+      → ((r : DomainRow) → Has xs.domains r → Has ys.domains r → bytes_eq r.name name ≡ false → int_eq id r.id ≡ false)
+      → ((r : DomainRow) → Has ys.domains r → r.name ≡ name → Some r.due ≡ option_map moment_column due)
+      → ((r : DomainRow) → Has ys.domains r → r.name ≡ name → Some r.sponsor ≡ maybe_registrar_column (sponsor_in value))
       → IsConsistent xs → IsConsistent ys → IsDomainPut name value due xs ys
   assembled name value due stands others other_number due_then sponsor_then consistent after = record {
     domains = stands;
@@ -90,14 +90,14 @@ module _ (xs ys : Content) (id : ℤ) (kept : AreOtherPartsKept id xs ys) where
   }
 
 -- no row has the name
-pub nobody : (name : List ℕ) (rows : List table.Domain) → filter (table.domain_with_name name) rows ≡ [] → (r : table.Domain) → Has rows r → r.name ≡ name → ⊥
+pub nobody : (name : List ℕ) (rows : List DomainRow) → filter (table.domain_with_name name) rows ≡ [] → (r : DomainRow) → Has rows r → r.name ≡ name → ⊥
 nobody name rows none r there is = subst (λ l. Has l r) none (filter-has (table.domain_with_name name) rows r there (bytes_same r.name name is))
 
 -- ---- dropped
 
-pub removed-so : (id number : ℤ) (xs b m : Content) → number ≡ id → AreLinksCleared number xs b → IsTransferCleared (transferable.Domain id) b m → IsDomainRemoved id xs (domains_to (delete_where (inner_table.domain_with_id number)) m)
+pub removed-so : (id number : ℤ) (xs b m : Content) → number ≡ id → AreLinksCleared number xs b → IsTransferCleared (transferable.Domain id) b m → IsDomainRemoved id xs (domains_to (delete_where (table.domain_with_id number)) m)
 removed-so id number xs b m same links =
-    subst (λ k. IsTransferCleared (transferable.Domain k) b m → IsDomainRemoved k xs (domains_to (delete_where (inner_table.domain_with_id number)) m)) same (λ transfer. record {
+    subst (λ k. IsTransferCleared (transferable.Domain k) b m → IsDomainRemoved k xs (domains_to (delete_where (table.domain_with_id number)) m)) same (λ transfer. record {
       kept = record {
         links = λ other e. ap (λ (x : Content). filter (link_with_domain other) x.links) transfer.kept.rest ∙ links.others.domains other e;
         transfers = λ other e. transfer.kept.others (transferable.Domain other) e ∙ ap (λ (x : Content). filter (transfer_with_domain other) x.transfers) links.others.rest;
@@ -107,8 +107,8 @@ removed-so id number xs b m same links =
             ∙ ap (λ (x : Content). record x { domains = xs.domains; links = xs.links; transfers = xs.transfers }) links.others.rest;
       };
       domains =
-          ap (λ (x : Content). delete_where (inner_table.domain_with_id number) x.domains) transfer.kept.rest
-          ∙ ap (λ (x : Content). delete_where (inner_table.domain_with_id number) x.domains) links.others.rest;
+          ap (λ (x : Content). delete_where (table.domain_with_id number) x.domains) transfer.kept.rest
+          ∙ ap (λ (x : Content). delete_where (table.domain_with_id number) x.domains) links.others.rest;
       links = ap (λ (x : Content). filter (link_with_domain number) x.links) transfer.kept.rest ∙ links.none;
       transfers = transfer.none;
     })
@@ -140,7 +140,7 @@ module _ (xs ys : Content) (name : List ℕ) (consistent : IsConsistent xs) (aft
         consistent = (consistent, consistent);
       }
 
-  removed : (row : table.Domain) → filter (table.domain_with_name name) xs.domains ≡ row ∷ [] → IsDomainRemoved row.id xs ys → IsDomainPut name None None xs ys
+  removed : (row : DomainRow) → filter (table.domain_with_name name) xs.domains ≡ row ∷ [] → IsDomainRemoved row.id xs ys → IsDomainPut name None None xs ys
   removed row found gone =
       let at = row_there key name_of name xs.domains row found in
       let none_now : filter (table.domain_with_name name) ys.domains ≡ [] = ap (filter (table.domain_with_name name)) gone.domains ∙ none-removed key name_of name xs.domains row found consistent.keyed.domains consistent.named.domains in
@@ -153,36 +153,36 @@ module _ (xs ys : Content) (name : List ℕ) (consistent : IsConsistent xs) (aft
       (λ r there is. absurd (nobody name ys.domains none_now r there is))
       consistent after
 
-  pub dropped : (row : Option table.Domain) → filter (table.domain_with_name name) xs.domains ≡ rows_of row → IsDomainDropped row xs ys → IsDomainPut name None None xs ys
+  pub dropped : (row : Option DomainRow) → filter (table.domain_with_name name) xs.domains ≡ rows_of row → IsDomainDropped row xs ys → IsDomainPut name None None xs ys
   dropped None found same = none_there found same
   dropped (Some row) found step = removed row found step
 
 -- ---- written into a row
 
-pub record IsWritten (beside : DerivedColumns) (d : Domain) (row : table.Domain) : Type 0 where
+pub record IsWritten (beside : DerivedColumns) (d : Domain) (row : DomainRow) : Type 0 where
   pub name : row.name ≡ d.name
   pub registrant : row.registrant ≡ beside.registrant
   pub due : row.due ≡ moment_column beside.due
   pub sponsor : row.sponsor ≡ registrar_column d.sponsor
   pub again : (k : ℤ) → row_beside k beside d ≡ Some (record row { id = k })
 
-pub written : (id : ℤ) (beside : DerivedColumns) (d : Domain) (row : table.Domain) → row_beside id beside d ≡ Some row → IsWritten beside d row
+pub written : (id : ℤ) (beside : DerivedColumns) (d : Domain) (row : DomainRow) → row_beside id beside d ≡ Some row → IsWritten beside d row
 written id beside d row e =
     let columns = step (registration_columns kinds.Domain (registration_of d)) (λ x. Some (row_with id beside.registrant beside.due d x (deletion_columns d.deletion))) row e in
     let roid = step (roid_columns kinds.Domain d.roid) (λ x. Some (columns_with (registration_of d) x)) columns.given columns.is in
     let registered : columns_with (registration_of d) roid.given ≡ columns.given = same_some (columns_with (registration_of d) roid.given) columns.given roid.rest in
     let same : row_with id beside.registrant beside.due d columns.given (deletion_columns d.deletion) ≡ row = same_some _ row columns.rest in
     record {
-      name = sym (ap (λ (r : table.Domain). r.name) same);
-      registrant = sym (ap (λ (r : table.Domain). r.registrant) same);
-      due = sym (ap (λ (r : table.Domain). r.due) same);
-      sponsor = sym ((λ i. (registered i).sponsor) ∙ ap (λ (r : table.Domain). r.sponsor) same);
-      again = λ k. (λ i. columns.is i >>= (λ x. Some (row_with k beside.registrant beside.due d x (deletion_columns d.deletion)))) ∙ ap (λ (r : table.Domain). Some (record r { id = k })) same;
+      name = sym (ap (λ (r : DomainRow). r.name) same);
+      registrant = sym (ap (λ (r : DomainRow). r.registrant) same);
+      due = sym (ap (λ (r : DomainRow). r.due) same);
+      sponsor = sym ((λ i. (registered i).sponsor) ∙ ap (λ (r : DomainRow). r.sponsor) same);
+      again = λ k. (λ i. columns.is i >>= (λ x. Some (row_with k beside.registrant beside.due d x (deletion_columns d.deletion)))) ∙ ap (λ (r : DomainRow). Some (record r { id = k })) same;
     }
 
 -- ---- put
 
-module _ (xs m b ys : Content) (beside : DerivedColumns) (d : Domain) (row : table.Domain) (consistent : IsConsistent xs) (after : IsConsistent ys) (is : IsDomain d) (registrant : contact_name xs beside.registrant ≡ Some d.links.registrant)
+module _ (xs m b ys : Content) (beside : DerivedColumns) (d : Domain) (row : DomainRow) (consistent : IsConsistent xs) (after : IsConsistent ys) (is : IsDomain d) (registrant : contact_name xs beside.registrant ≡ Some d.links.registrant)
     (placed : IsDomainPlaced d beside row xs m) (named_by : AreLinksPut row.id row.due d.links m b) (with : IsTransferPut (transferable.Domain row.id) d.transfer b ys) where
   rows_now : IsPlaced name_of d.name row xs.domains ys.domains
   rows_now = subst (IsPlaced name_of d.name row xs.domains) (sym (ap (λ (x : Content). x.domains) with.kept.rest ∙ ap (λ (x : Content). x.domains) named_by.others.rest)) placed.rows
@@ -230,6 +230,6 @@ module _ (xs m b ys : Content) (beside : DerivedColumns) (d : Domain) (row : tab
       (put-stands key name_of (domain_of xs) (domain_of ys) d.name row d xs.domains ys.domains rows_now after.keyed.domains after.named.domains reads_now (λ r was now e. reads-alike xs ys row.id kept_now r e))
       rows_now.others
       (λ r was now e. apart key name_of ys.domains row r d.name after.keyed.domains rows_now.there now rows_now.named e)
-      (λ r there same. ap Some (ap (λ (x : table.Domain). x.due) (after.named.domains r row there rows_now.there (same ∙ sym rows_now.named)) ∙ (written row.id beside d row placed.is).due))
-      (λ r there same. ap Some (ap (λ (x : table.Domain). x.sponsor) (after.named.domains r row there rows_now.there (same ∙ sym rows_now.named)) ∙ (written row.id beside d row placed.is).sponsor))
+      (λ r there same. ap Some (ap (λ (x : DomainRow). x.due) (after.named.domains r row there rows_now.there (same ∙ sym rows_now.named)) ∙ (written row.id beside d row placed.is).due))
+      (λ r there same. ap Some (ap (λ (x : DomainRow). x.sponsor) (after.named.domains r row there rows_now.there (same ∙ sym rows_now.named)) ∙ (written row.id beside d row placed.is).sponsor))
       consistent after

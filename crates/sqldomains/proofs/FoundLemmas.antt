@@ -5,6 +5,7 @@ use Rattle.std.specs.FinMap.{get}
 use Rattle.objects.specs.declared.domain.Domain.{Domain}
 use Rattle.sqltables.specs.Content.{Content}
 use Rattle.sqltables.specs.Domain as table
+use Rattle.sqltables.specs.declared.domain.DomainRow.{DomainRow}
 use Rattle.states.specs.declared.fault.BookFault.{BookFault}
 use Rattle.states.specs.States.{Finds, StateOf}
 use Rattle.sqlrows.specs.Read.{first_read}
@@ -13,10 +14,10 @@ use Rattle.sqlrows.proofs.StateLemmas.{finds-on}
 use Rattle.sqldomains.specs.Domains.{domain_of, domains_of}
 
 pub domain-named : (xs : Content) (name : List ℕ) → first_read (domain_of xs) (filter (table.domain_with_name name) xs.domains) ≡ get (domains_of xs) name
-domain-named xs name = stands (λ (r : table.Domain). r.name) (domain_of xs) name xs.domains
+domain-named xs name = stands (λ (r : DomainRow). r.name) (domain_of xs) name xs.domains
 
-pub domain-found : (s m t : StateOf Content) (given name : List ℕ) (same : given ≡ name) (r : Result (Option Domain) BookFault) (rows : List table.Domain)
-    → Finds {A = List table.Domain} (Ok rows) (filter (table.domain_with_name given) s.content.domains) s m
+pub domain-found : (s m t : StateOf Content) (given name : List ℕ) (same : given ≡ name) (r : Result (Option Domain) BookFault) (rows : List DomainRow)
+    → Finds {A = List DomainRow} (Ok rows) (filter (table.domain_with_name given) s.content.domains) s m
     → Finds r (first_read (domain_of m.content) rows) m t → Finds r (get (domains_of s.content) name) s t
 domain-found s m t given name same r rows asked found = finds-on r s m t (first_read (domain_of m.content) rows) (get (domains_of s.content) name) asked.0 (λ e.
     (λ i. first_read (domain_of (asked.0.content e i)) (asked.1 e i))

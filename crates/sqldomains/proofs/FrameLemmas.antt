@@ -16,10 +16,13 @@ use Rattle.sqlcolumns.specs.Numbers.{maybe_registrar_column}
 use Rattle.sqlcolumns.specs.Steps.{◌>>=◌}
 use Rattle.sqlcolumns.specs.Transfers.{is_same}
 use Rattle.sqltables.specs.Contact as contact_table
+use Rattle.sqltables.specs.declared.contact.ContactRow.{ContactRow}
 use Rattle.sqltables.specs.Content.{Content}
-use Rattle.sqltables.specs.Domain as table
+use Rattle.sqltables.specs.declared.domain.DomainRow.{DomainRow}
 use Rattle.sqltables.specs.Host as host_table
-use Rattle.sqltables.specs.Link.{Link, link_with_domain}
+use Rattle.sqltables.specs.declared.host.HostRow.{HostRow}
+use Rattle.sqltables.specs.Link.{link_with_domain}
+use Rattle.sqltables.specs.declared.link.LinkRow.{LinkRow}
 use Rattle.sqltables.specs.Transfer.{transfer_with_domain}
 use Rattle.sqltables.specs.inner.Consistent.{IsConsistent, LeadsTo}
 use Rattle.sqlrows.specs.Read.{named}
@@ -53,14 +56,14 @@ if-kept true x f g e = e
 if-kept false x f g e = refl
 
 module _ (xs ys : Content) (links : ys.links ≡ xs.links) (domains : ys.domains ≡ xs.domains) (transfers : (id : ℤ) → filter (transfer_with_domain id) ys.transfers ≡ filter (transfer_with_domain id) xs.transfers)
-    (registrants : (row : table.Domain) → Has xs.domains row → contact_name ys row.registrant ≡ contact_name xs row.registrant)
-    (names : (row : Link) → Has xs.links row → (role : Role) → linked_name ys role row.contact row.host ≡ linked_name xs role row.contact row.host) where
-  links-where : (rows : List Link) → ((row : Link) → Has rows row → Has xs.links row) → (l : Links) → with_links ys l rows ≡ with_links xs l rows
+    (registrants : (row : DomainRow) → Has xs.domains row → contact_name ys row.registrant ≡ contact_name xs row.registrant)
+    (names : (row : LinkRow) → Has xs.links row → (role : Role) → linked_name ys role row.contact row.host ≡ linked_name xs role row.contact row.host) where
+  links-where : (rows : List LinkRow) → ((row : LinkRow) → Has rows row → Has xs.links row) → (l : Links) → with_links ys l rows ≡ with_links xs l rows
   links-where [] there l = refl
   links-where (row ∷ rows) there l =
       λ i. (role_in row.role >>= (λ r. names row (there row (inl refl)) r i >>= (λ n. Some (with_name l r n)))) >>= (λ n. links-where rows (λ r h. there r (inr h)) n i)
 
-  reads-same : (row : table.Domain) → Has xs.domains row → domain_of ys row ≡ domain_of xs row
+  reads-same : (row : DomainRow) → Has xs.domains row → domain_of ys row ≡ domain_of xs row
   reads-same row there =
       λ i. (registrants row there i >>= (λ a.
       (ap (λ ls. dated row.due (filter (link_with_domain row.id) ls) >>= (λ rows. with_links ys (registrant_alone a) rows)) links
@@ -75,13 +78,13 @@ module _ (xs ys : Content) (links : ys.links ≡ xs.links) (domains : ys.domains
 
 -- ---- a contact put
 
-contact-there : (xs : Content) (row : contact_table.Contact) (id : ℤ) → IsConsistent xs → Has xs.contacts row → row.id ≡ id → contact_name xs id ≡ Some row.name
+contact-there : (xs : Content) (row : ContactRow) (id : ℤ) → IsConsistent xs → Has xs.contacts row → row.id ≡ id → contact_name xs id ≡ Some row.name
 contact-there xs row id consistent there is =
-    ap (contact_name xs) (sym is) ∙ ap (option_map (λ (r : contact_table.Contact). r.name)) (get_by-has contact_table.contacts.key xs.contacts row consistent.keyed.contacts there)
+    ap (contact_name xs) (sym is) ∙ ap (option_map (λ (r : ContactRow). r.name)) (get_by-has contact_table.contacts.key xs.contacts row consistent.keyed.contacts there)
 
-host-there : (xs : Content) (row : host_table.Host) (id : ℤ) → IsConsistent xs → Has xs.hosts row → row.id ≡ id → host_name xs id ≡ Some row.name
+host-there : (xs : Content) (row : HostRow) (id : ℤ) → IsConsistent xs → Has xs.hosts row → row.id ≡ id → host_name xs id ≡ Some row.name
 host-there xs row id consistent there is =
-    ap (host_name xs) (sym is) ∙ ap (option_map (λ (r : host_table.Host). r.name)) (get_by-has host_table.hosts.key xs.hosts row consistent.keyed.hosts there)
+    ap (host_name xs) (sym is) ∙ ap (option_map (λ (r : HostRow). r.name)) (get_by-has host_table.hosts.key xs.hosts row consistent.keyed.hosts there)
 
 module _ (name : List ℕ) (value : Option Contact) (xs ys : Content) (put : IsContactPut name value xs ys) where
   -- a number that something refers to before and after
@@ -94,17 +97,17 @@ module _ (name : List ℕ) (value : Option Contact) (xs ys : Content) (put : IsC
       let after = contact-there ys new.0 id put.consistent.1 new.1 new.2 in
       after ∙ ap Some (sym (put.names id old.0.name new.0.name before after)) ∙ sym before
 
-  contact-registrants : (row : table.Domain) → Has xs.domains row → contact_name ys row.registrant ≡ contact_name xs row.registrant
+  contact-registrants : (row : DomainRow) → Has xs.domains row → contact_name ys row.registrant ≡ contact_name xs row.registrant
   contact-registrants row there =
-      same-contact xs.domains ys.domains (λ (x : table.Domain). Some x.registrant) row row.registrant put.consistent.0.linked.domain_registrant put.consistent.1.linked.domain_registrant put.domains there refl
+      same-contact xs.domains ys.domains (λ (x : DomainRow). Some x.registrant) row row.registrant put.consistent.0.linked.domain_registrant put.consistent.1.linked.domain_registrant put.domains there refl
 
-  contact-names : (row : Link) → Has xs.links row → (role : Role) → linked_name ys role row.contact row.host ≡ linked_name xs role row.contact row.host
+  contact-names : (row : LinkRow) → Has xs.links row → (role : Role) → linked_name ys role row.contact row.host ≡ linked_name xs role row.contact row.host
   contact-names row there role =
       name-where xs ys role row.contact row.host
-      (λ id is. same-contact xs.links ys.links (λ (x : Link). x.contact) row id put.consistent.0.linked.link_contact put.consistent.1.linked.link_contact put.links there is)
+      (λ id is. same-contact xs.links ys.links (λ (x : LinkRow). x.contact) row id put.consistent.0.linked.link_contact put.consistent.1.linked.link_contact put.links there is)
       (λ id is. ap (λ rows. host_name (record ys { hosts = rows }) id) put.host_rows)
 
-  pub contact-leaves-reading : (row : table.Domain) → Has xs.domains row → domain_of ys row ≡ domain_of xs row
+  pub contact-leaves-reading : (row : DomainRow) → Has xs.domains row → domain_of ys row ≡ domain_of xs row
   contact-leaves-reading = reads-same xs ys put.links put.domains put.transfers contact-registrants contact-names
 
   pub contact-leaves-domains : domains_of ys ≡ domains_of xs
@@ -113,7 +116,7 @@ module _ (name : List ℕ) (value : Option Contact) (xs ys : Content) (put : IsC
 -- ---- a host put
 
 module _ (name : List ℕ) (value : Option Host) (xs ys : Content) (put : IsHostPut name value xs ys) where
-  host-names : (row : Link) → Has xs.links row → (role : Role) → linked_name ys role row.contact row.host ≡ linked_name xs role row.contact row.host
+  host-names : (row : LinkRow) → Has xs.links row → (role : Role) → linked_name ys role row.contact row.host ≡ linked_name xs role row.contact row.host
   host-names row there role =
       name-where xs ys role row.contact row.host
       (λ id is. ap (λ rows. contact_name (record ys { contacts = rows }) id) put.contact_rows)
@@ -124,13 +127,13 @@ module _ (name : List ℕ) (value : Option Host) (xs ys : Content) (put : IsHost
       let after = host-there ys new.0 id put.consistent.1 new.1 new.2 in
       after ∙ ap Some (sym (put.names id old.0.name new.0.name before after)) ∙ sym before)
 
-  host-registrants : (row : table.Domain) → Has xs.domains row → contact_name ys row.registrant ≡ contact_name xs row.registrant
+  host-registrants : (row : DomainRow) → Has xs.domains row → contact_name ys row.registrant ≡ contact_name xs row.registrant
   host-registrants row there = ap (λ rows. contact_name (record ys { contacts = rows }) row.registrant) put.contact_rows
 
   host-transfers : (id : ℤ) → filter (transfer_with_domain id) ys.transfers ≡ filter (transfer_with_domain id) xs.transfers
   host-transfers id = ap (filter (transfer_with_domain id)) put.transfers
 
-  pub host-leaves-reading : (row : table.Domain) → Has xs.domains row → domain_of ys row ≡ domain_of xs row
+  pub host-leaves-reading : (row : DomainRow) → Has xs.domains row → domain_of ys row ≡ domain_of xs row
   host-leaves-reading = reads-same xs ys put.links put.domains host-transfers host-registrants host-names
 
   pub host-leaves-domains : domains_of ys ≡ domains_of xs
@@ -138,16 +141,16 @@ module _ (name : List ℕ) (value : Option Host) (xs ys : Content) (put : IsHost
 
 -- ---- hosts that take a domain's sponsor
 
-abbrev name_in : Option host_table.Host → Option (List ℕ)
-name_in o = option_map (λ (r : host_table.Host). r.name) o
+abbrev name_in : Option HostRow → Option (List ℕ)
+name_in o = option_map (λ (r : HostRow). r.name) o
 
 -- the rows have the numbers and names that they had
-names-kept : (above : List ℕ) (sponsor : Option ℤ) (rows : List host_table.Host) (id : ℤ)
+names-kept : (above : List ℕ) (sponsor : Option ℤ) (rows : List HostRow) (id : ℤ)
     → name_in (get_by host_table.hosts.key (map (with_sponsor above sponsor) rows) id) ≡ name_in (get_by host_table.hosts.key rows id)
 names-kept above sponsor [] id = refl
 names-kept above sponsor (row ∷ rows) id = go (takes_sponsor above row) (names-kept above sponsor rows id)
   where
-    at : (b : Bool) (r : host_table.Host) (o p : Option host_table.Host) → r.name ≡ row.name → name_in o ≡ name_in p → name_in (cond b (Some r) o) ≡ name_in (cond b (Some row) p)
+    at : (b : Bool) (r : HostRow) (o p : Option HostRow) → r.name ≡ row.name → name_in o ≡ name_in p → name_in (cond b (Some r) o) ≡ name_in (cond b (Some row) p)
     at true r o p same more = ap Some same
     at false r o p same more = more
 
@@ -167,16 +170,16 @@ module _ (above : List ℕ) (after : Option ℕ) (xs ys : Content) (it : IsSpons
           ap (λ rows. name_in (get_by host_table.hosts.key rows id)) (it.moves e).has
           ∙ names-kept above (maybe_registrar_column after) xs.hosts id
 
-  sponsor-linked : (row : Link) → Has xs.links row → (role : Role) → linked_name ys role row.contact row.host ≡ linked_name xs role row.contact row.host
+  sponsor-linked : (row : LinkRow) → Has xs.links row → (role : Role) → linked_name ys role row.contact row.host ≡ linked_name xs role row.contact row.host
   sponsor-linked row there role = name-where xs ys role row.contact row.host (λ id is. ap (λ (x : Content). contact_name x id) it.rest) (λ id is. sponsor-names id)
 
-  sponsor-registrants : (row : table.Domain) → Has xs.domains row → contact_name ys row.registrant ≡ contact_name xs row.registrant
+  sponsor-registrants : (row : DomainRow) → Has xs.domains row → contact_name ys row.registrant ≡ contact_name xs row.registrant
   sponsor-registrants row there = ap (λ (x : Content). contact_name x row.registrant) it.rest
 
   sponsor-transfers : (id : ℤ) → filter (transfer_with_domain id) ys.transfers ≡ filter (transfer_with_domain id) xs.transfers
   sponsor-transfers id = ap (λ (x : Content). filter (transfer_with_domain id) x.transfers) it.rest
 
-  pub sponsors-leave-reading : (row : table.Domain) → Has xs.domains row → domain_of ys row ≡ domain_of xs row
+  pub sponsors-leave-reading : (row : DomainRow) → Has xs.domains row → domain_of ys row ≡ domain_of xs row
   sponsors-leave-reading = reads-same xs ys (ap (λ (x : Content). x.links) it.rest) (ap (λ (x : Content). x.domains) it.rest) sponsor-transfers sponsor-registrants sponsor-linked
 
   pub sponsors-leave-domains : domains_of ys ≡ domains_of xs

@@ -10,11 +10,12 @@ use Rattle.objects.specs.declared.domain.Domain.{Domain}
 use Rattle.objects.specs.declared.domain.Links.{Links}
 use Rattle.objects.specs.Links.{has_name, names_contact, names_host}
 use Rattle.sqlcolumns.specs.declared.code.Role.{Role}
-use Rattle.sqltables.specs.Contact as contact_table
+use Rattle.sqltables.specs.declared.contact.ContactRow.{ContactRow}
 use Rattle.sqltables.specs.Content.{Content}
-use Rattle.sqltables.specs.Domain as table
-use Rattle.sqltables.specs.Host as host_table
-use Rattle.sqltables.specs.Link.{Link, link_with_domain}
+use Rattle.sqltables.specs.declared.domain.DomainRow.{DomainRow}
+use Rattle.sqltables.specs.declared.host.HostRow.{HostRow}
+use Rattle.sqltables.specs.Link.{link_with_domain}
+use Rattle.sqltables.specs.declared.link.LinkRow.{LinkRow}
 use Rattle.sqlobjects.specs.Changes.{contact_name}
 use Rattle.sqlobjects.proofs.PutLemmas.{has-filter}
 use Rattle.sqldomains.specs.Domains.{domain_of, linked_name, registrant_alone, with_name}
@@ -23,46 +24,46 @@ use Rattle.sqldomains.proofs.LinkedLemmas.{LeadsToContact, LeadsToHost, Naming, 
 use Rattle.sqlobjects.proofs.VerdictLemmas.{each-passes}
 
 -- a link of a domain's row leads to the contact, or the host, with this number, and says when the domain is due
-pub record LinksContact (xs : Content) (row : table.Domain) (id : ℤ) : Type 0 where
-  pub link : Link
+pub record LinksContact (xs : Content) (row : DomainRow) (id : ℤ) : Type 0 where
+  pub link : LinkRow
   pub there : Has xs.links link
   pub domain : link.domain ≡ row.id
   pub contact : link.contact ≡ Some id
   pub due : link.due ≡ row.due
 
-pub record LinksHost (xs : Content) (row : table.Domain) (id : ℤ) : Type 0 where
-  pub link : Link
+pub record LinksHost (xs : Content) (row : DomainRow) (id : ℤ) : Type 0 where
+  pub link : LinkRow
   pub there : Has xs.links link
   pub domain : link.domain ≡ row.id
   pub host : link.host ≡ Some id
   pub due : link.due ≡ row.due
 
 -- the row of a contact that has the name, which is the registrant's or linked
-pub record NamesContact (xs : Content) (row : table.Domain) (name : List ℕ) : Type 0 where
-  pub contact : contact_table.Contact
+pub record NamesContact (xs : Content) (row : DomainRow) (name : List ℕ) : Type 0 where
+  pub contact : ContactRow
   pub there : Has xs.contacts contact
   pub named : contact.name ≡ name
   pub way : (row.registrant ≡ contact.id) ⊎ LinksContact xs row contact.id
 
-pub record NamesHost (xs : Content) (row : table.Domain) (name : List ℕ) : Type 0 where
-  pub host : host_table.Host
+pub record NamesHost (xs : Content) (row : DomainRow) (name : List ℕ) : Type 0 where
+  pub host : HostRow
   pub there : Has xs.hosts host
   pub named : host.name ≡ name
   pub way : LinksHost xs row host.id
 
-module _ (xs : Content) (row : table.Domain) (d : Domain) (reads : domain_of xs row ≡ Some d) (name : List ℕ) where
+module _ (xs : Content) (row : DomainRow) (d : Domain) (reads : domain_of xs row ≡ Some d) (name : List ℕ) where
   is : Naming xs row d.links
   is = naming xs row d reads
 
-  dated-so : (l : Link) → Has (filter (link_with_domain row.id) xs.links) l → l.due ≡ row.due
-  dated-so l there = same_int l.due row.due (each-passes (λ (x : Link). int_eq x.due row.due) (filter (link_with_domain row.id) xs.links) is.all_dated l there)
+  dated-so : (l : LinkRow) → Has (filter (link_with_domain row.id) xs.links) l → l.due ≡ row.due
+  dated-so l there = same_int l.due row.due (each-passes (λ (x : LinkRow). int_eq x.due row.due) (filter (link_with_domain row.id) xs.links) is.all_dated l there)
 
-  listed-leads : (pick : Links → List (List ℕ)) (Leads : Link → Type 0) → ((r : List ℕ) → has_name (pick (registrant_alone r)) name ≡ false)
-      → ((l : Links) (r : Link) (role : Role) (new : List ℕ) → linked_name xs role r.contact r.host ≡ Some new → has_name (pick (with_name l role new)) name ≡ true → (has_name (pick l) name ≡ true) ⊎ Leads r)
-      → has_name (pick d.links) name ≡ true → (l : Link) × Has (filter (link_with_domain row.id) xs.links) l × Leads l
+  listed-leads : (pick : Links → List (List ℕ)) (Leads : LinkRow → Type 0) → ((r : List ℕ) → has_name (pick (registrant_alone r)) name ≡ false)
+      → ((l : Links) (r : LinkRow) (role : Role) (new : List ℕ) → linked_name xs role r.contact r.host ≡ Some new → has_name (pick (with_name l role new)) name ≡ true → (has_name (pick l) name ≡ true) ⊎ Leads r)
+      → has_name (pick d.links) name ≡ true → (l : LinkRow) × Has (filter (link_with_domain row.id) xs.links) l × Leads l
   listed-leads pick Leads none more has = go (all-rows xs name pick Leads more (filter (link_with_domain row.id) xs.links) (registrant_alone is.registrant) d.links is.all has)
     where
-      go : (has_name (pick (registrant_alone is.registrant)) name ≡ true) ⊎ ((l : Link) × Has (filter (link_with_domain row.id) xs.links) l × Leads l) → (l : Link) × Has (filter (link_with_domain row.id) xs.links) l × Leads l
+      go : (has_name (pick (registrant_alone is.registrant)) name ≡ true) ⊎ ((l : LinkRow) × Has (filter (link_with_domain row.id) xs.links) l × Leads l) → (l : LinkRow) × Has (filter (link_with_domain row.id) xs.links) l × Leads l
       go (inl before) = absurd (true≢false (sym before ∙ none is.registrant))
       go (inr found) = found
 
@@ -72,7 +73,7 @@ module _ (xs : Content) (row : table.Domain) (d : Domain) (reads : domain_of xs 
       let it = row-of-contact xs name row.registrant at in
       record { contact = it.0; there = it.1; named = it.2; way = inl (sym it.3) }
 
-  by-link : (l : Link) × Has (filter (link_with_domain row.id) xs.links) l × LeadsToContact xs name l → NamesContact xs row name
+  by-link : (l : LinkRow) × Has (filter (link_with_domain row.id) xs.links) l × LeadsToContact xs name l → NamesContact xs row name
   by-link found =
       let l = found.0 in
       let there = has-filter (link_with_domain row.id) xs.links l found.1 in

@@ -13,11 +13,14 @@ use Rattle.sqlcolumns.specs.Codes.{role_in}
 use Rattle.sqlcolumns.specs.Steps.{◌>>=◌}
 use Rattle.sqlcolumns.proofs.CodeLemmas.{role_back}
 use Rattle.sqltables.specs.Contact as contact_table
+use Rattle.sqltables.specs.declared.contact.ContactRow.{ContactRow}
 use Rattle.sqltables.specs.Content.{Content}
 use Rattle.sqltables.specs.inner.Content.{links_to}
 use Rattle.sqltables.specs.Host as host_table
+use Rattle.sqltables.specs.declared.host.HostRow.{HostRow}
 use Rattle.sqltables.specs.Link as table
-use Rattle.sqltables.specs.Link.{Link, link_with_domain}
+use Rattle.sqltables.specs.Link.{link_with_domain}
+use Rattle.sqltables.specs.declared.link.LinkRow.{LinkRow}
 use Rattle.sqltables.specs.inner.Consistent.{IsConsistent}
 use Rattle.sqlobjects.specs.Changes.{contact_name, host_name}
 use Rattle.sqlobjects.proofs.PutLemmas.{filter-append, filter-append_pass, filter-delete, filter-deleted, get_by-has}
@@ -41,10 +44,10 @@ module _ (xs ys : Content) (contacts : (id : ℤ) → contact_name ys id ≡ con
   name-alike roles.Tech (Some id) (Some h) = refl
   name-alike roles.Tech None host = refl
 
-  link-alike : (l : Links) (row : Link) → with_link ys l row ≡ with_link xs l row
+  link-alike : (l : Links) (row : LinkRow) → with_link ys l row ≡ with_link xs l row
   link-alike l row = λ i. role_in row.role >>= (λ r. name-alike r row.contact row.host i >>= (λ n. Some (with_name l r n)))
 
-  pub links-alike : (rows : List Link) (l : Links) → with_links ys l rows ≡ with_links xs l rows
+  pub links-alike : (rows : List LinkRow) (l : Links) → with_links ys l rows ≡ with_links xs l rows
   links-alike [] l = refl
   links-alike (row ∷ rows) l = λ i. link-alike l row i >>= (λ n. links-alike rows n i)
 
@@ -58,19 +61,19 @@ bind-assoc : {A B C : Type 0} (o : Option A) (f : A → Option B) (g : B → Opt
 bind-assoc None f g = refl
 bind-assoc (Some x) f g = refl
 
-with-more : (xs : Content) (rows : List Link) (l : Links) (row : Link) → with_links xs l (rows ++ row ∷ []) ≡ with_links xs l rows >>= (λ m. with_link xs m row)
+with-more : (xs : Content) (rows : List LinkRow) (l : Links) (row : LinkRow) → with_links xs l (rows ++ row ∷ []) ≡ with_links xs l rows >>= (λ m. with_link xs m row)
 with-more xs [] l row = bind-some (with_link xs l row)
 with-more xs (r ∷ rows) l row =
     (λ i. with_link xs l r >>= (λ n. with-more xs rows n row i))
     ∙ sym (bind-assoc (with_link xs l r) (λ n. with_links xs n rows) (λ m. with_link xs m row))
 
-one-leads : (xs : Content) (id due k : ℤ) (role : Role) (name : List ℕ) (row : Link) (m : Links) → IsLinkTo xs id due role name row → with_link xs m (record row { id = k }) ≡ Some (with_name m role name)
+one-leads : (xs : Content) (id due k : ℤ) (role : Role) (name : List ℕ) (row : LinkRow) (m : Links) → IsLinkTo xs id due role name row → with_link xs m (record row { id = k }) ≡ Some (with_name m role name)
 one-leads xs id due k role name row m is =
     (λ i. (ap role_in is.role_is ∙ role_back role) i >>= (λ r. linked_name xs r row.contact row.host >>= (λ n. Some (with_name m r n))))
     ∙ (λ i. is.leads i >>= (λ n. Some (with_name m role n)))
 
 -- one more that says so
-dated-more : (due : ℤ) (rows : List Link) (row : Link) → are_dated due rows ≡ true → row.due ≡ due → are_dated due (rows ++ row ∷ []) ≡ true
+dated-more : (due : ℤ) (rows : List LinkRow) (row : LinkRow) → are_dated due rows ≡ true → row.due ≡ due → are_dated due (rows ++ row ∷ []) ≡ true
 dated-more due [] row all is = ap (λ b. b && true) ((Decides-int_eq row.due due).1 is)
 dated-more due (r ∷ rows) row all is = go (int_eq r.due due) (are_dated due rows) all (λ e. dated-more due rows row e is)
   where
@@ -79,11 +82,11 @@ dated-more due (r ∷ rows) row all is = go (int_eq r.due due) (are_dated due ro
     go true false e more = cc
     go false b e more = cc
 
-pub name-added : (id due : ℤ) (role : Role) (name : List ℕ) (xs : Content) (row : Link) → IsLinkTo xs id due role name row
+pub name-added : (id due : ℤ) (role : Role) (name : List ℕ) (xs : Content) (row : LinkRow) → IsLinkTo xs id due role name row
     → AreNamesAdded id due role (name ∷ []) xs (links_to (appended table.links (λ k. record row { id = k })) xs)
 name-added id due role name xs row is =
     let k = next_key table.links.key xs.links in
-    let new : Link = record row { id = k } in
+    let new : LinkRow = record row { id = k } in
     let ys : Content = links_to (appended table.links (λ k. record row { id = k })) xs in
     let more : filter (link_with_domain id) ys.links ≡ filter (link_with_domain id) xs.links ++ new ∷ [] = filter-append_pass (link_with_domain id) xs.links new ((Decides-int_eq row.domain id).1 is.domain) in
     record {
@@ -172,14 +175,14 @@ links-replaced id due number l a b c same clear added so any =
 
 -- ---- rows that stay
 
-abbrev due_then : ℤ → Link → Link
+abbrev due_then : ℤ → LinkRow → LinkRow
 due_then due row = record row { due = due }
 
 module _ (id due : ℤ) where
-  abbrev updated : List Link → List Link
+  abbrev updated : List LinkRow → List LinkRow
   updated rows = update_where (link_with_domain id) (due_then due) rows
 
-  updated-here : (rows : List Link) → filter (link_with_domain id) (updated rows) ≡ map (due_then due) (filter (link_with_domain id) rows)
+  updated-here : (rows : List LinkRow) → filter (link_with_domain id) (updated rows) ≡ map (due_then due) (filter (link_with_domain id) rows)
   updated-here [] = refl
   updated-here (row ∷ rows) = go (link_with_domain id row) refl (updated-here rows)
     where
@@ -188,7 +191,7 @@ module _ (id due : ℤ) where
       go true e more = ap (λ (b : Bool). cond b (due_then due row ∷ filter (link_with_domain id) (updated rows)) (filter (link_with_domain id) (updated rows))) e ∙ ap (λ l. due_then due row ∷ l) more
       go false e more = ap (λ (b : Bool). cond b (row ∷ filter (link_with_domain id) (updated rows)) (filter (link_with_domain id) (updated rows))) e ∙ more
 
-  updated-others : (other : ℤ) → int_eq id other ≡ false → (rows : List Link) → filter (link_with_domain other) (updated rows) ≡ filter (link_with_domain other) rows
+  updated-others : (other : ℤ) → int_eq id other ≡ false → (rows : List LinkRow) → filter (link_with_domain other) (updated rows) ≡ filter (link_with_domain other) rows
   updated-others other apart [] = refl
   updated-others other apart (row ∷ rows) = go (link_with_domain id row) refl (updated-others other apart rows)
     where
@@ -201,11 +204,11 @@ module _ (id due : ℤ) where
       go false e more = ap (λ l. cond (link_with_domain other row) (row ∷ l) l) more
 
   -- where rows lead doesn't hang on when they are due
-  lead-alike : (xs : Content) (rows : List Link) (l : Links) → with_links xs l (map (due_then due) rows) ≡ with_links xs l rows
+  lead-alike : (xs : Content) (rows : List LinkRow) (l : Links) → with_links xs l (map (due_then due) rows) ≡ with_links xs l rows
   lead-alike xs [] l = refl
   lead-alike xs (row ∷ rows) l = λ i. with_link xs l row >>= (λ n. lead-alike xs rows n i)
 
-  all-dated : (rows : List Link) → are_dated due (map (due_then due) rows) ≡ true
+  all-dated : (rows : List LinkRow) → are_dated due (map (due_then due) rows) ≡ true
   all-dated [] = refl
   all-dated (row ∷ rows) = ap (λ b. b && are_dated due (map (due_then due) rows)) ((Decides-int_eq due due).1 refl) ∙ all-dated rows
 
@@ -226,8 +229,8 @@ module _ (id due : ℤ) where
 
 pub contact-of-number : (xs : Content) (name : List ℕ) (id : ℤ) → IsConsistent xs → IsNumberOfContact xs name (Some id) → contact_name xs id ≡ Some name
 contact-of-number xs name id consistent it =
-    ap (contact_name xs) (sym it.3) ∙ ap (option_map (λ (r : contact_table.Contact). r.name)) (get_by-has contact_table.contacts.key xs.contacts it.0 consistent.keyed.contacts it.1) ∙ ap Some it.2
+    ap (contact_name xs) (sym it.3) ∙ ap (option_map (λ (r : ContactRow). r.name)) (get_by-has contact_table.contacts.key xs.contacts it.0 consistent.keyed.contacts it.1) ∙ ap Some it.2
 
 pub host-of-number : (xs : Content) (name : List ℕ) (id : ℤ) → IsConsistent xs → IsNumberOfHost xs name (Some id) → host_name xs id ≡ Some name
 host-of-number xs name id consistent it =
-    ap (host_name xs) (sym it.3) ∙ ap (option_map (λ (r : host_table.Host). r.name)) (get_by-has host_table.hosts.key xs.hosts it.0 consistent.keyed.hosts it.1) ∙ ap Some it.2
+    ap (host_name xs) (sym it.3) ∙ ap (option_map (λ (r : HostRow). r.name)) (get_by-has host_table.hosts.key xs.hosts it.0 consistent.keyed.hosts it.1) ∙ ap Some it.2

@@ -26,8 +26,9 @@ use Rattle.sqlcolumns.proofs.ReadLemmas.{kept, same_some, step}
 use Rattle.objects.specs.declared.roid.ObjectKind.TheVariants as kinds
 use Rattle.sqltables.specs.Content.{Content}
 use Rattle.sqltables.specs.Domain as table
-use Rattle.sqltables.specs.inner.Domain as inner_table
-use Rattle.sqltables.specs.Link.{Link, link_with_domain}
+use Rattle.sqltables.specs.declared.domain.DomainRow.{DomainRow}
+use Rattle.sqltables.specs.Link.{link_with_domain}
+use Rattle.sqltables.specs.declared.link.LinkRow.{LinkRow}
 use Rattle.sqltables.specs.Transfer.{transfer_with_domain}
 use Rattle.sqltables.specs.inner.Consistent.{IsConsistent}
 use Rattle.sqlrows.specs.Read.{first_read, or_else}
@@ -54,22 +55,22 @@ module _ (xs : Content) (test : Domain → Bool) where
   each-any (e ∷ es) all = ap (λ b. b || list_any test (map (λ (f : List ℕ × Domain). f.1) es)) all.0 ∙ each-any es all.1
 
   -- where no row's domain passes, none does
-  pub none-passes : ((row : table.Domain) (d : Domain) → Has xs.domains row → domain_of xs row ≡ Some d → test d ≡ false) → list_any test (values (domains_of xs)) ≡ false
+  pub none-passes : ((row : DomainRow) (d : Domain) → Has xs.domains row → domain_of xs row ≡ Some d → test d ≡ false) → list_any test (values (domains_of xs)) ≡ false
   none-passes fails =
       each-any (entries (domains_of xs)) (each_entry (slice_cmp nat_cmp) nat_list_cmp_total (slice_cmp-IsAntisymmetric nat_cmp-IsAntisymmetric) (λ k d. test d ≡ false) (domains_of xs) (λ k d found.
       let it = first-has (domain_of xs) (filter (table.domain_with_name k) xs.domains) d (domain-named xs k ∙ found) in
       fails it.0 d (has-filter (table.domain_with_name k) xs.domains it.0 it.1).0 it.2))
 
   -- where the domain of a row passes, one does
-  pub one-passes : IsConsistent xs → (row : table.Domain) (d : Domain) → Has xs.domains row → domain_of xs row ≡ Some d → test d ≡ true → list_any test (values (domains_of xs)) ≡ true
+  pub one-passes : IsConsistent xs → (row : DomainRow) (d : Domain) → Has xs.domains row → domain_of xs row ≡ Some d → test d ≡ true → list_any test (values (domains_of xs)) ≡ true
   one-passes consistent row d there reads passes =
-      let alone = only_named inner_table.domains.key (λ (r : table.Domain). r.name) xs.domains row consistent.keyed.domains consistent.named.domains there in
+      let alone = only_named table.domains.key (λ (r : DomainRow). r.name) xs.domains row consistent.keyed.domains consistent.named.domains there in
       let found : get (domains_of xs) row.name ≡ Some d = sym (domain-named xs row.name) ∙ ap (first_read (domain_of xs)) alone ∙ ap (λ o. or_else o None) reads in
       among_values (slice_cmp nat_cmp) test (domains_of xs) row.name d passes found
 
 -- ---- what the domain of a row names
 
-links-read : (row : table.Domain) (links : Links) (transfer : Option _) (d : Domain) → domain_in row links transfer ≡ Some d → links ≡ d.links
+links-read : (row : DomainRow) (links : Links) (transfer : Option _) (d : Domain) → domain_in row links transfer ≡ Some d → links ≡ d.links
 links-read row links transfer d e =
     let r = step (registration_in kinds.Domain (columns_of row)) _ d e in
     let y = step (years_in row.years) _ d r.rest in
@@ -77,13 +78,13 @@ links-read row links transfer d e =
     let x = step (deletion_in row.deleted row.restore_requested) _ d s.rest in
     ap (λ (z : Domain). z.links) (same_some _ d x.rest)
 
-pub record Naming (xs : Content) (row : table.Domain) (links : Links) : Type 0 where
+pub record Naming (xs : Content) (row : DomainRow) (links : Links) : Type 0 where
   pub registrant : List ℕ
   pub registrant_is : contact_name xs row.registrant ≡ Some registrant
   pub all : with_links xs (registrant_alone registrant) (filter (link_with_domain row.id) xs.links) ≡ Some links
   pub all_dated : are_dated row.due (filter (link_with_domain row.id) xs.links) ≡ true
 
-pub naming : (xs : Content) (row : table.Domain) (d : Domain) → domain_of xs row ≡ Some d → Naming xs row d.links
+pub naming : (xs : Content) (row : DomainRow) (d : Domain) → domain_of xs row ≡ Some d → Naming xs row d.links
 naming xs row d e =
     let links = step (links_of xs row) _ d e in
     let transfer = step (last_transfer (filter (transfer_with_domain row.id) xs.transfers)) _ d links.rest in
@@ -121,29 +122,29 @@ not_true true never = absurd (never refl)
 not_true false never = refl
 
 -- a row leads to a contact, or a host, of this name
-abbrev pub LeadsToContact : Content → List ℕ → Link → Type 0
+abbrev pub LeadsToContact : Content → List ℕ → LinkRow → Type 0
 LeadsToContact xs name row = (id : ℤ) × (row.contact ≡ Some id) × (contact_name xs id ≡ Some name)
 
-abbrev pub LeadsToHost : Content → List ℕ → Link → Type 0
+abbrev pub LeadsToHost : Content → List ℕ → LinkRow → Type 0
 LeadsToHost xs name row = (id : ℤ) × (row.host ≡ Some id) × (host_name xs id ≡ Some name)
 
-admin-leads : (xs : Content) (row : Link) (contact host : Option ℤ) (new : List ℕ) → row.contact ≡ contact → linked_name xs roles.Admin contact host ≡ Some new → LeadsToContact xs new row
+admin-leads : (xs : Content) (row : LinkRow) (contact host : Option ℤ) (new : List ℕ) → row.contact ≡ contact → linked_name xs roles.Admin contact host ≡ Some new → LeadsToContact xs new row
 admin-leads xs row (Some id) None new at e = (id, at, e)
 admin-leads xs row (Some id) (Some h) new at e = cc
 admin-leads xs row None host new at e = cc
 
-tech-leads : (xs : Content) (row : Link) (contact host : Option ℤ) (new : List ℕ) → row.contact ≡ contact → linked_name xs roles.Tech contact host ≡ Some new → LeadsToContact xs new row
+tech-leads : (xs : Content) (row : LinkRow) (contact host : Option ℤ) (new : List ℕ) → row.contact ≡ contact → linked_name xs roles.Tech contact host ≡ Some new → LeadsToContact xs new row
 tech-leads xs row (Some id) None new at e = (id, at, e)
 tech-leads xs row (Some id) (Some h) new at e = cc
 tech-leads xs row None host new at e = cc
 
-host-leads : (xs : Content) (row : Link) (contact host : Option ℤ) (new : List ℕ) → row.host ≡ host → linked_name xs roles.Host contact host ≡ Some new → LeadsToHost xs new row
+host-leads : (xs : Content) (row : LinkRow) (contact host : Option ℤ) (new : List ℕ) → row.host ≡ host → linked_name xs roles.Host contact host ≡ Some new → LeadsToHost xs new row
 host-leads xs row None (Some id) new at e = (id, at, e)
 host-leads xs row None None new at e = cc
 host-leads xs row (Some c) host new at e = cc
 
 -- one name more, in its list
-module _ (xs : Content) (name : List ℕ) (l : Links) (row : Link) where
+module _ (xs : Content) (name : List ℕ) (l : Links) (row : LinkRow) where
   pub admin-more : (role : Role) (new : List ℕ) → linked_name xs role row.contact row.host ≡ Some new → has_name (with_name l role new).admin name ≡ true → (has_name l.admin name ≡ true) ⊎ LeadsToContact xs name row
   admin-more roles.Admin new e has = go (is_there name l.admin new has)
     where
@@ -176,30 +177,30 @@ registrant-more l roles.Admin new = refl
 registrant-more l roles.Tech new = refl
 registrant-more l roles.Host new = refl
 
-module _ (xs : Content) (name : List ℕ) (pick : Links → List (List ℕ)) (Leads : Link → Type 0)
-    (more : (l : Links) (row : Link) (role : Role) (new : List ℕ) → linked_name xs role row.contact row.host ≡ Some new → has_name (pick (with_name l role new)) name ≡ true → (has_name (pick l) name ≡ true) ⊎ Leads row) where
-  one-row : (l n : Links) (row : Link) → with_link xs l row ≡ Some n → has_name (pick n) name ≡ true → (has_name (pick l) name ≡ true) ⊎ Leads row
+module _ (xs : Content) (name : List ℕ) (pick : Links → List (List ℕ)) (Leads : LinkRow → Type 0)
+    (more : (l : Links) (row : LinkRow) (role : Role) (new : List ℕ) → linked_name xs role row.contact row.host ≡ Some new → has_name (pick (with_name l role new)) name ≡ true → (has_name (pick l) name ≡ true) ⊎ Leads row) where
+  one-row : (l n : Links) (row : LinkRow) → with_link xs l row ≡ Some n → has_name (pick n) name ≡ true → (has_name (pick l) name ≡ true) ⊎ Leads row
   one-row l n row e has =
       let role = step (role_in row.role) (λ r. linked_name xs r row.contact row.host >>= (λ m. Some (with_name l r m))) n e in
       let new = step (linked_name xs role.given row.contact row.host) (λ m. Some (with_name l role.given m)) n role.rest in
       more l row role.given new.given new.is (ap (λ z. has_name (pick z) name) (same_some _ n new.rest) ∙ has)
 
   -- a name in the list was there before, or a row leads to it
-  pub all-rows : (rows : List Link) (l m : Links) → with_links xs l rows ≡ Some m → has_name (pick m) name ≡ true → (has_name (pick l) name ≡ true) ⊎ ((row : Link) × Has rows row × Leads row)
+  pub all-rows : (rows : List LinkRow) (l m : Links) → with_links xs l rows ≡ Some m → has_name (pick m) name ≡ true → (has_name (pick l) name ≡ true) ⊎ ((row : LinkRow) × Has rows row × Leads row)
   all-rows [] l m e has = inl (ap (λ z. has_name (pick z) name) (same_some l m e) ∙ has)
   all-rows (row ∷ rows) l m e has =
       let first = step (with_link xs l row) (λ n. with_links xs n rows) m e in
       go first.given first.is (all-rows rows first.given m first.rest has)
     where
-      go : (n : Links) → with_link xs l row ≡ Some n → (has_name (pick n) name ≡ true) ⊎ ((r : Link) × Has rows r × Leads r) → (has_name (pick l) name ≡ true) ⊎ ((r : Link) × Has (row ∷ rows) r × Leads r)
+      go : (n : Links) → with_link xs l row ≡ Some n → (has_name (pick n) name ≡ true) ⊎ ((r : LinkRow) × Has rows r × Leads r) → (has_name (pick l) name ≡ true) ⊎ ((r : LinkRow) × Has (row ∷ rows) r × Leads r)
       go n is (inr later) = inr (later.0, inr later.1, later.2)
       go n is (inl here) = at (one-row l n row is here)
         where
-          at : (has_name (pick l) name ≡ true) ⊎ Leads row → (has_name (pick l) name ≡ true) ⊎ ((r : Link) × Has (row ∷ rows) r × Leads r)
+          at : (has_name (pick l) name ≡ true) ⊎ Leads row → (has_name (pick l) name ≡ true) ⊎ ((r : LinkRow) × Has (row ∷ rows) r × Leads r)
           at (inl before) = inl before
           at (inr leads) = inr (row, inl refl, leads)
 
-pub registrant-kept : (xs : Content) (rows : List Link) (l m : Links) → with_links xs l rows ≡ Some m → m.registrant ≡ l.registrant
+pub registrant-kept : (xs : Content) (rows : List LinkRow) (l m : Links) → with_links xs l rows ≡ Some m → m.registrant ≡ l.registrant
 registrant-kept xs [] l m e = sym (ap (λ (z : Links). z.registrant) (same_some l m e))
 registrant-kept xs (row ∷ rows) l m e =
     let first = step (with_link xs l row) (λ n. with_links xs n rows) m e in
@@ -214,16 +215,16 @@ either_false : (a b c : Bool) → a ≡ false → b ≡ false → c ≡ false �
 either_false a b c x y z = ap (λ t. t || (b || c)) x ∙ ap (λ t. t || c) y ∙ z
 
 module _ (xs : Content) (name : List ℕ) where
-  listed-not : (pick : Links → List (List ℕ)) (Leads : Link → Type 0) → ((r : List ℕ) → has_name (pick (registrant_alone r)) name ≡ false)
-      → ((l : Links) (row : Link) (role : Role) (new : List ℕ) → linked_name xs role row.contact row.host ≡ Some new → has_name (pick (with_name l role new)) name ≡ true → (has_name (pick l) name ≡ true) ⊎ Leads row)
-      → ((row : Link) → Has xs.links row → Leads row → ⊥) → (row : table.Domain) (links : Links) → Naming xs row links → has_name (pick links) name ≡ false
+  listed-not : (pick : Links → List (List ℕ)) (Leads : LinkRow → Type 0) → ((r : List ℕ) → has_name (pick (registrant_alone r)) name ≡ false)
+      → ((l : Links) (row : LinkRow) (role : Role) (new : List ℕ) → linked_name xs role row.contact row.host ≡ Some new → has_name (pick (with_name l role new)) name ≡ true → (has_name (pick l) name ≡ true) ⊎ Leads row)
+      → ((row : LinkRow) → Has xs.links row → Leads row → ⊥) → (row : DomainRow) (links : Links) → Naming xs row links → has_name (pick links) name ≡ false
   listed-not pick Leads none more never row links is = not_true (has_name (pick links) name) (λ has. go (all-rows xs name pick Leads more (filter (link_with_domain row.id) xs.links) (registrant_alone is.registrant) links is.all has))
     where
-      go : (has_name (pick (registrant_alone is.registrant)) name ≡ true) ⊎ ((r : Link) × Has (filter (link_with_domain row.id) xs.links) r × Leads r) → ⊥
+      go : (has_name (pick (registrant_alone is.registrant)) name ≡ true) ⊎ ((r : LinkRow) × Has (filter (link_with_domain row.id) xs.links) r × Leads r) → ⊥
       go (inl before) = true≢false (sym before ∙ none is.registrant)
       go (inr found) = never found.0 (has-filter (link_with_domain row.id) xs.links found.0 found.1).0 found.2
 
-  pub contact-unnamed : ((row : table.Domain) → Has xs.domains row → contact_name xs row.registrant ≡ Some name → ⊥) → ((row : Link) → Has xs.links row → LeadsToContact xs name row → ⊥)
+  pub contact-unnamed : ((row : DomainRow) → Has xs.domains row → contact_name xs row.registrant ≡ Some name → ⊥) → ((row : LinkRow) → Has xs.links row → LeadsToContact xs name row → ⊥)
       → list_any (λ d. names_contact name d.links) (values (domains_of xs)) ≡ false
   contact-unnamed no_registrant no_link = none-passes xs (λ d. names_contact name d.links) (λ row d there reads.
       let is = naming xs row d reads in
@@ -232,6 +233,6 @@ module _ (xs : Content) (name : List ℕ) where
       (listed-not (λ l. l.admin) (LeadsToContact xs name) (λ r. refl) (admin-more xs name) no_link row d.links is)
       (listed-not (λ l. l.tech) (LeadsToContact xs name) (λ r. refl) (tech-more xs name) no_link row d.links is))
 
-  pub host-unnamed : ((row : Link) → Has xs.links row → LeadsToHost xs name row → ⊥) → list_any (λ d. names_host name d.links) (values (domains_of xs)) ≡ false
+  pub host-unnamed : ((row : LinkRow) → Has xs.links row → LeadsToHost xs name row → ⊥) → list_any (λ d. names_host name d.links) (values (domains_of xs)) ≡ false
   host-unnamed no_link = none-passes xs (λ d. names_host name d.links) (λ row d there reads.
       listed-not (λ l. l.hosts) (LeadsToHost xs name) (λ r. refl) (host-more xs name) no_link row d.links (naming xs row d reads))

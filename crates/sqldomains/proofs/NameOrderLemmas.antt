@@ -20,7 +20,7 @@ use Rattle.sqlcolumns.proofs.ReadLemmas.{same_some, step}
 use Rattle.objects.specs.declared.roid.ObjectKind.TheVariants as kinds
 use Rattle.sqltables.specs.Content.{Content}
 use Rattle.sqltables.specs.Domain as table
-use Rattle.sqltables.specs.inner.Domain as inner_table
+use Rattle.sqltables.specs.declared.domain.DomainRow.{DomainRow}
 use Rattle.sqltables.specs.Transfer.{transfer_with_domain}
 use Rattle.sqltables.specs.inner.Consistent.{IsConsistent}
 use Rattle.sqlrows.specs.Read.{first_read, or_else}
@@ -161,7 +161,7 @@ by-rows {P} {X} read rows names m q e stands leads = picked m q names (λ n. her
 
 -- ---- domains
 
-pub name-read : (xs : Content) (row : table.Domain) (d : Domain) → domain_of xs row ≡ Some d → d.name ≡ row.name
+pub name-read : (xs : Content) (row : DomainRow) (d : Domain) → domain_of xs row ≡ Some d → d.name ≡ row.name
 name-read xs row d e =
     let links = step (links_of xs row) _ d e in
     let transfer = step (last_transfer (filter (transfer_with_domain row.id) xs.transfers)) _ d links.rest in
@@ -171,12 +171,12 @@ name-read xs row d e =
     let x = step (deletion_in row.deleted row.restore_requested) _ d s.rest in
     sym (ap (λ (z : Domain). z.name) (same_some _ d x.rest))
 
-pub stands-there : (xs : Content) (row : table.Domain) (d : Domain) → IsConsistent xs → Has xs.domains row → domain_of xs row ≡ Some d → get (domains_of xs) row.name ≡ Some d
+pub stands-there : (xs : Content) (row : DomainRow) (d : Domain) → IsConsistent xs → Has xs.domains row → domain_of xs row ≡ Some d → get (domains_of xs) row.name ≡ Some d
 stands-there xs row d consistent there reads =
-    sym (domain-named xs row.name) ∙ ap (first_read (domain_of xs)) (only_named inner_table.domains.key (λ (r : table.Domain). r.name) xs.domains row consistent.keyed.domains consistent.named.domains there) ∙ ap (λ o. or_else o None) reads
+    sym (domain-named xs row.name) ∙ ap (first_read (domain_of xs)) (only_named table.domains.key (λ (r : DomainRow). r.name) xs.domains row consistent.keyed.domains consistent.named.domains there) ∙ ap (λ o. or_else o None) reads
 
 -- the row under a name
-pub row-under : (xs : Content) (n : List ℕ) (d : Domain) → get (domains_of xs) n ≡ Some d → (row : table.Domain) × Has xs.domains row × (domain_of xs row ≡ Some d) × (row.name ≡ n)
+pub row-under : (xs : Content) (n : List ℕ) (d : Domain) → get (domains_of xs) n ≡ Some d → (row : DomainRow) × Has xs.domains row × (domain_of xs row ≡ Some d) × (row.name ≡ n)
 row-under xs n d e =
     let it = first-has (domain_of xs) (filter (table.domain_with_name n) xs.domains) d (domain-named xs n ∙ e) in
     let there = has-filter (table.domain_with_name n) xs.domains it.0 it.1 in

@@ -6,17 +6,17 @@ use Rattle.objects.specs.declared.domain.Domain.{Domain}
 use Rattle.sqlobjects.specs.inner.Stages.{domains, rows_named}
 use Rattle.sqlobjects.proofs.NewRowLemmas.{fresh, none-pass, points-so}
 use Rattle.sqltables.specs.Content.{Content}
-use Rattle.sqltables.specs.Domain as table
+use Rattle.sqltables.specs.declared.domain.DomainRow.{DomainRow}
 use Rattle.sqltables.specs.Link.{link_with_domain}
 use Rattle.sqltables.specs.Transfer.{transfer_with_domain}
 use Rattle.sqltables.specs.inner.Consistent.{IsConsistent}
 use Rattle.sqldomains.specs.declared.domain_rows.DerivedColumns.{DerivedColumns}
 use Rattle.sqldomains.specs.inner.Stages.{HasNoParts, IsDomainPlaced, row_beside}
 
-module _ (xs m : Content) (beside : DerivedColumns) (d : Domain) (row : table.Domain) (consistent : IsConsistent xs) (still : IsConsistent m) (placed : IsDomainPlaced d beside row xs m)
+module _ (xs m : Content) (beside : DerivedColumns) (d : Domain) (row : DomainRow) (consistent : IsConsistent xs) (still : IsConsistent m) (placed : IsDomainPlaced d beside row xs m)
     (none : rows_named domains d.name xs ≡ []) where
-  new : (r : table.Domain) → Has xs.domains r → r.id ≡ row.id → ⊥
-  new = fresh domains (λ (it : table.Domain). row_beside it.id beside d ≡ Some it) d.name row xs m still placed none
+  new : (r : DomainRow) → Has xs.domains r → r.id ≡ row.id → ⊥
+  new = fresh domains (λ (it : DomainRow). row_beside it.id beside d ≡ Some it) d.name row xs m still placed none
 
   no-links : filter (link_with_domain row.id) xs.links ≡ []
   no-links = none-pass (link_with_domain row.id) xs.links (λ l there is.

@@ -21,7 +21,9 @@ use Rattle.sqlcolumns.specs.Texts.{statuses_in}
 use Rattle.sqlcolumns.proofs.ReadLemmas.{same_some, step}
 use Rattle.sqltables.specs.Content.{Content}
 use Rattle.sqltables.specs.Domain as table
-use Rattle.sqltables.specs.Link.{Link, link_with_domain}
+use Rattle.sqltables.specs.declared.domain.DomainRow.{DomainRow}
+use Rattle.sqltables.specs.Link.{link_with_domain}
+use Rattle.sqltables.specs.declared.link.LinkRow.{LinkRow}
 use Rattle.sqltables.specs.Transfer.{transfer_with_domain}
 use Rattle.sqlrows.specs.Read.{first_read, or_else}
 use Rattle.sqlobjects.specs.inner.Changes.{IsRowRenamed, new_name}
@@ -89,7 +91,7 @@ module _ (from : List ℕ) (h : Host) (xs ys : Content) (it : IsRowRenamed from 
   named-before roles.Tech l contact host n before e = before
   named-before roles.Host l contact host n before e = more n l.hosts before (host-free contact host n e)
 
-  link-after : (l : Links) (row : Link) → Before l.hosts → with_link ys (links_after l) row ≡ option_map links_after (with_link xs l row)
+  link-after : (l : Links) (row : LinkRow) → Before l.hosts → with_link ys (links_after l) row ≡ option_map links_after (with_link xs l row)
   link-after l row before = go (role_in row.role)
     where
       at : (role : Role) (o : Option (List ℕ)) → linked_name xs role row.contact row.host ≡ o → (option_map (name_after role) o >>= (λ n. Some (with_name (links_after l) role n))) ≡ option_map links_after (o >>= (λ n. Some (with_name l role n)))
@@ -102,7 +104,7 @@ module _ (from : List ℕ) (h : Host) (xs ys : Content) (it : IsRowRenamed from 
           ap (λ o. o >>= (λ n. Some (with_name (links_after l) role n))) (name-after role row.contact row.host)
           ∙ at role (linked_name xs role row.contact row.host) refl
 
-  link-before : (l m : Links) (row : Link) → Before l.hosts → with_link xs l row ≡ Some m → Before m.hosts
+  link-before : (l m : Links) (row : LinkRow) → Before l.hosts → with_link xs l row ≡ Some m → Before m.hosts
   link-before l m row before e =
       let role = step (role_in row.role) (λ r. linked_name xs r row.contact row.host >>= (λ n. Some (with_name l r n))) m e in
       let name = step (linked_name xs role.given row.contact row.host) (λ n. Some (with_name l role.given n)) m role.rest in
@@ -110,7 +112,7 @@ module _ (from : List ℕ) (h : Host) (xs ys : Content) (it : IsRowRenamed from 
 
   -- ---- the rows of a domain
 
-  rows-after : (rows : List Link) (l : Links) → Before l.hosts → with_links ys (links_after l) rows ≡ option_map links_after (with_links xs l rows)
+  rows-after : (rows : List LinkRow) (l : Links) → Before l.hosts → with_links ys (links_after l) rows ≡ option_map links_after (with_links xs l rows)
   rows-after [] l before = refl
   rows-after (row ∷ rows) l before = ap (λ o. o >>= (λ n. with_links ys n rows)) (link-after l row before) ∙ go (with_link xs l row) refl (rows-after rows)
     where
@@ -119,19 +121,19 @@ module _ (from : List ℕ) (h : Host) (xs ys : Content) (it : IsRowRenamed from 
       go None e later = refl
       go (Some m) e later = later m (link-before l m row before e)
 
-  links-after : (row : table.Domain) → links_of ys row ≡ option_map links_after (links_of xs row)
+  links-after : (row : DomainRow) → links_of ys row ≡ option_map links_after (links_of xs row)
   links-after row =
       (λ i. contact-same row.registrant i >>= (λ a. dated row.due (filter (link_with_domain row.id) (it.links i)) >>= (λ rows. with_links ys (registrant_alone a) rows)))
       ∙ go (contact_name xs row.registrant) (dated row.due (filter (link_with_domain row.id) xs.links))
     where
-      go : (a : Option (List ℕ)) (rows : Option (List Link)) → (a >>= (λ r. rows >>= (λ all. with_links ys (registrant_alone r) all))) ≡ option_map links_after (a >>= (λ r. rows >>= (λ all. with_links xs (registrant_alone r) all)))
+      go : (a : Option (List ℕ)) (rows : Option (List LinkRow)) → (a >>= (λ r. rows >>= (λ all. with_links ys (registrant_alone r) all))) ≡ option_map links_after (a >>= (λ r. rows >>= (λ all. with_links xs (registrant_alone r) all)))
       go None rows = refl
       go (Some r) None = refl
       go (Some r) (Some all) = (λ i. with_links ys (record (registrant_alone r) { hosts = sym same i }) all) ∙ rows-after all (registrant_alone r) none
 
   -- ---- domains
 
-  columns-after : (row : table.Domain) (l : Links) (transfer : Option Transfer) → domain_in row (links_after l) transfer ≡ option_map domain_after (domain_in row l transfer)
+  columns-after : (row : DomainRow) (l : Links) (transfer : Option Transfer) → domain_in row (links_after l) transfer ≡ option_map domain_after (domain_in row l transfer)
   columns-after row l transfer =
       go (λ r y s x links. domain_with row r y s x links transfer) (λ r y s x. refl)
       (registration_in kinds.Domain (columns_of row)) (years_in row.years) (statuses_in row.statuses) (deletion_in row.deleted row.restore_requested)
@@ -146,7 +148,7 @@ module _ (from : List ℕ) (h : Host) (xs ys : Content) (it : IsRowRenamed from 
       go made alike (Some r) (Some y) (Some s) None = refl
       go made alike (Some r) (Some y) (Some s) (Some x) = ap Some (alike r y s x)
 
-  pub reading-after : (row : table.Domain) → domain_of ys row ≡ option_map domain_after (domain_of xs row)
+  pub reading-after : (row : DomainRow) → domain_of ys row ≡ option_map domain_after (domain_of xs row)
   reading-after row =
       (λ i. links-after row i >>= (λ l. last_transfer (filter (transfer_with_domain row.id) (it.transfers i)) >>= (λ transfer. domain_in row l transfer)))
       ∙ go (links_of xs row) (last_transfer (filter (transfer_with_domain row.id) xs.transfers))
@@ -161,6 +163,6 @@ module _ (from : List ℕ) (h : Host) (xs ys : Content) (it : IsRowRenamed from 
       sym (domain-named ys q) ∙ ap (λ rows. first_read (domain_of ys) (filter (table.domain_with_name q) rows)) it.domains
       ∙ firsts (filter (table.domain_with_name q) xs.domains) ∙ ap (option_map domain_after) (domain-named xs q)
     where
-      firsts : (rows : List table.Domain) → first_read (domain_of ys) rows ≡ option_map domain_after (first_read (domain_of xs) rows)
+      firsts : (rows : List DomainRow) → first_read (domain_of ys) rows ≡ option_map domain_after (first_read (domain_of xs) rows)
       firsts [] = refl
       firsts (row ∷ rows) = (λ i. or_else (reading-after row i) (firsts rows i)) ∙ map-or domain_after (domain_of xs row) (first_read (domain_of xs) rows)

@@ -19,7 +19,8 @@ use Rattle.sqlcolumns.proofs.NumberLemmas.{registrar_written}
 use Rattle.sqlcolumns.proofs.ReadLemmas.{same_some, step}
 use Rattle.sqltables.specs.Content.{Content}
 use Rattle.sqltables.specs.Domain as table
-use Rattle.sqltables.specs.Host as host_table
+use Rattle.sqltables.specs.declared.domain.DomainRow.{DomainRow}
+use Rattle.sqltables.specs.declared.host.HostRow.{HostRow}
 use Rattle.sqltables.specs.Transfer.{transfer_with_domain}
 use Rattle.sqltables.proofs.RowLemmas.{bytes_same}
 use Rattle.sqlrows.specs.Read.{first_read, or_else}
@@ -45,18 +46,18 @@ contact-sponsors name value old new it = sponsors-kept old new it.host_rows it.d
 
 pub host-sponsors : (name : List ℕ) (value : Option Host) (old new : Content) → IsHostPut name value old new → sponsors_are_right new ≡ sponsors_are_right old
 host-sponsors name value old new it =
-    same-verdict (λ (r : host_table.Host). r.name) name old.hosts new.hosts (is_sponsor_right old) (is_sponsor_right new) it.others
+    same-verdict (λ (r : HostRow). r.name) name old.hosts new.hosts (is_sponsor_right old) (is_sponsor_right new) it.others
     (λ row here now other. ap (is_same row.sponsor) (sponsor-kept old new row it.domains)) it.sponsor_was it.sponsor_is
 
 -- ---- a domain
 
 -- what a domain has of its rows
-pub record Parts (xs : Content) (row : table.Domain) (d : Domain) : Type 0 where
+pub record Parts (xs : Content) (row : DomainRow) (d : Domain) : Type 0 where
   pub roid : roid_in kinds.Domain row.creator row.serial ≡ Some d.roid
   pub sponsor : registrar_in row.sponsor ≡ Some d.sponsor
   pub transfer : last_transfer (filter (transfer_with_domain row.id) xs.transfers) ≡ Some d.transfer
 
-pub parts : (xs : Content) (row : table.Domain) (d : Domain) → domain_of xs row ≡ Some d → Parts xs row d
+pub parts : (xs : Content) (row : DomainRow) (d : Domain) → domain_of xs row ≡ Some d → Parts xs row d
 parts xs row d e =
     let links = step (links_of xs row) _ d e in
     let transfer = step (last_transfer (filter (transfer_with_domain row.id) xs.transfers)) _ d links.rest in
@@ -76,7 +77,7 @@ parts xs row d e =
     }
 
 -- the row of a domain has its sponsor
-pub sponsor-read : (xs : Content) (row : table.Domain) (d : Domain) → domain_of xs row ≡ Some d → row.sponsor ≡ registrar_column d.sponsor
+pub sponsor-read : (xs : Content) (row : DomainRow) (d : Domain) → domain_of xs row ≡ Some d → row.sponsor ≡ registrar_column d.sponsor
 sponsor-read xs row d e = sym (registrar_written row.sponsor d.sponsor (parts xs row d e).sponsor)
 
 -- the domain that is put has its sponsor as that of its row
@@ -89,7 +90,7 @@ module _ (name : List ℕ) (value : Option Domain) (due : Option ℕ) (mid new :
   pub sponsor-put : domain_sponsor new name ≡ maybe_registrar_column (sponsor_in value)
   sponsor-put = go (filter (table.domain_with_name name) new.domains) value refl refl
     where
-      go : (rows : List table.Domain) (o : Option Domain) → filter (table.domain_with_name name) new.domains ≡ rows → value ≡ o → first_sponsor rows ≡ maybe_registrar_column (sponsor_in value)
+      go : (rows : List DomainRow) (o : Option Domain) → filter (table.domain_with_name name) new.domains ≡ rows → value ≡ o → first_sponsor rows ≡ maybe_registrar_column (sponsor_in value)
       go [] None e f = ap (λ v. maybe_registrar_column (sponsor_in v)) (sym f)
       go [] (Some d) e f =
           absurd (let never : ◌≡◌ {A = Option Domain} None (Some d) = ap (first_read (domain_of new)) (sym e) ∙ domain-named new name ∙ stands-now d f in cc)
@@ -119,7 +120,7 @@ module _ (name : List ℕ) (value : Option Domain) (due : Option ℕ) (old mid c
   own-sponsor q e = ap (domain_sponsor new) (bytes_is q name e) ∙ sponsor-put name value due counted new it
 
   -- a host below whose domain nothing is changed
-  alike : (row : host_table.Host) → domain_sponsor new row.above ≡ domain_sponsor old row.above → is_sponsor_right new row ≡ is_sponsor_right old row
+  alike : (row : HostRow) → domain_sponsor new row.above ≡ domain_sponsor old row.above → is_sponsor_right new row ≡ is_sponsor_right old row
   alike row same = ap (λ s. is_same row.sponsor (or_else row.external_sponsor s)) same
 
   -- the sponsor stays
@@ -138,16 +139,16 @@ module _ (name : List ℕ) (value : Option Domain) (due : Option ℕ) (old mid c
       ap (list_all (is_sponsor_right new)) (rows_now ∙ moved.has)
       ∙ all-changed (is_sponsor_right old) (is_sponsor_right new) (with_sponsor name after) old.hosts (λ row there. each row there (bytes_eq row.above name) row.external_sponsor refl refl)
     where
-      so : (row : host_table.Host) (a : Bool) (o : Option ℤ) → bytes_eq row.above name ≡ a → row.external_sponsor ≡ o → takes_sponsor name row ≡ (a && not (is_some o))
+      so : (row : HostRow) (a : Bool) (o : Option ℤ) → bytes_eq row.above name ≡ a → row.external_sponsor ≡ o → takes_sponsor name row ≡ (a && not (is_some o))
       so row a o e f = λ i. e i && not (is_some (f i))
 
-      chosen : (row : host_table.Host) (b : Bool) → takes_sponsor name row ≡ b → with_sponsor name after row ≡ cond b (record row { sponsor = after }) row
+      chosen : (row : HostRow) (b : Bool) → takes_sponsor name row ≡ b → with_sponsor name after row ≡ cond b (record row { sponsor = after }) row
       chosen row b e = ap (λ (t : Bool). cond t (record row { sponsor = after }) row) e
 
-      external : (xs : Content) (row : host_table.Host) (s : ℤ) → row.external_sponsor ≡ Some s → is_sponsor_right xs row ≡ is_same row.sponsor (Some s)
+      external : (xs : Content) (row : HostRow) (s : ℤ) → row.external_sponsor ≡ Some s → is_sponsor_right xs row ≡ is_same row.sponsor (Some s)
       external xs row s f = ap (λ o. is_same row.sponsor (or_else o (domain_sponsor xs row.above))) f
 
-      each : (row : host_table.Host) → Has old.hosts row → (a : Bool) (o : Option ℤ) → bytes_eq row.above name ≡ a → row.external_sponsor ≡ o
+      each : (row : HostRow) → Has old.hosts row → (a : Bool) (o : Option ℤ) → bytes_eq row.above name ≡ a → row.external_sponsor ≡ o
           → is_sponsor_right new (with_sponsor name after row) ≡ is_sponsor_right old row
       each row there false o e f =
           ap (is_sponsor_right new) (chosen row false (so row false o e f)) ∙ alike row (other-sponsor row.above e)

@@ -14,8 +14,9 @@ use Rattle.sqlcolumns.specs.Codes.{role_in}
 use Rattle.sqlcolumns.specs.Domains.{domain_in}
 use Rattle.sqlcolumns.specs.Steps.{◌>>=◌}
 use Rattle.sqltables.specs.Content.{Content}
-use Rattle.sqltables.specs.Domain as domain_table
-use Rattle.sqltables.specs.Link.{Link, link_with_domain}
+use Rattle.sqltables.specs.declared.domain.DomainRow.{DomainRow}
+use Rattle.sqltables.specs.Link.{link_with_domain}
+use Rattle.sqltables.specs.declared.link.LinkRow.{LinkRow}
 use Rattle.sqltables.specs.Transfer.{transfer_with_domain}
 use Rattle.sqlrows.specs.Read.{named}
 use Rattle.sqlobjects.specs.Changes.{contact_name, host_name}
@@ -52,14 +53,14 @@ linked_name xs roles.Tech None host = None
 linked_name xs roles.Tech (Some contact) (Some host) = None
 
 -- with what a row leads to, if it reads
-abbrev pub with_link : Content → Links → Link → Option Links
+abbrev pub with_link : Content → Links → LinkRow → Option Links
 with_link xs l row = do
   role ← role_in row.role
   name ← linked_name xs role row.contact row.host
   Some (with_name l role name)
 
 -- with what rows lead to, in their order, if all read
-abbrev pub with_links : Content → Links → List Link → Option Links
+abbrev pub with_links : Content → Links → List LinkRow → Option Links
 with_links xs l [] = Some l
 with_links xs l (row ∷ rows) = do
   l ← with_link xs l row
@@ -69,15 +70,15 @@ abbrev pub registrant_alone : List ℕ → Links
 registrant_alone name = record { registrant = name; admin = []; tech = []; hosts = [] }
 
 -- each row says when its domain is due
-abbrev pub are_dated : ℤ → List Link → Bool
-are_dated due rows = list_all (λ (l : Link). int_eq l.due due) rows
+abbrev pub are_dated : ℤ → List LinkRow → Bool
+are_dated due rows = list_all (λ (l : LinkRow). int_eq l.due due) rows
 
 -- these rows, if each does
-abbrev pub dated : ℤ → List Link → Option (List Link)
+abbrev pub dated : ℤ → List LinkRow → Option (List LinkRow)
 dated due rows = if are_dated due rows then Some rows else None
 
 -- what the domain of a row names, if all rows of it read
-abbrev pub links_of : Content → domain_table.Domain → Option Links
+abbrev pub links_of : Content → DomainRow → Option Links
 links_of xs row = do
   registrant ← contact_name xs row.registrant
   rows ← dated row.due (filter (link_with_domain row.id) xs.links)
@@ -86,13 +87,13 @@ links_of xs row = do
 -- ---- domains
 
 -- the domain of a row, if it, its links and its transfer read
-abbrev pub domain_of : Content → domain_table.Domain → Option Domain
+abbrev pub domain_of : Content → DomainRow → Option Domain
 domain_of xs row = do
   links ← links_of xs row
   transfer ← last_transfer (filter (transfer_with_domain row.id) xs.transfers)
   domain_in row links transfer
 
-abbrev pub domain_entry : Content → domain_table.Domain → Option (List ℕ × Domain)
+abbrev pub domain_entry : Content → DomainRow → Option (List ℕ × Domain)
 domain_entry xs row = named row.name (domain_of xs row)
 
 abbrev pub domains_of : Content → FinMap (slice_cmp nat_cmp) Domain

@@ -2,7 +2,7 @@
 ghost use Rattle.std.specs.Prelude.{◌≡◌, Some, IfOk, filter, map};
 ghost use Rattle.std.specs.FinMap.{empty};
 ghost use Rattle.objects.specs.Hosts as hosts;
-ghost use Rattle.sqltables.specs.Host.{Host};
+ghost use Rattle.sqltables.specs.declared.host.HostRow.{HostRow};
 ghost use Rattle.states.specs.States.{Finds, FindsSome};
 ghost use Rattle.sqldomains.specs.inner.Names as spec;
 
@@ -63,13 +63,12 @@ fn is_dotted(domain: &Text) -> bool
 /// The names of these rows that lie below the domain.
 fn names_below(alloc: Global, domain: &Text, rows: Seq<HostRow>) -> Result<Seq<Text>, AllocError>
     ensures { IfOk result (λ names. names ≡ filter (hosts.is_below domain.now)
-        (map (λ (r : Host). r.name) rows)) }
+        (map (λ (r : HostRow). r.name) rows)) }
 {
     let mut names = Seq::new(alloc);
     for row in rows.into_vec() {
-        let name = Text::from_string(row.name);
-        if is_below(domain, &name) {
-            names.push(name)?;
+        if is_below(domain, &row.name) {
+            names.push(row.name)?;
         }
     }
     Ok(names)

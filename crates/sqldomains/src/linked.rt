@@ -2,9 +2,9 @@
 ghost use Rattle.std.specs.Prelude.{◌≡◌, filter, option_map, take};
 ghost use Rattle.sqlrows.specs.Read.{rows_of};
 ghost use Rattle.sqlite_rules.specs.Lists.{Has};
-ghost use Rattle.sqltables.specs.Contact.{Contact};
-ghost use Rattle.sqltables.specs.inner.Domain.{domain_with_registrant};
-ghost use Rattle.sqltables.specs.Host.{Host};
+ghost use Rattle.sqltables.specs.declared.contact.ContactRow.{ContactRow};
+ghost use Rattle.sqltables.specs.Domain.{domain_with_registrant};
+ghost use Rattle.sqltables.specs.declared.host.HostRow.{HostRow};
 ghost use Rattle.sqltables.specs.Link.{link_with_contact, link_with_host};
 ghost use Rattle.states.specs.States.{Finds, FindsSome};
 ghost use Rattle.objects.specs.Links as links;
@@ -51,7 +51,7 @@ pub(crate) fn number_of_contact<S: Alter>(
 }
 
 fn id_of_contact(row: Option<ContactRow>) -> Option<i64>
-    ensures { result ≡ option_map (λ (r : Contact). r.id) row }
+    ensures { result ≡ option_map (λ (r : ContactRow). r.id) row }
 {
     match row {
         None => None,
@@ -159,7 +159,7 @@ pub(crate) fn number_of_host<S: Alter>(
 }
 
 fn id_of_host(row: Option<HostRow>) -> Option<i64>
-    ensures { result ≡ option_map (λ (r : Host). r.id) row }
+    ensures { result ≡ option_map (λ (r : HostRow). r.id) row }
 {
     match row {
         None => None,

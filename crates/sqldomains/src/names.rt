@@ -2,8 +2,10 @@
 ghost use Rattle.std.specs.Prelude.{◌≡◌, Some, IfOk, option_map};
 ghost use Rattle.states.specs.States.{Finds, FindsSome};
 ghost use Rattle.sqlite_keyed.specs.Keyed.{get_by};
-ghost use Rattle.sqltables.specs.Contact.{Contact, contacts};
-ghost use Rattle.sqltables.specs.Host.{Host, hosts};
+ghost use Rattle.sqltables.specs.Contact.{contacts};
+ghost use Rattle.sqltables.specs.declared.contact.ContactRow.{ContactRow};
+ghost use Rattle.sqltables.specs.Host.{hosts};
+ghost use Rattle.sqltables.specs.declared.host.HostRow.{HostRow};
 ghost use Rattle.sqlobjects.specs.Changes as changes;
 
 use basis::text::Text;
@@ -30,11 +32,11 @@ fn contact_row<S: Alter>(store: &mut RowStore<S>, id: i64) -> Result<Option<Cont
 }
 
 fn name_of_contact(row: Option<ContactRow>) -> Result<Text, BookFault>
-    ensures { IfOk result (λ name. option_map (λ (r : Contact). r.name) row ≡ Some name) }
+    ensures { IfOk result (λ name. option_map (λ (r : ContactRow). r.name) row ≡ Some name) }
 {
     match row {
         None => Err(BookFault::Store),
-        Some(row) => Ok(Text::from_string(row.name)),
+        Some(row) => Ok(row.name),
     }
 }
 
@@ -56,11 +58,11 @@ fn host_row<S: Alter>(store: &mut RowStore<S>, id: i64) -> Result<Option<HostRow
 }
 
 fn name_of_host(row: Option<HostRow>) -> Result<Text, BookFault>
-    ensures { IfOk result (λ name. option_map (λ (r : Host). r.name) row ≡ Some name) }
+    ensures { IfOk result (λ name. option_map (λ (r : HostRow). r.name) row ≡ Some name) }
 {
     match row {
         None => Err(BookFault::Store),
-        Some(row) => Ok(Text::from_string(row.name)),
+        Some(row) => Ok(row.name),
     }
 }
 

@@ -7,7 +7,8 @@ use Rattle.sqlrows.specs.inner.Layouts.{appended}
 use Rattle.sqlite_keyed.specs.Keyed.{next_key}
 use Rattle.sqlite_keyed.specs.Lists.{delete_where}
 use Rattle.sqlite_keyed.proofs.KeyedLemmas.{same_int}
-use Rattle.sqltables.specs.Address.{Address, address_with_host, addresses}
+use Rattle.sqltables.specs.Address.{address_with_host, addresses}
+use Rattle.sqltables.specs.declared.address.AddressRow.{AddressRow}
 use Rattle.sqltables.specs.Content.{Content}
 use Rattle.sqltables.specs.inner.Content.{addresses_to}
 use Rattle.sqlobjects.specs.Objects.{addresses_of, texts_of}
@@ -23,14 +24,14 @@ cleared id xs = record {
   };
 }
 
-pub one-added : (id : ℤ) (text : List ℕ) (xs : Content) (row : Address) → row.host ≡ id → row.address ≡ text
+pub one-added : (id : ℤ) (text : List ℕ) (xs : Content) (row : AddressRow) → row.host ≡ id → row.address ≡ text
     → AreAddressesAdded id (text ∷ []) xs (addresses_to (appended addresses (λ k. record row { id = k })) xs)
 one-added id text xs row host address =
-    let new : Address = record row { id = next_key addresses.key xs.addresses } in
+    let new : AddressRow = record row { id = next_key addresses.key xs.addresses } in
     record {
       here =
           ap texts_of (filter-append_pass (address_with_host id) xs.addresses new ((Decides-int_eq row.host id).1 host))
-          ∙ map-append (λ (a : Address). a.address) (filter (address_with_host id) xs.addresses) (new ∷ [])
+          ∙ map-append (λ (a : AddressRow). a.address) (filter (address_with_host id) xs.addresses) (new ∷ [])
           ∙ ap (λ t. addresses_of xs id ++ t ∷ []) address;
       others = record {
         hosts = λ other apart. ap texts_of (filter-append (address_with_host other) xs.addresses new (ap (λ k. int_eq k other) host ∙ apart));

@@ -11,6 +11,7 @@ use Rattle.sqlcolumns.specs.Steps.{◌>>=◌}
 use Rattle.sqlcolumns.proofs.ContactLemmas.{contact_back}
 use Rattle.sqlcolumns.proofs.ReadLemmas.{same_some, step}
 use Rattle.sqltables.specs.Contact as contact_table
+use Rattle.sqltables.specs.declared.contact.ContactRow.{ContactRow}
 use Rattle.sqltables.specs.Content.{Content}
 use Rattle.sqltables.specs.inner.Content.{contacts_to}
 use Rattle.sqltables.specs.inner.Consistent.{IsConsistent}
@@ -22,14 +23,14 @@ use Rattle.sqlobjects.specs.declared.transfers.Transferable.TheVariants as trans
 use Rattle.sqlobjects.specs.inner.Transfers.{AreOtherTransfersKept, IsTransferCleared, IsTransferPut, is_of}
 use Rattle.sqlobjects.proofs.PutLemmas.{drop-stands, map_of, names_kept, none-stands, others-removed, put-stands}
 
-abbrev name_of : contact_table.Contact → List ℕ
+abbrev name_of : ContactRow → List ℕ
 name_of row = row.name
 
-abbrev key : contact_table.Contact → ℤ
+abbrev key : ContactRow → ℤ
 key = contact_table.contacts.key
 
 -- a contact whose row and transfer are as they were is read as before
-reads-alike : (xs ys : Content) (id : ℤ) (r : contact_table.Contact) → AreOtherTransfersKept (transferable.Contact id) xs (record ys { contacts = xs.contacts }) → int_eq id r.id ≡ false → contact_of ys r ≡ contact_of xs r
+reads-alike : (xs ys : Content) (id : ℤ) (r : ContactRow) → AreOtherTransfersKept (transferable.Contact id) xs (record ys { contacts = xs.contacts }) → int_eq id r.id ≡ false → contact_of ys r ≡ contact_of xs r
 reads-alike xs ys id r kept other = λ i. last_transfer (kept.others (transferable.Contact r.id) other i) >>= (λ transfer. contact_in r transfer)
 
 -- what else a change of contacts leaves
@@ -73,7 +74,7 @@ module _ (xs ys : Content) (name : List ℕ) (consistent : IsConsistent xs) (aft
       subst (λ z. IsConsistent z → IsContactPut name None xs z) (sym same)
       (λ still. assembled xs xs name None (pos 0) (none-stands name_of (contact_of xs) name xs.contacts none) (λ q e. refl) as_it_is consistent still) after
 
-  removed : (row : contact_table.Contact) → filter (contact_table.contact_with_name name) xs.contacts ≡ row ∷ [] → IsContactRemoved row.id xs ys → IsContactPut name None xs ys
+  removed : (row : ContactRow) → filter (contact_table.contact_with_name name) xs.contacts ≡ row ∷ [] → IsContactRemoved row.id xs ys → IsContactPut name None xs ys
   removed row found gone = assembled xs ys name None row.id
       (ap (map_of name_of (contact_of ys)) gone.contacts
       ∙ drop-stands key name_of (contact_of xs) (contact_of ys) name row xs.contacts found consistent.keyed.contacts consistent.named.contacts (λ r was e. reads-alike xs ys row.id r gone.cleared.kept e))
@@ -81,29 +82,29 @@ module _ (xs ys : Content) (name : List ℕ) (consistent : IsConsistent xs) (aft
       gone.cleared.kept
       consistent after
 
-  pub dropped : (row : Option contact_table.Contact) → filter (contact_table.contact_with_name name) xs.contacts ≡ rows_of row → IsContactDropped row xs ys → IsContactPut name None xs ys
+  pub dropped : (row : Option ContactRow) → filter (contact_table.contact_with_name name) xs.contacts ≡ rows_of row → IsContactDropped row xs ys → IsContactPut name None xs ys
   dropped None found same = none_there found same
   dropped (Some row) found step = removed row found step
 
 -- ---- written into a row
 
-pub record IsWritten (c : Contact) (row : contact_table.Contact) : Type 0 where
+pub record IsWritten (c : Contact) (row : ContactRow) : Type 0 where
   pub name : row.name ≡ c.name
   pub again : (k : ℤ) → contact_row k c ≡ Some (record row { id = k })
 
-pub written : (id : ℤ) (c : Contact) (row : contact_table.Contact) → contact_row id c ≡ Some row → IsWritten c row
+pub written : (id : ℤ) (c : Contact) (row : ContactRow) → contact_row id c ≡ Some row → IsWritten c row
 written id c row e =
     let columns = step (registration_columns kinds.Contact (registration_of c)) (λ x. postal_row c.postal >>= (λ p. Some (row_with id c x p))) row e in
     let postal = step (postal_row c.postal) (λ p. Some (row_with id c columns.given p)) row columns.rest in
     let same : row_with id c columns.given postal.given ≡ row = same_some (row_with id c columns.given postal.given) row postal.rest in
     record {
-      name = sym (ap (λ (r : contact_table.Contact). r.name) same);
-      again = λ k. (λ i. columns.is i >>= (λ x. postal.is i >>= (λ p. Some (row_with k c x p)))) ∙ ap (λ (r : contact_table.Contact). Some (record r { id = k })) same;
+      name = sym (ap (λ (r : ContactRow). r.name) same);
+      again = λ k. (λ i. columns.is i >>= (λ x. postal.is i >>= (λ p. Some (row_with k c x p)))) ∙ ap (λ (r : ContactRow). Some (record r { id = k })) same;
     }
 
 -- ---- put
 
-module _ (xs m ys : Content) (c : Contact) (row : contact_table.Contact) (consistent : IsConsistent xs) (after : IsConsistent ys) (is : IsContact c)
+module _ (xs m ys : Content) (c : Contact) (row : ContactRow) (consistent : IsConsistent xs) (after : IsConsistent ys) (is : IsContact c)
     (placed : IsContactPlaced c row xs m) (with : IsTransferPut (transferable.Contact row.id) c.transfer m ys) where
   rows_now : IsPlaced name_of c.name row xs.contacts ys.contacts
   rows_now = subst (IsPlaced name_of c.name row xs.contacts) (sym (ap (λ (x : Content). x.contacts) with.kept.rest)) placed.rows

@@ -13,6 +13,7 @@ use Rattle.sqlcolumns.proofs.ReadLemmas.{same_some, step}
 use Rattle.sqltables.specs.Content.{Content}
 use Rattle.sqltables.specs.inner.Content.{hosts_to}
 use Rattle.sqltables.specs.Host as host_table
+use Rattle.sqltables.specs.declared.host.HostRow.{HostRow}
 use Rattle.sqltables.specs.inner.Consistent.{IsConsistent}
 use Rattle.sqlrows.specs.Read.{rows_of}
 use Rattle.sqlobjects.specs.inner.Changes.{IsHostPut, put}
@@ -22,20 +23,20 @@ use Rattle.sqlobjects.specs.inner.Stages.{AreAddressesPut, AreOtherAddressesKept
 use Rattle.sqlobjects.proofs.SponsorLemmas.{nobody, same-from, sponsor-kept}
 use Rattle.sqlobjects.proofs.PutLemmas.{drop-stands, map_of, names_kept, none-removed, none-stands, others-removed, put-stands}
 
-abbrev name_of : host_table.Host → List ℕ
+abbrev name_of : HostRow → List ℕ
 name_of row = row.name
 
-abbrev key : host_table.Host → ℤ
+abbrev key : HostRow → ℤ
 key = host_table.hosts.key
 
 -- a host whose row and addresses are as they were is read as before
-pub reads-alike : (xs ys : Content) (id : ℤ) (r : host_table.Host) → AreOtherAddressesKept id xs (record ys { hosts = xs.hosts }) → int_eq id r.id ≡ false → host_of ys r ≡ host_of xs r
+pub reads-alike : (xs ys : Content) (id : ℤ) (r : HostRow) → AreOtherAddressesKept id xs (record ys { hosts = xs.hosts }) → int_eq id r.id ≡ false → host_of ys r ≡ host_of xs r
 reads-alike xs ys id r kept other = ap (host_in r) (kept.hosts r.id other)
 
 -- what else a change of hosts leaves
 assembled : (xs ys : Content) (name : List ℕ) (value : Option Host) (id : ℤ) → hosts_of ys ≡ put (hosts_of xs) name value → AreOthersKept name_of name xs.hosts ys.hosts
-    → AreOtherAddressesKept id xs (record ys { hosts = xs.hosts }) → ((row : host_table.Host) → Has xs.hosts row → row.name ≡ name → is_sponsor_right xs row ≡ true)
-    → ((row : host_table.Host) → Has ys.hosts row → row.name ≡ name → is_sponsor_right ys row ≡ true) → IsConsistent xs → IsConsistent ys → IsHostPut name value xs ys
+    → AreOtherAddressesKept id xs (record ys { hosts = xs.hosts }) → ((row : HostRow) → Has xs.hosts row → row.name ≡ name → is_sponsor_right xs row ≡ true)
+    → ((row : HostRow) → Has ys.hosts row → row.name ≡ name → is_sponsor_right ys row ≡ true) → IsConsistent xs → IsConsistent ys → IsHostPut name value xs ys
 assembled xs ys name value id stands others kept was is consistent after = record {
   hosts = stands;
   contacts = ap contacts_of kept.rest;
@@ -67,14 +68,14 @@ removed-so id number xs m same clear =
       hosts = ap (λ (x : Content). delete_where (host_table.host_with_id number) x.hosts) clear.others.rest;
     })
 
-module _ (xs ys : Content) (name : List ℕ) (consistent : IsConsistent xs) (after : IsConsistent ys) (was : (row : host_table.Host) → Has xs.hosts row → row.name ≡ name → is_sponsor_right xs row ≡ true) where
+module _ (xs ys : Content) (name : List ℕ) (consistent : IsConsistent xs) (after : IsConsistent ys) (was : (row : HostRow) → Has xs.hosts row → row.name ≡ name → is_sponsor_right xs row ≡ true) where
   none_there : filter (host_table.host_with_name name) xs.hosts ≡ [] → ys ≡ xs → IsHostPut name None xs ys
   none_there none same =
       let as_it_is : AreOtherAddressesKept (pos 0) xs xs = record { hosts = λ other e. refl; rest = refl } in
       subst (λ z. IsConsistent z → IsHostPut name None xs z) (sym same)
       (λ still. assembled xs xs name None (pos 0) (none-stands name_of (host_of xs) name xs.hosts none) (λ q e. refl) as_it_is was (λ row there is. absurd (nobody name xs.hosts none row there is)) consistent still) after
 
-  removed : (row : host_table.Host) → filter (host_table.host_with_name name) xs.hosts ≡ row ∷ [] → IsHostRemoved row.id xs ys → IsHostPut name None xs ys
+  removed : (row : HostRow) → filter (host_table.host_with_name name) xs.hosts ≡ row ∷ [] → IsHostRemoved row.id xs ys → IsHostPut name None xs ys
   removed row found gone = assembled xs ys name None row.id
       (ap (map_of name_of (host_of ys)) gone.hosts
       ∙ drop-stands key name_of (host_of xs) (host_of ys) name row xs.hosts found consistent.keyed.hosts consistent.named.hosts (λ r was e. reads-alike xs ys row.id r gone.cleared.others e))
@@ -84,34 +85,34 @@ module _ (xs ys : Content) (name : List ℕ) (consistent : IsConsistent xs) (aft
       (λ r there is. absurd (nobody name ys.hosts (ap (filter (host_table.host_with_name name)) gone.hosts ∙ none-removed key name_of name xs.hosts row found consistent.keyed.hosts consistent.named.hosts) r there is))
       consistent after
 
-  pub dropped : (row : Option host_table.Host) → filter (host_table.host_with_name name) xs.hosts ≡ rows_of row → IsHostDropped row xs ys → IsHostPut name None xs ys
+  pub dropped : (row : Option HostRow) → filter (host_table.host_with_name name) xs.hosts ≡ rows_of row → IsHostDropped row xs ys → IsHostPut name None xs ys
   dropped None found same = none_there found same
   dropped (Some row) found gone = removed row found gone
 
 -- ---- written into a row
 
-pub record IsWritten (xs : Content) (id : ℤ) (h : Host) (row : host_table.Host) : Type 0 where
+pub record IsWritten (xs : Content) (id : ℤ) (h : Host) (row : HostRow) : Type 0 where
   pub number : row.id ≡ id
   pub name : row.name ≡ h.name
   pub again : (k : ℤ) → IsHostRow xs k h (record row { id = k })
 
-pub written : (xs : Content) (id : ℤ) (h : Host) (row : host_table.Host) → IsHostRow xs id h row → IsWritten xs id h row
+pub written : (xs : Content) (id : ℤ) (h : Host) (row : HostRow) → IsHostRow xs id h row → IsWritten xs id h row
 written xs id h row e =
     let roid = step (roid_columns kinds.Host h.roid) (λ x. Some (row_with id row.sponsor h x)) row e.is in
     let same : row_with id row.sponsor h roid.given ≡ row = same_some (row_with id row.sponsor h roid.given) row roid.rest in
     record {
-      number = sym (ap (λ (r : host_table.Host). r.id) same);
-      name = sym (ap (λ (r : host_table.Host). r.name) same);
+      number = sym (ap (λ (r : HostRow). r.id) same);
+      name = sym (ap (λ (r : HostRow). r.name) same);
       again = λ k. record {
-        is = (λ i. roid.is i >>= (λ x. Some (row_with k row.sponsor h x))) ∙ ap (λ (r : host_table.Host). Some (record r { id = k })) same;
+        is = (λ i. roid.is i >>= (λ x. Some (row_with k row.sponsor h x))) ∙ ap (λ (r : HostRow). Some (record r { id = k })) same;
         sponsor = e.sponsor;
       };
     }
 
 -- ---- put
 
-module _ (xs m ys : Content) (h : Host) (row : host_table.Host) (consistent : IsConsistent xs) (after : IsConsistent ys) (is : IsHost h)
-    (was : (r : host_table.Host) → Has xs.hosts r → r.name ≡ h.name → is_sponsor_right xs r ≡ true) (placed : IsHostPlaced h row xs m) (with : AreAddressesPut row.id h.addresses m ys) where
+module _ (xs m ys : Content) (h : Host) (row : HostRow) (consistent : IsConsistent xs) (after : IsConsistent ys) (is : IsHost h)
+    (was : (r : HostRow) → Has xs.hosts r → r.name ≡ h.name → is_sponsor_right xs r ≡ true) (placed : IsHostPlaced h row xs m) (with : AreAddressesPut row.id h.addresses m ys) where
   rows_now : IsPlaced name_of h.name row xs.hosts ys.hosts
   rows_now = subst (IsPlaced name_of h.name row xs.hosts) (sym (ap (λ (x : Content). x.hosts) with.others.rest)) placed.rows
 
@@ -124,7 +125,7 @@ module _ (xs m ys : Content) (h : Host) (row : host_table.Host) (consistent : Is
     rest = ap (λ (x : Content). record x { hosts = xs.hosts }) with.others.rest ∙ ap (λ (x : Content). record x { hosts = xs.hosts; addresses = ys.addresses }) placed.rest;
   }
 
-  right_now : (r : host_table.Host) → Has ys.hosts r → r.name ≡ h.name → is_sponsor_right ys r ≡ true
+  right_now : (r : HostRow) → Has ys.hosts r → r.name ≡ h.name → is_sponsor_right ys r ≡ true
   right_now r there same =
       subst (λ x. is_sponsor_right ys x ≡ true) (sym (after.named.hosts r row there rows_now.there (same ∙ sym rows_now.named)))
       (same-from row.sponsor (sponsor_of ys row) (placed.is.sponsor ∙ sym (sponsor-kept xs ys row (ap (λ (x : Content). x.domains) kept_now.rest))))

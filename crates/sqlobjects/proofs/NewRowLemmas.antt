@@ -10,9 +10,9 @@ use Rattle.sqlobjects.specs.inner.Stages.{IsRowPlaced, NamedTable, contacts, hos
 use Rattle.sqlobjects.proofs.PutLemmas.{filter-has, has-filter}
 use Rattle.sqltables.proofs.RowLemmas.{bytes_same, same_by_key}
 use Rattle.sqltables.specs.Address.{address_with_host}
-use Rattle.sqltables.specs.Contact as contact_table
+use Rattle.sqltables.specs.declared.contact.ContactRow.{ContactRow}
 use Rattle.sqltables.specs.Content.{Content}
-use Rattle.sqltables.specs.Host as host_table
+use Rattle.sqltables.specs.declared.host.HostRow.{HostRow}
 use Rattle.sqltables.specs.Transfer.{transfer_with_contact}
 use Rattle.sqltables.specs.inner.Consistent.{IsConsistent}
 
@@ -45,7 +45,7 @@ module _ {R : Type 0} (table : NamedTable R) (is_row : R → Type 0) (n : List �
           cc
 
 -- a new contact has no transfer
-pub no-transfer : (is_row : contact_table.Contact → Type 0) (n : List ℕ) (row : contact_table.Contact) (xs m : Content) → IsConsistent xs → IsConsistent m → IsRowPlaced contacts is_row n row xs m → rows_named contacts n xs ≡ []
+pub no-transfer : (is_row : ContactRow → Type 0) (n : List ℕ) (row : ContactRow) (xs m : Content) → IsConsistent xs → IsConsistent m → IsRowPlaced contacts is_row n row xs m → rows_named contacts n xs ≡ []
     → filter (transfer_with_contact row.id) m.transfers ≡ []
 no-transfer is_row n row xs m consistent still placed none =
     ap (λ (x : Content). filter (transfer_with_contact row.id) x.transfers) placed.rest
@@ -54,7 +54,7 @@ no-transfer is_row n row xs m consistent still placed none =
     fresh contacts is_row n row xs m still placed none led.0 led.1 led.2)
 
 -- a new host has no address
-pub no-address : (is_row : host_table.Host → Type 0) (n : List ℕ) (row : host_table.Host) (xs m : Content) → IsConsistent xs → IsConsistent m → IsRowPlaced hosts is_row n row xs m → rows_named hosts n xs ≡ []
+pub no-address : (is_row : HostRow → Type 0) (n : List ℕ) (row : HostRow) (xs m : Content) → IsConsistent xs → IsConsistent m → IsRowPlaced hosts is_row n row xs m → rows_named hosts n xs ≡ []
     → addresses_of m row.id ≡ []
 no-address is_row n row xs m consistent still placed none =
     ap (λ (x : Content). addresses_of x row.id) placed.rest

@@ -18,6 +18,7 @@ use Rattle.sqlcolumns.proofs.HostLemmas.{host_back}
 use Rattle.sqlcolumns.proofs.ReadLemmas.{same_some}
 use Rattle.sqltables.specs.Content.{Content}
 use Rattle.sqltables.specs.Host as host_table
+use Rattle.sqltables.specs.declared.host.HostRow.{HostRow}
 use Rattle.sqltables.specs.inner.Consistent.{IsConsistent}
 use Rattle.sqltables.proofs.RowLemmas.{bytes_same, same_by_key}
 use Rattle.sqlrows.specs.Read.{first_read, or_else}
@@ -32,10 +33,10 @@ use Rattle.sqlobjects.proofs.PutLemmas.{all_from_has, apart, bytes_apart, bytes_
 use Rattle.sqlobjects.proofs.SponsorLemmas.{found-right, nobody, same-from, sponsor-kept}
 use Rattle.sqlobjects.proofs.VerdictLemmas.{same-verdict}
 
-abbrev name_of : host_table.Host → List ℕ
+abbrev name_of : HostRow → List ℕ
 name_of row = row.name
 
-abbrev key : host_table.Host → ℤ
+abbrev key : HostRow → ℤ
 key = host_table.hosts.key
 
 -- each row is the one that was put, or was there
@@ -57,8 +58,8 @@ put-or-there {X} key (x ∷ xs) new y h = go (int_cmp (key x) (key new)) (put-or
     go Greater more (inl e) = inl e
     go Greater more (inr there) = inr there
 
-module _ (from : List ℕ) (h : Host) (row : host_table.Host) (xs m ys : Content) (consistent : IsConsistent xs) (after : IsConsistent ys) (is : IsHost h) (taken : IsRowTaken from h row xs m) (with : AreAddressesPut row.id h.addresses m ys) where
-  abbrev found : host_table.Host
+module _ (from : List ℕ) (h : Host) (row : HostRow) (xs m ys : Content) (consistent : IsConsistent xs) (after : IsConsistent ys) (is : IsHost h) (taken : IsRowTaken from h row xs m) (with : AreAddressesPut row.id h.addresses m ys) where
+  abbrev found : HostRow
   found = taken.found
 
   number : row.id ≡ found.id
@@ -77,7 +78,7 @@ module _ (from : List ℕ) (h : Host) (row : host_table.Host) (xs m ys : Content
   here : Has ys.hosts row
   here = subst (λ l. Has l row) (sym rows_now) (has-insert_by key xs.hosts row)
 
-  free : (r : host_table.Host) → Has xs.hosts r → r.name ≡ h.name → ⊥
+  free : (r : HostRow) → Has xs.hosts r → r.name ≡ h.name → ⊥
   free = nobody h.name xs.hosts taken.free
 
   two : bytes_eq from h.name ≡ false
@@ -87,7 +88,7 @@ module _ (from : List ℕ) (h : Host) (row : host_table.Host) (xs m ys : Content
       go false e = refl
       go true e = absurd (free found was.0 (was.1 ∙ bytes_is from h.name e))
 
-  gone-now : (r : host_table.Host) → Has ys.hosts r → r.name ≡ from → ⊥
+  gone-now : (r : HostRow) → Has ys.hosts r → r.name ≡ from → ⊥
   gone-now r there same = go (put-or-there key xs.hosts row r (subst (λ l. Has l r) rows_now there))
     where
       never : r ≡ row → ⊥
@@ -98,32 +99,32 @@ module _ (from : List ℕ) (h : Host) (row : host_table.Host) (xs m ys : Content
       go (inr before) = never (same_by_key key ys.hosts r row after.keyed.hosts there here (ap key (consistent.named.hosts r found before was.0 (same ∙ sym was.1)) ∙ sym number))
 
   -- without the row
-  abbrev rest : List host_table.Host
-  rest = delete_where (λ (r : host_table.Host). int_eq (key r) (key found)) xs.hosts
+  abbrev rest : List HostRow
+  rest = delete_where (λ (r : HostRow). int_eq (key r) (key found)) xs.hosts
 
   others-from : AreOthersKept name_of from xs.hosts rest
   others-from = others-removed key name_of from xs.hosts found taken.was.rows consistent.keyed.hosts
 
-  none-from : filter (λ (r : host_table.Host). bytes_eq r.name from) rest ≡ []
+  none-from : filter (λ (r : HostRow). bytes_eq r.name from) rest ≡ []
   none-from = none-removed key name_of from xs.hosts found taken.was.rows consistent.keyed.hosts consistent.named.hosts
 
-  none-now : filter (λ (r : host_table.Host). bytes_eq r.name from) ys.hosts ≡ []
-  none-now = filter_none (λ (r : host_table.Host). bytes_eq r.name from) ys.hosts (all_from_has (λ (r : host_table.Host). bytes_eq r.name from ≡ false) ys.hosts (λ r there. go r there (bytes_eq r.name from) refl))
+  none-now : filter (λ (r : HostRow). bytes_eq r.name from) ys.hosts ≡ []
+  none-now = filter_none (λ (r : HostRow). bytes_eq r.name from) ys.hosts (all_from_has (λ (r : HostRow). bytes_eq r.name from ≡ false) ys.hosts (λ r there. go r there (bytes_eq r.name from) refl))
     where
-      go : (r : host_table.Host) → Has ys.hosts r → (b : Bool) → bytes_eq r.name from ≡ b → bytes_eq r.name from ≡ false
+      go : (r : HostRow) → Has ys.hosts r → (b : Bool) → bytes_eq r.name from ≡ b → bytes_eq r.name from ≡ false
       go r there true e = absurd (gone-now r there (bytes_is r.name from e))
       go r there false e = e
 
   others-to : AreOthersKept name_of h.name rest ys.hosts
   others-to q other = go (bytes_eq q from) refl
     where
-      go : (b : Bool) → bytes_eq q from ≡ b → filter (λ (r : host_table.Host). bytes_eq r.name q) ys.hosts ≡ filter (λ (r : host_table.Host). bytes_eq r.name q) rest
+      go : (b : Bool) → bytes_eq q from ≡ b → filter (λ (r : HostRow). bytes_eq r.name q) ys.hosts ≡ filter (λ (r : HostRow). bytes_eq r.name q) rest
       go true e =
-          ap (λ n. filter (λ (r : host_table.Host). bytes_eq r.name n) ys.hosts) (bytes_is q from e) ∙ none-now
-          ∙ sym (ap (λ n. filter (λ (r : host_table.Host). bytes_eq r.name n) rest) (bytes_is q from e) ∙ none-from)
+          ap (λ n. filter (λ (r : HostRow). bytes_eq r.name n) ys.hosts) (bytes_is q from e) ∙ none-now
+          ∙ sym (ap (λ n. filter (λ (r : HostRow). bytes_eq r.name n) rest) (bytes_is q from e) ∙ none-from)
       go false e =
-          ap (filter (λ (r : host_table.Host). bytes_eq r.name q)) rows_now
-          ∙ filter-insert_by key (λ (r : host_table.Host). bytes_eq r.name q) xs.hosts row (bytes_apart row.name h.name q named other)
+          ap (filter (λ (r : HostRow). bytes_eq r.name q)) rows_now
+          ∙ filter-insert_by key (λ (r : HostRow). bytes_eq r.name q) xs.hosts row (bytes_apart row.name h.name q named other)
           (λ r there same. tied key name_of from xs.hosts found taken.was.rows consistent.keyed.hosts q e r there (same ∙ number))
           ∙ sym (others-from q e)
 
@@ -138,8 +139,8 @@ module _ (from : List ℕ) (h : Host) (row : host_table.Host) (xs m ys : Content
     rest = ap (λ (x : Content). record x { hosts = xs.hosts }) with.others.rest ∙ ap (λ (x : Content). record x { hosts = xs.hosts; addresses = ys.addresses }) taken.content;
   }
 
-  alone-now : filter (λ (r : host_table.Host). bytes_eq r.name h.name) ys.hosts ≡ row ∷ []
-  alone-now = ap (λ n. filter (λ (r : host_table.Host). bytes_eq r.name n) ys.hosts) (sym named) ∙ only_named key name_of ys.hosts row after.keyed.hosts after.named.hosts here
+  alone-now : filter (λ (r : HostRow). bytes_eq r.name h.name) ys.hosts ≡ row ∷ []
+  alone-now = ap (λ n. filter (λ (r : HostRow). bytes_eq r.name n) ys.hosts) (sym named) ∙ only_named key name_of ys.hosts row after.keyed.hosts after.named.hosts here
 
   hosts-now : hosts_of ys ≡ put (put (hosts_of xs) from None) h.name (Some h)
   hosts-now =
@@ -157,26 +158,26 @@ module _ (from : List ℕ) (h : Host) (row : host_table.Host) (xs m ys : Content
       itself : str.bytes_eq found.name from ≡ true
       itself = (bytes_eq-Decides found.name from).1 was.1
 
-      renamed : (r : host_table.Host) → Has xs.hosts r → key r ≡ id → int_eq row.id id ≡ false → new_name from h.name r.name ≡ r.name
+      renamed : (r : HostRow) → Has xs.hosts r → key r ≡ id → int_eq row.id id ≡ false → new_name from h.name r.name ≡ r.name
       renamed r there same other = at (str.bytes_eq r.name from) refl
         where
           at : (b : Bool) → str.bytes_eq r.name from ≡ b → cond b h.name r.name ≡ r.name
           at false e = refl
           at true e = absurd (true≢false (sym ((Decides-int_eq row.id id).1 (number ∙ ap key (sym (consistent.named.hosts r found there was.0 ((bytes_eq-Decides r.name from).0 e ∙ sym was.1))) ∙ same)) ∙ other))
 
-      go : (b : Bool) (o : Option host_table.Host) → int_eq row.id id ≡ b → get_by key xs.hosts id ≡ o → option_map name_of (cond b (Some row) o) ≡ option_map (new_name from h.name) (option_map name_of o)
+      go : (b : Bool) (o : Option HostRow) → int_eq row.id id ≡ b → get_by key xs.hosts id ≡ o → option_map name_of (cond b (Some row) o) ≡ option_map (new_name from h.name) (option_map name_of o)
       go false None e f = refl
       go false (Some r) e f = ap Some (sym (renamed r (has-get_by key xs.hosts id r f) (key-get_by key xs.hosts id r f) e))
       go true (Some r) e f =
           let same : r ≡ found = same_by_key key xs.hosts r found consistent.keyed.hosts (has-get_by key xs.hosts id r f) was.0 (key-get_by key xs.hosts id r f ∙ sym (same_int row.id id e) ∙ number) in
           ap Some named ∙ sym (ap Some (ap (λ (b : Bool). cond b h.name r.name) ((bytes_eq-Decides r.name from).1 (ap name_of same ∙ was.1))))
       go true None e f =
-          absurd (let never : ◌≡◌ {A = Option host_table.Host} (Some found) None = sym (get_by-has key xs.hosts found consistent.keyed.hosts was.0) ∙ ap (get_by key xs.hosts) (sym number ∙ same_int row.id id e) ∙ f in cc)
+          absurd (let never : ◌≡◌ {A = Option HostRow} (Some found) None = sym (get_by-has key xs.hosts found consistent.keyed.hosts was.0) ∙ ap (get_by key xs.hosts) (sym number ∙ same_int row.id id e) ∙ f in cc)
 
   free-before : (id : ℤ) → host_name xs id ≡ Some h.name → ⊥
   free-before id e = go (get_by key xs.hosts id) refl e
     where
-      go : (o : Option host_table.Host) → get_by key xs.hosts id ≡ o → option_map name_of o ≡ Some h.name → ⊥
+      go : (o : Option HostRow) → get_by key xs.hosts id ≡ o → option_map name_of o ≡ Some h.name → ⊥
       go None f g = cc
       go (Some r) f g = free r (has-get_by key xs.hosts id r f) (same_some r.name h.name g)
 
@@ -185,7 +186,7 @@ module _ (from : List ℕ) (h : Host) (row : host_table.Host) (xs m ys : Content
   domains-now : ys.domains ≡ xs.domains
   domains-now = ap (λ (x : Content). x.domains) kept-now.rest
 
-  free-rest : filter (λ (r : host_table.Host). bytes_eq r.name h.name) rest ≡ []
+  free-rest : filter (λ (r : HostRow). bytes_eq r.name h.name) rest ≡ []
   free-rest = others-from h.name (go (bytes_eq h.name from) refl) ∙ taken.free
     where
       go : (b : Bool) → bytes_eq h.name from ≡ b → b ≡ false

@@ -7,6 +7,7 @@ use Rattle.sqlcolumns.specs.Transfers.{is_same}
 use Rattle.sqltables.specs.Content.{Content}
 use Rattle.sqltables.specs.Domain.{domain_with_name}
 use Rattle.sqltables.specs.Host as table
+use Rattle.sqltables.specs.declared.host.HostRow.{HostRow}
 use Rattle.sqltables.proofs.RowLemmas.{bytes_same}
 use Rattle.sqlrows.specs.Read.{or_else, rows_of}
 use Rattle.sqlobjects.specs.Sponsors.{first_sponsor, is_sponsor_right, sponsor_of}
@@ -27,19 +28,19 @@ same-is (Some a) None e = cc
 same-is (Some a) (Some b) e = ap Some (same_int a b e)
 
 -- where the domains are the same, so is who sponsors a host
-pub sponsor-kept : (xs ys : Content) (row : table.Host) → ys.domains ≡ xs.domains → sponsor_of ys row ≡ sponsor_of xs row
+pub sponsor-kept : (xs ys : Content) (row : HostRow) → ys.domains ≡ xs.domains → sponsor_of ys row ≡ sponsor_of xs row
 sponsor-kept xs ys row domains = ap (λ rows. or_else row.external_sponsor (first_sponsor (filter (domain_with_name row.above) rows))) domains
 
 -- each row of the name that was looked up has the right sponsor
-pub found-right : (xs : Content) (name : List ℕ) (found : Option table.Host) → IsHostFound xs name found → (row : table.Host) → Has xs.hosts row → row.name ≡ name → is_sponsor_right xs row ≡ true
+pub found-right : (xs : Content) (name : List ℕ) (found : Option HostRow) → IsHostFound xs name found → (row : HostRow) → Has xs.hosts row → row.name ≡ name → is_sponsor_right xs row ≡ true
 found-right xs name found it row there is =
     go found it.sponsor (subst (λ l. Has l row) it.rows (filter-has (table.host_with_name name) xs.hosts row there (bytes_same row.name name is)))
   where
-    go : (o : Option table.Host) → IfSome o (HasRightSponsor xs) → Has (rows_of o) row → is_sponsor_right xs row ≡ true
+    go : (o : Option HostRow) → IfSome o (HasRightSponsor xs) → Has (rows_of o) row → is_sponsor_right xs row ≡ true
     go None right among = absurd among
     go (Some r) right (inl same) = same-from row.sponsor (sponsor_of xs row) (subst (HasRightSponsor xs) (sym same) right)
     go (Some r) right (inr later) = absurd later
 
 -- no row has the name
-pub nobody : (name : List ℕ) (rows : List table.Host) → filter (table.host_with_name name) rows ≡ [] → (row : table.Host) → Has rows row → row.name ≡ name → ⊥
+pub nobody : (name : List ℕ) (rows : List HostRow) → filter (table.host_with_name name) rows ≡ [] → (row : HostRow) → Has rows row → row.name ≡ name → ⊥
 nobody name rows none row there is = subst (λ l. Has l row) none (filter-has (table.host_with_name name) rows row there (bytes_same row.name name is))

@@ -13,7 +13,8 @@ use Rattle.sqlcolumns.specs.Transfers.{IsTransfer}
 use Rattle.sqlcolumns.proofs.TransferLemmas.{transfer_back}
 use Rattle.sqltables.specs.Content.{Content}
 use Rattle.sqltables.specs.inner.Content.{transfers_to}
-use Rattle.sqltables.specs.Transfer.{Transfer, transfers}
+use Rattle.sqltables.specs.Transfer.{transfers}
+use Rattle.sqltables.specs.declared.transfer.TransferRow.{TransferRow}
 use Rattle.sqltables.proofs.RowLemmas.{same_by_key}
 use Rattle.sqlrows.specs.Read.{rows_of}
 use Rattle.sqlobjects.specs.declared.transfers.Transferable.{Transferable}
@@ -35,7 +36,7 @@ nowhere (Some c) None id other single is = refl
 nowhere (Some c) (Some d) id other single is = absurd (true≢false single)
 
 -- a row that isn't of both is of no other object
-alone : (it other : Transferable) (row : Transfer) → names_both row ≡ false → are_same it other ≡ false → is_of it row ≡ true → is_of other row ≡ false
+alone : (it other : Transferable) (row : TransferRow) → names_both row ≡ false → are_same it other ≡ false → is_of it row ≡ true → is_of other row ≡ false
 alone (Contact id) (Contact other) row single apart is = elsewhere row.contact id other apart is
 alone (Contact id) (Domain other) row single apart is = nowhere row.contact row.domain id other single is
 alone (Domain id) (Contact other) row single apart is = nowhere row.domain row.contact id other (and_comm (is_some row.domain) (is_some row.contact) ∙ single) is
@@ -45,7 +46,7 @@ alone (Domain id) (Domain other) row single apart is = elsewhere row.domain id o
 
 -- under a number
 module _ (k : ℤ) (t : object.Transfer) (is : IsTransfer t) where
-  abbrev row_under : Transferable → Transfer
+  abbrev row_under : Transferable → TransferRow
   row_under it = record (row_of it t) { id = k }
 
   own-row : (it : Transferable) → is_of it (row_under it) ≡ true
@@ -66,8 +67,8 @@ module _ (k : ℤ) (t : object.Transfer) (is : IsTransfer t) where
 pub clear-already : (it : Transferable) (xs : Content) → filter (is_of it) xs.transfers ≡ [] → IsTransferCleared it xs xs
 clear-already it xs none = record { none = none; kept = record { others = λ other apart. refl; rest = refl } }
 
-module _ (it : Transferable) (xs : Content) (one : Transfer) (found : filter (is_of it) xs.transfers ≡ one ∷ []) (single : names_both one ≡ false) where
-  the-one : (t : Transfer) → Has xs.transfers t → is_of it t ≡ true → t ≡ one
+module _ (it : Transferable) (xs : Content) (one : TransferRow) (found : filter (is_of it) xs.transfers ≡ one ∷ []) (single : names_both one ≡ false) where
+  the-one : (t : TransferRow) → Has xs.transfers t → is_of it t ≡ true → t ≡ one
   the-one t h e = elim (subst (λ l. Has l t) found (filter-has (is_of it) xs.transfers t h e)) [ inl same ↦ same | inr none ↦ absurd none ]
 
   cleared : IsTransferCleared it xs (transfers_to (delete_where (is_of it)) xs)
@@ -81,7 +82,7 @@ module _ (it : Transferable) (xs : Content) (one : Transfer) (found : filter (is
 
   replaced : IsKeyedBy transfers.key xs.transfers → (t : object.Transfer) (is : IsTransfer t) → IsTransferPut it (Some t) xs (transfers_to (λ rows. insert_by transfers.key rows (row_under one.id t is it)) xs)
   replaced keyed t is =
-      let row : Transfer = row_under one.id t is it in
+      let row : TransferRow = row_under one.id t is it in
       let there = has-filter (is_of it) xs.transfers one (subst (λ l. Has l one) (sym found) (inl refl)) in
       record {
         last = ap last_transfer (filter-in-place transfers.key (is_of it) xs.transfers one row keyed refl (own-row one.id t is it) found) ∙ read-back one.id t is it;
@@ -93,7 +94,7 @@ module _ (it : Transferable) (xs : Content) (one : Transfer) (found : filter (is
       }
 
 -- whatever was there
-pub transfer-cleared : (it : Transferable) (xs : Content) (there : Option Transfer) → IsRowOf it xs.transfers there → IsTransferCleared it xs (transfers_to (delete_where (is_of it)) xs)
+pub transfer-cleared : (it : Transferable) (xs : Content) (there : Option TransferRow) → IsRowOf it xs.transfers there → IsTransferCleared it xs (transfers_to (delete_where (is_of it)) xs)
 transfer-cleared it xs None of = record {
   none = filter-deleted (is_of it) (is_of it) xs.transfers (λ t h e. e);
   kept = record {
@@ -103,17 +104,17 @@ transfer-cleared it xs None of = record {
 }
 transfer-cleared it xs (Some one) of = cleared it xs one of.is of.alone
 
-pub transfer-put : (it : Transferable) (xs : Content) (transfer : Option object.Transfer) (there row : Option Transfer) → row ≡ maybe_row it transfer → IfSome transfer IsTransfer
+pub transfer-put : (it : Transferable) (xs : Content) (transfer : Option object.Transfer) (there row : Option TransferRow) → row ≡ maybe_row it transfer → IfSome transfer IsTransfer
     → IsRowOf it xs.transfers there → IsKeyedBy transfers.key xs.transfers → IsTransferPut it transfer xs (transfers_to (with_over it there row) xs)
 transfer-put it xs transfer there row given is of keyed =
     subst (λ r. IsTransferPut it transfer xs (transfers_to (with_over it there r) xs)) (sym given) (go there transfer is of.is of.alone)
   where
-    go : (there : Option Transfer) (transfer : Option object.Transfer) → IfSome transfer IsTransfer → filter (is_of it) xs.transfers ≡ rows_of there → option_map_or names_both there false ≡ false
+    go : (there : Option TransferRow) (transfer : Option object.Transfer) → IfSome transfer IsTransfer → filter (is_of it) xs.transfers ≡ rows_of there → option_map_or names_both there false ≡ false
         → IsTransferPut it transfer xs (transfers_to (with_over it there (maybe_row it transfer)) xs)
     go None None is none single = record { last = ap last_transfer none; kept = (clear-already it xs none).kept }
     go None (Some t) is none single =
         let k = next_key transfers.key xs.transfers in
-        let row : Transfer = row_under k t is it in
+        let row : TransferRow = row_under k t is it in
         record {
           last = ap last_transfer (filter-append_pass (is_of it) xs.transfers row (own-row k t is it) ∙ ap (λ rows. rows ++ row ∷ []) none) ∙ read-back k t is it;
           kept = record {

@@ -12,27 +12,27 @@ use Rattle.sqlcolumns.specs.Hosts.{host_in}
 use Rattle.sqlcolumns.specs.Steps.{◌>>=◌}
 use Rattle.sqlcolumns.specs.Transfers.{transfer_in}
 use Rattle.sqltables.specs.Address.{address_with_host}
-use Rattle.sqltables.specs.Address as address_table
-use Rattle.sqltables.specs.Contact as contact_table
+use Rattle.sqltables.specs.declared.address.AddressRow.{AddressRow}
+use Rattle.sqltables.specs.declared.contact.ContactRow.{ContactRow}
 use Rattle.sqltables.specs.Content.{Content}
-use Rattle.sqltables.specs.Host as host_table
+use Rattle.sqltables.specs.declared.host.HostRow.{HostRow}
 use Rattle.sqltables.specs.Transfer.{transfer_with_contact}
-use Rattle.sqltables.specs.Transfer as transfer_table
+use Rattle.sqltables.specs.declared.transfer.TransferRow.{TransferRow}
 use Rattle.sqlrows.specs.Read.{named}
 
 -- ---- contacts
 
 -- of no row no transfer, of one the transfer that it reads as; an object has no more than one row
-abbrev pub last_transfer : List transfer_table.Transfer → Option (Option Transfer)
+abbrev pub last_transfer : List TransferRow → Option (Option Transfer)
 last_transfer [] = Some None
 last_transfer (row ∷ []) = option_map Some (transfer_in row)
 last_transfer (row ∷ next ∷ rows) = None
 
 -- the contact of a row, if it and its transfer read
-abbrev pub contact_of : Content → contact_table.Contact → Option Contact
+abbrev pub contact_of : Content → ContactRow → Option Contact
 contact_of xs row = last_transfer (filter (transfer_with_contact row.id) xs.transfers) >>= (λ transfer. contact_in row transfer)
 
-abbrev pub contact_entry : Content → contact_table.Contact → Option (List ℕ × Contact)
+abbrev pub contact_entry : Content → ContactRow → Option (List ℕ × Contact)
 contact_entry xs row = named row.name (contact_of xs row)
 
 abbrev pub contacts_of : Content → FinMap (slice_cmp nat_cmp) Contact
@@ -40,18 +40,18 @@ contacts_of xs = from_entries (filter_map (contact_entry xs) xs.contacts)
 
 -- ---- hosts
 
-abbrev pub texts_of : List address_table.Address → List (List ℕ)
-texts_of rows = map (λ (a : address_table.Address). a.address) rows
+abbrev pub texts_of : List AddressRow → List (List ℕ)
+texts_of rows = map (λ (a : AddressRow). a.address) rows
 
 -- the addresses of the host with this number, in the order of their rows
 abbrev pub addresses_of : Content → ℤ → List (List ℕ)
 addresses_of xs id = texts_of (filter (address_with_host id) xs.addresses)
 
 -- the host of a row, if it reads
-abbrev pub host_of : Content → host_table.Host → Option Host
+abbrev pub host_of : Content → HostRow → Option Host
 host_of xs row = host_in row (addresses_of xs row.id)
 
-abbrev pub host_entry : Content → host_table.Host → Option (List ℕ × Host)
+abbrev pub host_entry : Content → HostRow → Option (List ℕ × Host)
 host_entry xs row = named row.name (host_of xs row)
 
 abbrev pub hosts_of : Content → FinMap (slice_cmp nat_cmp) Host

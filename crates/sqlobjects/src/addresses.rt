@@ -39,7 +39,7 @@ pub(crate) fn put_addresses<S: Alter>(
         → AreAddressesPut host.now.id addresses.now old new) store.old store.new }
 {
     if is_new {
-        return add_addresses(store, alloc, host, addresses);
+        return add_addresses(store, host, addresses);
     }
     replace_addresses(store, alloc, host, addresses)
 }
@@ -59,7 +59,7 @@ fn replace_addresses<S: Alter>(
         return Ok(());
     }
     clear_addresses(store, number_of(host))?;
-    add_addresses(store, alloc, host, addresses)?;
+    add_addresses(store, host, addresses)?;
     Ok(())
 }
 
@@ -87,7 +87,6 @@ pub fn are_same(texts: &[Text], others: &[Text]) -> bool
 /// Adds addresses, one after another.
 fn add_addresses<S: Alter>(
     store: &mut RowStore<S>,
-    alloc: Global,
     host: &HostRow,
     addresses: &[Text],
 ) -> Result<(), BookFault>
@@ -95,7 +94,7 @@ fn add_addresses<S: Alter>(
     ensures { Changes result (AreAddressesAdded host.now.id addresses.now) store.old store.new }
 {
     for address in addresses {
-        add_address(store, alloc, host, address)?;
+        add_address(store, host, address)?;
     }
     Ok(())
 }
@@ -103,26 +102,25 @@ fn add_addresses<S: Alter>(
 /// Adds one address.
 fn add_address<S: Alter>(
     store: &mut RowStore<S>,
-    alloc: Global,
     host: &HostRow,
     address: &Text,
 ) -> Result<(), BookFault>
     requires { store.old.is_open ≡ true }
     ensures { Changes result (AreAddressesAdded host.now.id (address.now ∷ [])) store.old store.new }
 {
-    let row = row_of(alloc, host, address)?;
+    let row = row_of(host, address)?;
     store.append_address(&row)?;
     Ok(())
 }
 
 /// The row of a host's address, but for its number.
-fn row_of(alloc: Global, host: &HostRow, address: &Text) -> Result<AddressRow, AllocError>
+fn row_of(host: &HostRow, address: &Text) -> Result<AddressRow, AllocError>
     ensures host { IfOk result (λ row. row.host ≡ host.now.id) }
     ensures address { IfOk result (λ row. row.address ≡ address.now) }
 {
     Ok(AddressRow {
         id: 0,
         host: host.id,
-        address: String::from_str(alloc, address.as_str())?,
+        address: address.clone()?,
     })
 }

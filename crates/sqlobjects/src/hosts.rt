@@ -73,7 +73,7 @@ pub(crate) fn texts_of(alloc: Global, rows: Seq<AddressRow>) -> Result<Seq<Text>
 {
     let mut texts = Seq::new(alloc);
     for row in rows.into_vec() {
-        texts.push(Text::from_string(row.address))?;
+        texts.push(row.address)?;
     }
     Ok(texts)
 }

@@ -14,7 +14,7 @@ mod transaction;
 
 pub use definition::define;
 pub use likeness::{is_schema, is_unused};
-pub use nullable::{maybe_number, maybe_text};
+pub use nullable::{maybe_number, maybe_text, maybe_text_of};
 pub use number::Number;
 pub use reading::{only, or_fault};
 pub use record::{Record, write};

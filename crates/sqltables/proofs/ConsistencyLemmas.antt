@@ -29,16 +29,14 @@ use Rattle.sqltables.specs.Tables.{registry, contact, domain, host, address, lin
 use Rattle.sqltables.specs.Content.{Content, no_content}
 use Rattle.sqltables.specs.inner.Content.{IsContent}
 use Rattle.sqltables.specs.Account.{accounts}
-use Rattle.sqltables.specs.Contact.{Contact, contacts}
-use Rattle.sqltables.specs.Domain.{Domain}
-use Rattle.sqltables.specs.inner.Domain.{domains}
-use Rattle.sqltables.specs.Host.{Host, hosts}
-use Rattle.sqltables.specs.Address.{Address, addresses}
-use Rattle.sqltables.specs.Link.{Link, links}
-use Rattle.sqltables.specs.Line.{Line, lines}
-use Rattle.sqltables.specs.Message.{Message}
-use Rattle.sqltables.specs.inner.Message.{messages}
-use Rattle.sqltables.specs.Transfer.{Transfer, transfers}
+use Rattle.sqltables.specs.Contact.{ContactRow, contacts}
+use Rattle.sqltables.specs.Domain.{DomainRow, domains}
+use Rattle.sqltables.specs.Host.{HostRow, hosts}
+use Rattle.sqltables.specs.Address.{AddressRow, addresses}
+use Rattle.sqltables.specs.Link.{LinkRow, links}
+use Rattle.sqltables.specs.Line.{LineRow, lines}
+use Rattle.sqltables.specs.Message.{MessageRow, messages}
+use Rattle.sqltables.specs.Transfer.{TransferRow, transfers}
 use Rattle.sqltables.specs.inner.Stored.{Bears, rows_in}
 use Rattle.sqltables.specs.declared.form.Form.{Form}
 use Rattle.sqltables.specs.declared.form.Form.TheVariants.{Unused, Making, Made, Other}
@@ -117,21 +115,21 @@ linked xs db h keeps =
     let of_messages = each_refers messages d xs.messages h.messages message.references keeps.1.1.1.1.1.1.1.1.0 in
     let of_transfers = each_refers transfers d xs.transfers h.transfers transfer.references keeps.1.1.1.1.1.1.1.1.1.0 in
     record {
-      contact_sponsor = led accounts d xs.accounts h.accounts xs.contacts (λ (x : Contact). Some x.sponsor) (all_weaker _ (λ (x : Contact). IsHeld d 1 (Some x.sponsor)) (λ x r. r.0) xs.contacts of_contacts);
-      domain_sponsor = led accounts d xs.accounts h.accounts xs.domains (λ (x : Domain). Some x.sponsor) (all_weaker _ (λ (x : Domain). IsHeld d 1 (Some x.sponsor)) (λ x r. r.0) xs.domains of_domains);
-      domain_registrant = led contacts d xs.contacts h.contacts xs.domains (λ (x : Domain). Some x.registrant) (all_weaker _ (λ (x : Domain). IsHeld d 3 (Some x.registrant)) (λ x r. r.1.0) xs.domains of_domains);
-      host_external_sponsor = led accounts d xs.accounts h.accounts xs.hosts (λ (x : Host). x.external_sponsor) (all_weaker _ (λ (x : Host). IsHeld d 1 x.external_sponsor) (λ x r. r.0) xs.hosts of_hosts);
-      host_sponsor = led accounts d xs.accounts h.accounts xs.hosts (λ (x : Host). x.sponsor) (all_weaker _ (λ (x : Host). IsHeld d 1 x.sponsor) (λ x r. r.1.0) xs.hosts of_hosts);
-      address_host = led hosts d xs.hosts h.hosts xs.addresses (λ (x : Address). Some x.host) (all_weaker _ (λ (x : Address). IsHeld d 7 (Some x.host)) (λ x r. r.0) xs.addresses of_addresses);
-      link_domain = led domains d xs.domains h.domains xs.links (λ (x : Link). Some x.domain) (all_weaker _ (λ (x : Link). IsHeld d 5 (Some x.domain)) (λ x r. r.0) xs.links of_links);
-      link_contact = led contacts d xs.contacts h.contacts xs.links (λ (x : Link). x.contact) (all_weaker _ (λ (x : Link). IsHeld d 3 x.contact) (λ x r. r.1.0) xs.links of_links);
-      link_host = led hosts d xs.hosts h.hosts xs.links (λ (x : Link). x.host) (all_weaker _ (λ (x : Link). IsHeld d 7 x.host) (λ x r. r.1.1.0) xs.links of_links);
-      line_account = led accounts d xs.accounts h.accounts xs.lines (λ (x : Line). Some x.account) (all_weaker _ (λ (x : Line). IsHeld d 1 (Some x.account)) (λ x r. r.0) xs.lines of_lines);
-      message_account = led accounts d xs.accounts h.accounts xs.messages (λ (x : Message). Some x.account) (all_weaker _ (λ (x : Message). IsHeld d 1 (Some x.account)) (λ x r. r.0) xs.messages of_messages);
-      transfer_contact = led contacts d xs.contacts h.contacts xs.transfers (λ (x : Transfer). x.contact) (all_weaker _ (λ (x : Transfer). IsHeld d 3 x.contact) (λ x r. r.0) xs.transfers of_transfers);
-      transfer_domain = led domains d xs.domains h.domains xs.transfers (λ (x : Transfer). x.domain) (all_weaker _ (λ (x : Transfer). IsHeld d 5 x.domain) (λ x r. r.1.0) xs.transfers of_transfers);
-      transfer_requester = led accounts d xs.accounts h.accounts xs.transfers (λ (x : Transfer). Some x.requester) (all_weaker _ (λ (x : Transfer). IsHeld d 1 (Some x.requester)) (λ x r. r.1.1.0) xs.transfers of_transfers);
-      transfer_losing = led accounts d xs.accounts h.accounts xs.transfers (λ (x : Transfer). Some x.losing) (all_weaker _ (λ (x : Transfer). IsHeld d 1 (Some x.losing)) (λ x r. r.1.1.1.0) xs.transfers of_transfers);
+      contact_sponsor = led accounts d xs.accounts h.accounts xs.contacts (λ (x : ContactRow). Some x.sponsor) (all_weaker _ (λ (x : ContactRow). IsHeld d 1 (Some x.sponsor)) (λ x r. r.0) xs.contacts of_contacts);
+      domain_sponsor = led accounts d xs.accounts h.accounts xs.domains (λ (x : DomainRow). Some x.sponsor) (all_weaker _ (λ (x : DomainRow). IsHeld d 1 (Some x.sponsor)) (λ x r. r.0) xs.domains of_domains);
+      domain_registrant = led contacts d xs.contacts h.contacts xs.domains (λ (x : DomainRow). Some x.registrant) (all_weaker _ (λ (x : DomainRow). IsHeld d 3 (Some x.registrant)) (λ x r. r.1.0) xs.domains of_domains);
+      host_external_sponsor = led accounts d xs.accounts h.accounts xs.hosts (λ (x : HostRow). x.external_sponsor) (all_weaker _ (λ (x : HostRow). IsHeld d 1 x.external_sponsor) (λ x r. r.0) xs.hosts of_hosts);
+      host_sponsor = led accounts d xs.accounts h.accounts xs.hosts (λ (x : HostRow). x.sponsor) (all_weaker _ (λ (x : HostRow). IsHeld d 1 x.sponsor) (λ x r. r.1.0) xs.hosts of_hosts);
+      address_host = led hosts d xs.hosts h.hosts xs.addresses (λ (x : AddressRow). Some x.host) (all_weaker _ (λ (x : AddressRow). IsHeld d 7 (Some x.host)) (λ x r. r.0) xs.addresses of_addresses);
+      link_domain = led domains d xs.domains h.domains xs.links (λ (x : LinkRow). Some x.domain) (all_weaker _ (λ (x : LinkRow). IsHeld d 5 (Some x.domain)) (λ x r. r.0) xs.links of_links);
+      link_contact = led contacts d xs.contacts h.contacts xs.links (λ (x : LinkRow). x.contact) (all_weaker _ (λ (x : LinkRow). IsHeld d 3 x.contact) (λ x r. r.1.0) xs.links of_links);
+      link_host = led hosts d xs.hosts h.hosts xs.links (λ (x : LinkRow). x.host) (all_weaker _ (λ (x : LinkRow). IsHeld d 7 x.host) (λ x r. r.1.1.0) xs.links of_links);
+      line_account = led accounts d xs.accounts h.accounts xs.lines (λ (x : LineRow). Some x.account) (all_weaker _ (λ (x : LineRow). IsHeld d 1 (Some x.account)) (λ x r. r.0) xs.lines of_lines);
+      message_account = led accounts d xs.accounts h.accounts xs.messages (λ (x : MessageRow). Some x.account) (all_weaker _ (λ (x : MessageRow). IsHeld d 1 (Some x.account)) (λ x r. r.0) xs.messages of_messages);
+      transfer_contact = led contacts d xs.contacts h.contacts xs.transfers (λ (x : TransferRow). x.contact) (all_weaker _ (λ (x : TransferRow). IsHeld d 3 x.contact) (λ x r. r.0) xs.transfers of_transfers);
+      transfer_domain = led domains d xs.domains h.domains xs.transfers (λ (x : TransferRow). x.domain) (all_weaker _ (λ (x : TransferRow). IsHeld d 5 x.domain) (λ x r. r.1.0) xs.transfers of_transfers);
+      transfer_requester = led accounts d xs.accounts h.accounts xs.transfers (λ (x : TransferRow). Some x.requester) (all_weaker _ (λ (x : TransferRow). IsHeld d 1 (Some x.requester)) (λ x r. r.1.1.0) xs.transfers of_transfers);
+      transfer_losing = led accounts d xs.accounts h.accounts xs.transfers (λ (x : TransferRow). Some x.losing) (all_weaker _ (λ (x : TransferRow). IsHeld d 1 (Some x.losing)) (λ x r. r.1.1.1.0) xs.transfers of_transfers);
     }
 
 -- ---- the whole

@@ -9,19 +9,17 @@ use Rattle.sqlrows.specs.inner.Layouts.{Holds}
 use Rattle.sqlite_trees.specs.Tree.{Trees}
 use Rattle.sqltables.specs.Content.{Content}
 use Rattle.sqltables.specs.inner.Content.{IsContent}
-use Rattle.sqltables.specs.Meta.{Meta, meta_row, metas}
-use Rattle.sqltables.specs.Account.{Account, account_row, accounts}
-use Rattle.sqltables.specs.Contact.{Contact, contact_row, contacts}
-use Rattle.sqltables.specs.Domain.{Domain}
-use Rattle.sqltables.specs.inner.Domain.{domain_row, domains}
-use Rattle.sqltables.specs.Host.{Host, host_row, hosts}
-use Rattle.sqltables.specs.Address.{Address, address_row, addresses}
-use Rattle.sqltables.specs.Link.{Link, link_row, links}
-use Rattle.sqltables.specs.Line.{Line, line_row, lines}
-use Rattle.sqltables.specs.Message.{Message}
-use Rattle.sqltables.specs.inner.Message.{message_row, messages}
-use Rattle.sqltables.specs.Transfer.{Transfer, transfer_row, transfers}
-use Rattle.sqltables.specs.Day.{Day, day_row, days}
+use Rattle.sqltables.specs.Meta.{MetaRow, meta_row, metas}
+use Rattle.sqltables.specs.Account.{AccountRow, account_row, accounts}
+use Rattle.sqltables.specs.Contact.{ContactRow, contact_row, contacts}
+use Rattle.sqltables.specs.Domain.{DomainRow, domain_row, domains}
+use Rattle.sqltables.specs.Host.{HostRow, host_row, hosts}
+use Rattle.sqltables.specs.Address.{AddressRow, address_row, addresses}
+use Rattle.sqltables.specs.Link.{LinkRow, link_row, links}
+use Rattle.sqltables.specs.Line.{LineRow, line_row, lines}
+use Rattle.sqltables.specs.Message.{MessageRow, message_row, messages}
+use Rattle.sqltables.specs.Transfer.{TransferRow, transfer_row, transfers}
+use Rattle.sqltables.specs.Day.{DayRow, day_row, days}
 use Rattle.sqltables.specs.Decoding.{contents, meta_in, account_in, contact_in, domain_in, host_in, address_in, link_in, line_in, message_in, transfer_in, day_in}
 
 back-number : (o : Option ℤ) → unless_null int_of (or_null Int o) ≡ o
@@ -32,37 +30,37 @@ back-text : (o : Option (List ℕ)) → unless_null bytes_of (or_null Text o) �
 back-text None = refl
 back-text (Some v) = refl
 
-meta-back : (x : Meta) → meta_in (meta_row x) ≡ x
+meta-back : (x : MetaRow) → meta_in (meta_row x) ≡ x
 meta-back x = refl
 
-account-back : (x : Account) → account_in (account_row x) ≡ x
+account-back : (x : AccountRow) → account_in (account_row x) ≡ x
 account-back x = refl
 
-contact-back : (x : Contact) → contact_in (contact_row x) ≡ x
+contact-back : (x : ContactRow) → contact_in (contact_row x) ≡ x
 contact-back x = rw (back-number x.transferred, back-number x.updated, back-text x.postal.org, back-text x.postal.state, back-text x.postal.postal_code, back-text x.voice, back-number x.due)
 
-domain-back : (x : Domain) → domain_in (domain_row x) ≡ x
+domain-back : (x : DomainRow) → domain_in (domain_row x) ≡ x
 domain-back x = rw (back-number x.transferred, back-number x.updated, back-number x.deleted, back-number x.restore_requested)
 
-host-back : (x : Host) → host_in (host_row x) ≡ x
+host-back : (x : HostRow) → host_in (host_row x) ≡ x
 host-back x = rw (back-number x.external_sponsor, back-number x.sponsor, back-number x.updated)
 
-address-back : (x : Address) → address_in (address_row x) ≡ x
+address-back : (x : AddressRow) → address_in (address_row x) ≡ x
 address-back x = refl
 
-link-back : (x : Link) → link_in (link_row x) ≡ x
+link-back : (x : LinkRow) → link_in (link_row x) ≡ x
 link-back x = rw (back-number x.contact, back-number x.host)
 
-line-back : (x : Line) → line_in (line_row x) ≡ x
+line-back : (x : LineRow) → line_in (line_row x) ≡ x
 line-back x = rw (back-number x.creator, back-number x.serial, back-number x.grace.started, back-number x.grace.ends, back-number x.refunded)
 
-message-back : (x : Message) → message_in (message_row x) ≡ x
+message-back : (x : MessageRow) → message_in (message_row x) ≡ x
 message-back x = refl
 
-transfer-back : (x : Transfer) → transfer_in (transfer_row x) ≡ x
+transfer-back : (x : TransferRow) → transfer_in (transfer_row x) ≡ x
 transfer-back x = rw (back-number x.contact, back-number x.domain, back-number x.due)
 
-day-back : (x : Day) → day_in (day_row x) ≡ x
+day-back : (x : DayRow) → day_in (day_row x) ≡ x
 day-back x = refl
 
 read-back : {X : Type 0} (L : Layout X) (read : Row → X) → ((x : X) → read (L.to_row x) ≡ x) → (xs : List X) → map read (map L.to_row xs) ≡ xs

@@ -6,7 +6,7 @@ use Rattle.std.proofs.lemmas.Int.{ints}
 use Rattle.sqlite_keyed.specs.Keyed.{IsKeyedBy, insert_by}
 use Rattle.sqlite_keyed.proofs.KeyedLemmas.{IsKeyedBy-insert_by, same_int}
 use Rattle.sqlite_rules.specs.Lists.{Has}
-use Rattle.sqltables.specs.Account.{Account, accounts, account_with_id}
+use Rattle.sqltables.specs.Account.{AccountRow, accounts, account_with_id}
 use Rattle.sqltables.specs.Content.{Content}
 use Rattle.sqltables.specs.inner.Content.{accounts_to}
 use Rattle.sqltables.specs.inner.Hand.{IsSameRow, IsThere, has_number, rows_at, with_owed}
@@ -97,32 +97,32 @@ has-filter p (y ∷ ys) x h = go (p y) (has-filter p ys x) h
 
 -- ---- what is seen is whole
 
-led-with : {X : Type 0} (xs : List X) (column : X → Option ℤ) (rows : List Account) (row : Account) → LeadsTo xs column rows (λ (x : Account). x.id) → LeadsTo xs column (insert_by accounts.key rows row) (λ (x : Account). x.id)
+led-with : {X : Type 0} (xs : List X) (column : X → Option ℤ) (rows : List AccountRow) (row : AccountRow) → LeadsTo xs column rows (λ (x : AccountRow). x.id) → LeadsTo xs column (insert_by accounts.key rows row) (λ (x : AccountRow). x.id)
 led-with xs column rows row led x h id is =
     let it = led x h id is in
     let z = put-keeps-keys accounts.key rows row it.0 it.1 in
     (z.0, z.1, z.2 ∙ it.2)
 
-named-with : (rows : List Account) (row : Account) → IsKeyedBy accounts.key rows → IsThere true row rows → IsNamedBy (λ (x : Account). x.ident) rows → IsNamedBy (λ (x : Account). x.ident) (insert_by accounts.key rows row)
+named-with : (rows : List AccountRow) (row : AccountRow) → IsKeyedBy accounts.key rows → IsThere true row rows → IsNamedBy (λ (x : AccountRow). x.ident) rows → IsNamedBy (λ (x : AccountRow). x.ident) (insert_by accounts.key rows row)
 named-with rows row up there named a b ha hb e = go (put-new-or-old accounts.key rows row a ha) (put-new-or-old accounts.key rows row b hb)
   where
-    key : Account → ℤ
+    key : AccountRow → ℤ
     key = accounts.key
 
     -- a row that was there and has the new one's name has its number too
-    met : (x : Account) → Has rows x → x.ident ≡ row.ident → x.id ≡ row.id
-    met x h same = ap (λ (y : Account). y.id) (named x there.old h there.has (same ∙ sym there.ident)) ∙ there.id
+    met : (x : AccountRow) → Has rows x → x.ident ≡ row.ident → x.id ≡ row.id
+    met x h same = ap (λ (y : AccountRow). y.id) (named x there.old h there.has (same ∙ sym there.ident)) ∙ there.id
 
     one : a.id ≡ b.id → a ≡ b
     one = same_by_key accounts.key (insert_by accounts.key rows row) a b (IsKeyedBy-insert_by accounts.key rows row up) ha hb
 
     go : (a ≡ row) ⊎ Has rows a → (b ≡ row) ⊎ Has rows b → a ≡ b
     go (inl p) (inl q) = p ∙ sym q
-    go (inl p) (inr h) = one (ap (λ (x : Account). x.id) p ∙ sym (met b h (sym e ∙ ap (λ (x : Account). x.ident) p)))
-    go (inr h) (inl q) = one (met a h (e ∙ ap (λ (x : Account). x.ident) q) ∙ sym (ap (λ (x : Account). x.id) q))
+    go (inl p) (inr h) = one (ap (λ (x : AccountRow). x.id) p ∙ sym (met b h (sym e ∙ ap (λ (x : AccountRow). x.ident) p)))
+    go (inr h) (inl q) = one (met a h (e ∙ ap (λ (x : AccountRow). x.ident) q) ∙ sym (ap (λ (x : AccountRow). x.id) q))
     go (inr h) (inr k) = named a b h k e
 
-pub consistent-with : (owed : Bool) (account : Option Account) (xs : Content) → IsConsistent xs → IfSome account (λ row. IsThere owed row xs.accounts) → IsConsistent (with_owed owed account xs)
+pub consistent-with : (owed : Bool) (account : Option AccountRow) (xs : Content) → IsConsistent xs → IfSome account (λ row. IsThere owed row xs.accounts) → IsConsistent (with_owed owed account xs)
 consistent-with false account xs it there = it
 consistent-with true None xs it there = it
 consistent-with true (Some row) xs it there = record {
@@ -167,7 +167,7 @@ consistent-with true (Some row) xs it there = record {
 -- ---- an account's row at hand
 
 -- it is the one that has its number
-pub at-hand : (owed : Bool) (account : Option Account) (xs : Content) (id : ℤ) → IsConsistent xs → IfSome account (λ row. IsThere owed row xs.accounts) → has_number id account ≡ true → filter (account_with_id id) (with_owed owed account xs).accounts ≡ rows_at account
+pub at-hand : (owed : Bool) (account : Option AccountRow) (xs : Content) (id : ℤ) → IsConsistent xs → IfSome account (λ row. IsThere owed row xs.accounts) → has_number id account ≡ true → filter (account_with_id id) (with_owed owed account xs).accounts ≡ rows_at account
 at-hand owed None xs id consistent there has = absurd (true≢false (sym has))
 at-hand false (Some row) xs id consistent there has =
     subst (λ (k : ℤ). filter (account_with_id k) xs.accounts ≡ row ∷ []) (same_int row.id id has)
@@ -177,7 +177,7 @@ at-hand true (Some row) xs id consistent there has =
     (found-by-key accounts.key (insert_by accounts.key xs.accounts row) row (IsKeyedBy-insert_by accounts.key xs.accounts row consistent.keyed.accounts) (has-put accounts.key xs.accounts row))
 
 -- put anew it is owed
-pub seen-renewed : (owed : Bool) (account : Option Account) (row : Account) (xs : Content) → IsSameRow row account → with_owed true (Some row) xs ≡ accounts_to (λ rows. insert_by accounts.key rows row) (with_owed owed account xs)
+pub seen-renewed : (owed : Bool) (account : Option AccountRow) (row : AccountRow) (xs : Content) → IsSameRow row account → with_owed true (Some row) xs ≡ accounts_to (λ rows. insert_by accounts.key rows row) (with_owed owed account xs)
 seen-renewed owed None row xs same = absurd same
 seen-renewed false (Some it) row xs same = refl
 seen-renewed true (Some it) row xs same = sym (ap (λ rows. accounts_to (λ _. rows) xs) (put-twice accounts.key xs.accounts it row same.0))

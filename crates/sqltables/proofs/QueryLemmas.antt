@@ -15,15 +15,13 @@ use Rattle.sqlrows.proofs.SelectLemmas.{value_cmp-maybe_int}
 use Rattle.sqltables.specs.inner.Tables.{meta_all, account_all, account_by_id, contact_by_id, contact_by_name, contact_until_due, contact_first_until_due, contact_by_sponsor_until_due, domain_all, domain_first, domain_after, domain_by_id, domain_by_name, domain_first_by_registrant, domain_until_due, domain_first_until_due, domain_by_sponsor_until_due, domain_by_registrant_until_due, domain_by_roid, host_all, host_by_id, host_by_name, host_by_above, address_by_host, link_by_domain, link_first_by_contact, link_first_by_host, link_by_contact_until_due, link_by_host_until_due, line_by_account, line_by_object, message_first_by_account, message_same, transfer_by_contact, transfer_by_domain, transfer_pending_by_requester, transfer_pending_by_losing, days_all}
 use Rattle.sqltables.specs.Meta.{meta_shown, metas}
 use Rattle.sqltables.specs.Account.{account_shown, accounts, account_with_id}
-use Rattle.sqltables.specs.Contact.{Contact, contact_shown, contacts, contact_with_id, contact_with_name, contact_within_due, contact_of_sponsor_within, by_due as contact_by_due, contacts_by_due}
-use Rattle.sqltables.specs.Domain.{Domain, domain_with_name}
-use Rattle.sqltables.specs.inner.Domain.{domain_shown, domains, domain_after_id, domain_with_id, domain_with_registrant, domain_within_due, by_due as domain_by_due, domains_by_due, domain_of_sponsor_within, domain_of_registrant_within, domain_with_roid}
+use Rattle.sqltables.specs.Contact.{ContactRow, contact_shown, contacts, contact_with_id, contact_with_name, contact_within_due, contact_of_sponsor_within, by_due as contact_by_due, contacts_by_due}
+use Rattle.sqltables.specs.Domain.{DomainRow, domain_with_name, domain_shown, domains, domain_after_id, domain_with_id, domain_with_registrant, domain_within_due, by_due as domain_by_due, domains_by_due, domain_of_sponsor_within, domain_of_registrant_within, domain_with_roid}
 use Rattle.sqltables.specs.Host.{host_shown, hosts, host_with_id, host_with_name, host_with_above}
 use Rattle.sqltables.specs.Address.{address_shown, addresses, address_with_host}
 use Rattle.sqltables.specs.Link.{link_shown, links, link_with_domain, link_with_contact, link_with_host, link_of_contact_within, link_of_host_within}
 use Rattle.sqltables.specs.Line.{line_shown, lines, line_with_account, line_of_object}
-use Rattle.sqltables.specs.Message.{Message}
-use Rattle.sqltables.specs.inner.Message.{message_shown, messages, is_same_message, message_order, queue_of}
+use Rattle.sqltables.specs.Message.{MessageRow, message_shown, messages, is_same_message, message_order, queue_of}
 use Rattle.sqltables.specs.Transfer.{transfer_shown, transfers, transfer_with_contact, transfer_with_domain, transfer_pending_by, transfer_pending_from}
 use Rattle.sqltables.specs.Day.{day_shown, days}
 use Rattle.sqltables.specs.inner.Statements.{Asks}
@@ -86,7 +84,7 @@ accounts_by_id v = asks_where account_part 7 (equals 0 0 ∷ []) (record { names
 
 -- ---- contact
 
-contact_due_order : (x y : Contact) → ordering_then (value_cmp (or_null Int x.due) (or_null Int y.due)) (ordering_then (value_cmp (Int x.id) (Int y.id)) Equal) ≡ by_then_key contacts contact_by_due x y
+contact_due_order : (x y : ContactRow) → ordering_then (value_cmp (or_null Int x.due) (or_null Int y.due)) (ordering_then (value_cmp (Int x.id) (Int y.id)) Equal) ≡ by_then_key contacts contact_by_due x y
 contact_due_order x y = then_key (value_cmp-maybe_int x.due y.due) (last_key (value_cmp-Int x.id y.id))
 
 pub contacts_by_id : (v : ℤ) → Asks contacts.tree contact_shown contact_by_id (Int v ∷ []) (λ c. filter (contact_with_id v) c.contacts)
@@ -117,7 +115,7 @@ contacts_by_sponsor_until_due sponsor due = asks_where contact_part 19 (equals 5
 
 -- ---- domain
 
-domain_due_order : (x y : Domain) → ordering_then (value_cmp (Int x.due) (Int y.due)) (ordering_then (value_cmp (Int x.id) (Int y.id)) Equal) ≡ by_then_key domains domain_by_due x y
+domain_due_order : (x y : DomainRow) → ordering_then (value_cmp (Int x.due) (Int y.due)) (ordering_then (value_cmp (Int x.id) (Int y.id)) Equal) ≡ by_then_key domains domain_by_due x y
 domain_due_order x y = then_key (value_cmp-Int x.due y.due) (last_key (value_cmp-Int x.id y.id))
 
 pub all_domains : Asks domains.tree domain_shown domain_all [] (λ c. c.domains)
@@ -243,7 +241,7 @@ lines_by_object account creator serial = asks_where line_part 10 (equals 2 0 ∷
 
 -- ---- message
 
-queue_order : (x y : Message)
+queue_order : (x y : MessageRow)
     → ordering_then (value_cmp (Int x.moment) (Int y.moment)) (ordering_then (value_cmp (Int x.class) (Int y.class)) (ordering_then (value_cmp (Int x.number) (Int y.number)) (ordering_then (value_cmp (Text x.name) (Text y.name))
     (ordering_then (value_cmp (Int x.subject) (Int y.subject)) (ordering_then (value_cmp (Int x.notice) (Int y.notice)) (ordering_then (value_cmp (Int x.id) (Int y.id)) Equal))))))
     ≡ by_then_key messages message_order x y
@@ -256,7 +254,7 @@ unfolding understood everything
 first_messages_by_account v = asks_first_sorted message_part 7 (equals 2 0 ∷ []) (col 1 3 ∷ col 1 4 ∷ col 1 5 ∷ col 1 6 ∷ col 1 7 ∷ col 1 8 ∷ []) message_order one 1 refl (record { names = message_titles; command = refl; plain = (refl, refl); unlisted = refl })
     (λ x. last_term (at_ints false Eq x.account v)) (λ x. refl) queue_order
 
-pub same_messages : (m : Message) → Asks messages.tree message_shown message_same (drop 1 (message_shown m)) (λ c. filter (is_same_message m) c.messages)
+pub same_messages : (m : MessageRow) → Asks messages.tree message_shown message_same (drop 1 (message_shown m)) (λ c. filter (is_same_message m) c.messages)
 unfolding understood everything
 same_messages m = asks_where message_part 7 (equals 2 0 ∷ equals 3 1 ∷ equals 4 2 ∷ equals 5 3 ∷ equals 6 4 ∷ equals 7 5 ∷ equals 8 6 ∷ []) (record { names = message_titles; command = refl; plain = (refl, refl); unlisted = refl })
     (λ x. then_term (at_ints false Eq x.account m.account) (then_term (at_ints false Eq x.moment m.moment) (then_term (at_ints false Eq x.class m.class) (then_term (at_ints false Eq x.number m.number) (then_term (at_texts false Eq x.name m.name) (then_term (at_ints false Eq x.subject m.subject) (last_term (at_ints false Eq x.notice m.notice)))))))) (λ x. refl)

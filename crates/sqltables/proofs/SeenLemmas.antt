@@ -6,12 +6,12 @@ use Rattle.states.specs.declared.fault.BookFault.{BookFault}
 use Rattle.states.specs.States.{Finds, LeavesSame, Makes, Reads, StateOf, Stays, Writes}
 use Rattle.states.proofs.LeavingLemmas.{leaves-refl}
 use Rattle.sqltables.specs.declared.hand.Hand.{Hand}
-use Rattle.sqltables.specs.Account.{Account, accounts, account_with_id}
+use Rattle.sqltables.specs.Account.{AccountRow, accounts, account_with_id}
 use Rattle.sqltables.specs.Content.{Content}
 use Rattle.sqltables.specs.inner.Content.{accounts_to}
 use Rattle.sqltables.specs.inner.Hand.{IsApart, IsAtHand, IsBlind, IsSameRow, IsThere, KeepsAccount, after, no_row, seen_with, with_owed}
-use Rattle.sqltables.specs.Day.{Day}
-use Rattle.sqltables.specs.Meta.{Meta}
+use Rattle.sqltables.specs.Day.{DayRow}
+use Rattle.sqltables.specs.Meta.{MetaRow}
 use Rattle.sqltables.proofs.HandLemmas.{has-filter, has-put, seen-renewed}
 
 pub none-at-hand : (s : StateOf Content) → IsAtHand no_row s
@@ -71,9 +71,9 @@ kept-beside : (hand : Hand) (old new : StateOf Content) → (new.is_clean ≡ tr
     → (new.is_clean ≡ true → new.content.metas ≡ old.content.metas) → (new.is_clean ≡ true → new.content.days ≡ old.content.days) → IsAtHand hand old → IsAtHand hand new
 kept-beside hand old new clean opened accounts-same metas-same days-same held = record {
   within = λ e. opened;
-  account = λ e. subst (λ (rows : List Account). IfSome hand.account (λ row. IsThere hand.owed row rows)) (sym (accounts-same e)) (held.account (clean e));
-  meta = λ e. subst (λ (rows : List Meta). IfSome hand.meta (λ row. rows ≡ row ∷ [])) (sym (metas-same e)) (held.meta (clean e));
-  days = λ e. subst (λ (all : List Day). IfSome hand.days (λ rows. all ≡ rows)) (sym (days-same e)) (held.days (clean e));
+  account = λ e. subst (λ (rows : List AccountRow). IfSome hand.account (λ row. IsThere hand.owed row rows)) (sym (accounts-same e)) (held.account (clean e));
+  meta = λ e. subst (λ (rows : List MetaRow). IfSome hand.meta (λ row. rows ≡ row ∷ [])) (sym (metas-same e)) (held.meta (clean e));
+  days = λ e. subst (λ (all : List DayRow). IfSome hand.days (λ rows. all ≡ rows)) (sym (days-same e)) (held.days (clean e));
 }
 
 -- a change that is apart leaves the accounts as they were
@@ -81,7 +81,7 @@ apart-accounts : (f : Content → Content) → IsApart f → (xs : Content) → 
 apart-accounts f it xs = ap (λ (ys : Content). ys.accounts) (it.accounts (λ _. xs.accounts) xs)
 
 -- and is a change of what is seen
-apart-seen : (f : Content → Content) → IsApart f → (owed : Bool) (account : Option Account) (xs : Content) → with_owed owed account (f xs) ≡ f (with_owed owed account xs)
+apart-seen : (f : Content → Content) → IsApart f → (owed : Bool) (account : Option AccountRow) (xs : Content) → with_owed owed account (f xs) ≡ f (with_owed owed account xs)
 apart-seen f it false account xs = refl
 apart-seen f it true None xs = refl
 apart-seen f it true (Some row) xs = sym (it.accounts (λ rows. insert_by accounts.key rows row) xs)
@@ -115,20 +115,20 @@ module _ {A : Type 0} (said : Result A BookFault) (hand : Hand) (f : Content →
 pub blind-seen : {A : Type 0} (f : Content → A) → IsBlind f → (hand : Hand) (s : StateOf Content) → f s.content ≡ f (seen_with hand s).content
 blind-seen f it hand s = go hand.owed hand.account
   where
-    go : (owed : Bool) (account : Option Account) → f s.content ≡ f (with_owed owed account s.content)
+    go : (owed : Bool) (account : Option AccountRow) → f s.content ≡ f (with_owed owed account s.content)
     go false account = refl
     go true None = refl
     go true (Some row) = sym (it (λ rows. insert_by accounts.key rows row) s.content)
 
 -- ---- an account's row that is owed is written
 
-abbrev owing : Account → Option Meta → Option (List Day) → Hand
+abbrev owing : AccountRow → Option MetaRow → Option (List DayRow) → Hand
 owing row meta days = record { account = Some row; owed = true; meta = meta; days = days }
 
-abbrev settled : Account → Option Meta → Option (List Day) → Hand
+abbrev settled : AccountRow → Option MetaRow → Option (List DayRow) → Hand
 settled row meta days = record { account = Some row; owed = false; meta = meta; days = days }
 
-module _ {A : Type 0} (said : Result A BookFault) (row : Account) (meta : Option Meta) (days : Option (List Day)) (old new : StateOf Content) where
+module _ {A : Type 0} (said : Result A BookFault) (row : AccountRow) (meta : Option MetaRow) (days : Option (List DayRow)) (old new : StateOf Content) where
   pub settled-kept : Makes said (accounts_to (λ rows. insert_by accounts.key rows row) old.content) old new → IsAtHand (owing row meta days) old → IsAtHand (after said (settled row meta days)) new
   settled-kept it held = go said it
     where
@@ -141,20 +141,20 @@ module _ {A : Type 0} (said : Result A BookFault) (row : Account) (meta : Option
       }
       go (Err fault) h = none-at-hand new
 
-as-owing : (hand : Hand) (row : Account) → hand.account ≡ Some row → hand.owed ≡ true → owing row hand.meta hand.days ≡ hand
-as-owing hand row is owes = ap₂ (λ (a : Option Account) (o : Bool). record { account = a; owed = o; meta = hand.meta; days = hand.days }) (sym is) (sym owes)
+as-owing : (hand : Hand) (row : AccountRow) → hand.account ≡ Some row → hand.owed ≡ true → owing row hand.meta hand.days ≡ hand
+as-owing hand row is owes = ap₂ (λ (a : Option AccountRow) (o : Bool). record { account = a; owed = o; meta = hand.meta; days = hand.days }) (sym is) (sym owes)
 
-module _ {A : Type 0} (said : Result A BookFault) (hand : Hand) (row : Account) (old new : StateOf Content) (is : hand.account ≡ Some row) (owes : hand.owed ≡ true) where
+module _ {A : Type 0} (said : Result A BookFault) (hand : Hand) (row : AccountRow) (old new : StateOf Content) (is : hand.account ≡ Some row) (owes : hand.owed ≡ true) where
   pub settled-at : Makes said (accounts_to (λ rows. insert_by accounts.key rows row) old.content) old new → IsAtHand hand old → IsAtHand (after said (record hand { owed = false })) new
   settled-at it held =
-      subst (λ (a : Option Account). IsAtHand (after said (record { account = a; owed = false; meta = hand.meta; days = hand.days })) new) (sym is)
+      subst (λ (a : Option AccountRow). IsAtHand (after said (record { account = a; owed = false; meta = hand.meta; days = hand.days })) new) (sym is)
       (settled-kept said row hand.meta hand.days old new it (subst (λ (h : Hand). IsAtHand h old) (sym (as-owing hand row is owes)) held))
 
 -- an owed row is there, in an older form
-pub owed-there : (hand : Hand) (row : Account) (s : StateOf Content) → hand.account ≡ Some row → hand.owed ≡ true → IsAtHand hand s → s.is_clean ≡ true → IsThere true row s.content.accounts
+pub owed-there : (hand : Hand) (row : AccountRow) (s : StateOf Content) → hand.account ≡ Some row → hand.owed ≡ true → IsAtHand hand s → s.is_clean ≡ true → IsThere true row s.content.accounts
 owed-there hand row s is owes held clean =
     subst (λ (b : Bool). IsThere b row s.content.accounts) owes
-    (subst (λ (a : Option Account). IfSome a (λ r. IsThere hand.owed r s.content.accounts)) is (held.account clean))
+    (subst (λ (a : Option AccountRow). IfSome a (λ r. IsThere hand.owed r s.content.accounts)) is (held.account clean))
 
 -- ---- an account's row that was found or put is kept at hand
 
@@ -165,26 +165,26 @@ if-some (Some x) it way = way x it
 has-one : {A : Type 0} (rows : List A) (x : A) → rows ≡ x ∷ [] → Has rows x
 has-one rows x e = subst (λ xs. Has xs x) (sym e) (inl refl)
 
-pub kept-found : (hand mid hand' : Hand) (rows : List Account) (s : StateOf Content) → KeepsAccount rows mid hand' → mid ≡ hand → hand.owed ≡ false → (s.is_clean ≡ true → IfSome hand.meta (λ row. s.content.metas ≡ row ∷ []))
-    → (s.is_clean ≡ true → IfSome hand.days (λ rows. s.content.days ≡ rows)) → (s.is_clean ≡ true → (row : Account) → Has rows row → Has s.content.accounts row) → IsAtHand hand' s
+pub kept-found : (hand mid hand' : Hand) (rows : List AccountRow) (s : StateOf Content) → KeepsAccount rows mid hand' → mid ≡ hand → hand.owed ≡ false → (s.is_clean ≡ true → IfSome hand.meta (λ row. s.content.metas ≡ row ∷ []))
+    → (s.is_clean ≡ true → IfSome hand.days (λ rows. s.content.days ≡ rows)) → (s.is_clean ≡ true → (row : AccountRow) → Has rows row → Has s.content.accounts row) → IsAtHand hand' s
 kept-found hand mid hand' rows s it same nothing metas days there = record {
   within = λ e. absurd (true≢false (sym e ∙ it.owed ∙ ap (λ (h : Hand). h.owed) same ∙ nothing));
   account = λ e. if-some hand'.account it.account (λ row is. record { old = row; has = there e row (has-one rows row is); id = refl; ident = refl; same = λ _. refl });
-  meta = λ e. subst (λ (o : Option Meta). IfSome o (λ row. s.content.metas ≡ row ∷ [])) (sym (it.meta ∙ ap (λ (h : Hand). h.meta) same)) (metas e);
-  days = λ e. subst (λ (o : Option (List Day)). IfSome o (λ rows. s.content.days ≡ rows)) (sym (it.days ∙ ap (λ (h : Hand). h.days) same)) (days e);
+  meta = λ e. subst (λ (o : Option MetaRow). IfSome o (λ row. s.content.metas ≡ row ∷ [])) (sym (it.meta ∙ ap (λ (h : Hand). h.meta) same)) (metas e);
+  days = λ e. subst (λ (o : Option (List DayRow)). IfSome o (λ rows. s.content.days ≡ rows)) (sym (it.days ∙ ap (λ (h : Hand). h.days) same)) (days e);
 }
 
 -- what was found by number
-pub has-found : (rows : List Account) (id : ℤ) (xs : List Account) → rows ≡ filter (account_with_id id) xs → (row : Account) → Has rows row → Has xs row
+pub has-found : (rows : List AccountRow) (id : ℤ) (xs : List AccountRow) → rows ≡ filter (account_with_id id) xs → (row : AccountRow) → Has rows row → Has xs row
 has-found rows id xs e row h = has-filter (account_with_id id) xs row (subst (λ ys. Has ys row) e h)
 
 -- what was put
-pub has-made : (row : Account) (xs : List Account) (it : Account) → Has (row ∷ []) it → Has (insert_by accounts.key xs row) it
-has-made row xs it (inl e) = subst (λ (x : Account). Has (insert_by accounts.key xs row) x) (sym e) (has-put accounts.key xs row)
+pub has-made : (row : AccountRow) (xs : List AccountRow) (it : AccountRow) → Has (row ∷ []) it → Has (insert_by accounts.key xs row) it
+has-made row xs it (inl e) = subst (λ (x : AccountRow). Has (insert_by accounts.key xs row) x) (sym e) (has-put accounts.key xs row)
 has-made row xs it (inr h) = absurd h
 
 -- what is put anew is owed
-pub renewed-seen : (hand hand' : Hand) (row : Account) (s : StateOf Content) → hand' ≡ record hand { account = Some row; owed = true } → s.is_open ≡ true → IsSameRow row hand.account
+pub renewed-seen : (hand hand' : Hand) (row : AccountRow) (s : StateOf Content) → hand' ≡ record hand { account = Some row; owed = true } → s.is_open ≡ true → IsSameRow row hand.account
     → Writes (accounts_to (λ rows. insert_by accounts.key rows row) (seen_with hand s).content) (seen_with hand s) (seen_with hand' s)
 renewed-seen hand hand' row s is opened same =
     subst (λ (h : Hand). Writes (accounts_to (λ rows. insert_by accounts.key rows row) (seen_with hand s).content) (seen_with hand s) (seen_with h s)) (sym is)

@@ -32,12 +32,12 @@ use Rattle.sqltables.specs.Tables.{registry, meta, account, contact, domain, hos
 use Rattle.sqltables.specs.Meta.{metas}
 use Rattle.sqltables.specs.Account.{accounts}
 use Rattle.sqltables.specs.Contact.{contacts}
-use Rattle.sqltables.specs.inner.Domain.{domains}
+use Rattle.sqltables.specs.Domain.{domains}
 use Rattle.sqltables.specs.Host.{hosts}
 use Rattle.sqltables.specs.Address.{addresses}
 use Rattle.sqltables.specs.Link.{links}
 use Rattle.sqltables.specs.Line.{lines}
-use Rattle.sqltables.specs.inner.Message.{messages}
+use Rattle.sqltables.specs.Message.{messages}
 use Rattle.sqltables.specs.Transfer.{transfers}
 use Rattle.sqltables.specs.Day as day_table
 use Rattle.sqltables.specs.inner.Content.{IsContent}

@@ -23,19 +23,17 @@ use Rattle.sqltables.specs.inner.Content.{IsContent, metas_to, accounts_to, cont
 use Rattle.sqltables.specs.inner.Statements.{Alters, Appends, AreOthersSame, Asks, is_table}
 use Rattle.sqltables.specs.Tables.{registry}
 use Rattle.sqltables.specs.Tables as schema
-use Rattle.sqltables.specs.Meta.{Meta, metas}
-use Rattle.sqltables.specs.Account.{Account, accounts}
-use Rattle.sqltables.specs.Contact.{Contact, contacts}
-use Rattle.sqltables.specs.Domain.{Domain}
-use Rattle.sqltables.specs.inner.Domain.{domains}
-use Rattle.sqltables.specs.Host.{Host, hosts}
-use Rattle.sqltables.specs.Address.{Address, addresses}
-use Rattle.sqltables.specs.Link.{Link, links}
-use Rattle.sqltables.specs.Line.{Line, lines}
-use Rattle.sqltables.specs.Message.{Message}
-use Rattle.sqltables.specs.inner.Message.{messages}
-use Rattle.sqltables.specs.Transfer.{Transfer, transfers}
-use Rattle.sqltables.specs.Day.{Day, days}
+use Rattle.sqltables.specs.Meta.{MetaRow, metas}
+use Rattle.sqltables.specs.Account.{AccountRow, accounts}
+use Rattle.sqltables.specs.Contact.{ContactRow, contacts}
+use Rattle.sqltables.specs.Domain.{DomainRow, domains}
+use Rattle.sqltables.specs.Host.{HostRow, hosts}
+use Rattle.sqltables.specs.Address.{AddressRow, addresses}
+use Rattle.sqltables.specs.Link.{LinkRow, links}
+use Rattle.sqltables.specs.Line.{LineRow, lines}
+use Rattle.sqltables.specs.Message.{MessageRow, messages}
+use Rattle.sqltables.specs.Transfer.{TransferRow, transfers}
+use Rattle.sqltables.specs.Day.{DayRow, days}
 
 kept : {X : Type 0} (L : Layout X) (db next : Trees) (xs : List X) → next L.tree ≡ db L.tree → Holds L db xs → Holds L next xs
 kept L db next xs same h = record { rows = same ∙ h.rows; keyed = h.keyed }
@@ -117,67 +115,67 @@ listed L at table is tree uncounted unstamped casts = record { is = is; tree = t
 pub meta_listed : Listed metas registry 0 (record schema.meta { tree = 0 })
 meta_listed = listed metas 0 (record schema.meta { tree = 0 }) refl refl refl refl (λ x. simp (cast_int, cast_null, cast_text, cast_maybe_int, cast_maybe_text))
 
-abbrev pub meta_part : Part Meta
+abbrev pub meta_part : Part MetaRow
 meta_part = record { layout = metas; at = 0; table = record schema.meta { tree = 0 }; listed = meta_listed; rows = λ c. c.metas; to = metas_to; is = refl; holds = λ xs db h. h.metas; turned = λ f new xs h. (h, refl, refl, refl, refl, refl, refl, refl, refl, refl, refl) }
 
 pub account_listed : Listed accounts registry 1 (record schema.account { tree = 1 })
 account_listed = listed accounts 1 (record schema.account { tree = 1 }) refl refl refl refl (λ x. simp (cast_int, cast_null, cast_text, cast_maybe_int, cast_maybe_text))
 
-abbrev pub account_part : Part Account
+abbrev pub account_part : Part AccountRow
 account_part = record { layout = accounts; at = 1; table = record schema.account { tree = 1 }; listed = account_listed; rows = λ c. c.accounts; to = accounts_to; is = refl; holds = λ xs db h. h.accounts; turned = λ f new xs h. (refl, h, refl, refl, refl, refl, refl, refl, refl, refl, refl) }
 
 pub contact_listed : Listed contacts registry 2 (record schema.contact { tree = 3 })
 contact_listed = listed contacts 2 (record schema.contact { tree = 3 }) refl refl refl refl (λ x. simp (cast_int, cast_null, cast_text, cast_maybe_int, cast_maybe_text))
 
-abbrev pub contact_part : Part Contact
+abbrev pub contact_part : Part ContactRow
 contact_part = record { layout = contacts; at = 2; table = record schema.contact { tree = 3 }; listed = contact_listed; rows = λ c. c.contacts; to = contacts_to; is = refl; holds = λ xs db h. h.contacts; turned = λ f new xs h. (refl, refl, h, refl, refl, refl, refl, refl, refl, refl, refl) }
 
 pub domain_listed : Listed domains registry 3 (record schema.domain { tree = 5 })
 domain_listed = listed domains 3 (record schema.domain { tree = 5 }) refl refl refl refl (λ x. simp (cast_int, cast_null, cast_text, cast_maybe_int, cast_maybe_text))
 
-abbrev pub domain_part : Part Domain
+abbrev pub domain_part : Part DomainRow
 domain_part = record { layout = domains; at = 3; table = record schema.domain { tree = 5 }; listed = domain_listed; rows = λ c. c.domains; to = domains_to; is = refl; holds = λ xs db h. h.domains; turned = λ f new xs h. (refl, refl, refl, h, refl, refl, refl, refl, refl, refl, refl) }
 
 pub host_listed : Listed hosts registry 4 (record schema.host { tree = 7 })
 host_listed = listed hosts 4 (record schema.host { tree = 7 }) refl refl refl refl (λ x. simp (cast_int, cast_null, cast_text, cast_maybe_int, cast_maybe_text))
 
-abbrev pub host_part : Part Host
+abbrev pub host_part : Part HostRow
 host_part = record { layout = hosts; at = 4; table = record schema.host { tree = 7 }; listed = host_listed; rows = λ c. c.hosts; to = hosts_to; is = refl; holds = λ xs db h. h.hosts; turned = λ f new xs h. (refl, refl, refl, refl, h, refl, refl, refl, refl, refl, refl) }
 
 pub address_listed : Listed addresses registry 5 (record schema.address { tree = 9 })
 address_listed = listed addresses 5 (record schema.address { tree = 9 }) refl refl refl refl (λ x. simp (cast_int, cast_null, cast_text, cast_maybe_int, cast_maybe_text))
 
-abbrev pub address_part : Part Address
+abbrev pub address_part : Part AddressRow
 address_part = record { layout = addresses; at = 5; table = record schema.address { tree = 9 }; listed = address_listed; rows = λ c. c.addresses; to = addresses_to; is = refl; holds = λ xs db h. h.addresses; turned = λ f new xs h. (refl, refl, refl, refl, refl, h, refl, refl, refl, refl, refl) }
 
 pub link_listed : Listed links registry 6 (record schema.link { tree = 10 })
 link_listed = listed links 6 (record schema.link { tree = 10 }) refl refl refl refl (λ x. simp (cast_int, cast_null, cast_text, cast_maybe_int, cast_maybe_text))
 
-abbrev pub link_part : Part Link
+abbrev pub link_part : Part LinkRow
 link_part = record { layout = links; at = 6; table = record schema.link { tree = 10 }; listed = link_listed; rows = λ c. c.links; to = links_to; is = refl; holds = λ xs db h. h.links; turned = λ f new xs h. (refl, refl, refl, refl, refl, refl, h, refl, refl, refl, refl) }
 
 pub line_listed : Listed lines registry 7 (record schema.line { tree = 11 })
 line_listed = listed lines 7 (record schema.line { tree = 11 }) refl refl refl refl (λ x. simp (cast_int, cast_null, cast_text, cast_maybe_int, cast_maybe_text))
 
-abbrev pub line_part : Part Line
+abbrev pub line_part : Part LineRow
 line_part = record { layout = lines; at = 7; table = record schema.line { tree = 11 }; listed = line_listed; rows = λ c. c.lines; to = lines_to; is = refl; holds = λ xs db h. h.lines; turned = λ f new xs h. (refl, refl, refl, refl, refl, refl, refl, h, refl, refl, refl) }
 
 pub message_listed : Listed messages registry 8 (record schema.message { tree = 12 })
 message_listed = listed messages 8 (record schema.message { tree = 12 }) refl refl refl refl (λ x. simp (cast_int, cast_null, cast_text, cast_maybe_int, cast_maybe_text))
 
-abbrev pub message_part : Part Message
+abbrev pub message_part : Part MessageRow
 message_part = record { layout = messages; at = 8; table = record schema.message { tree = 12 }; listed = message_listed; rows = λ c. c.messages; to = messages_to; is = refl; holds = λ xs db h. h.messages; turned = λ f new xs h. (refl, refl, refl, refl, refl, refl, refl, refl, h, refl, refl) }
 
 pub transfer_listed : Listed transfers registry 9 (record schema.transfer { tree = 13 })
 transfer_listed = listed transfers 9 (record schema.transfer { tree = 13 }) refl refl refl refl (λ x. simp (cast_int, cast_null, cast_text, cast_maybe_int, cast_maybe_text))
 
-abbrev pub transfer_part : Part Transfer
+abbrev pub transfer_part : Part TransferRow
 transfer_part = record { layout = transfers; at = 9; table = record schema.transfer { tree = 13 }; listed = transfer_listed; rows = λ c. c.transfers; to = transfers_to; is = refl; holds = λ xs db h. h.transfers; turned = λ f new xs h. (refl, refl, refl, refl, refl, refl, refl, refl, refl, h, refl) }
 
 pub day_listed : Listed days registry 10 (record schema.days { tree = 34 })
 day_listed = listed days 10 (record schema.days { tree = 34 }) refl refl refl refl (λ x. simp (cast_int, cast_null, cast_text, cast_maybe_int, cast_maybe_text))
 
-abbrev pub day_part : Part Day
+abbrev pub day_part : Part DayRow
 day_part = record { layout = days; at = 10; table = record schema.days { tree = 34 }; listed = day_listed; rows = λ c. c.days; to = days_to; is = refl; holds = λ xs db h. h.days; turned = λ f new xs h. (refl, refl, refl, refl, refl, refl, refl, refl, refl, refl, h) }
 
 -- a query of one table

@@ -13,19 +13,17 @@ use Rattle.sqlrows.proofs.CastLemmas.{cast_int, cast_null, cast_text, cast_maybe
 use Rattle.sqlrows.proofs.UpdateLemmas.{updates}
 use Rattle.sqltables.specs.Tables.{registry}
 use Rattle.sqltables.specs.inner.Tables.{meta_put, meta_replace, account_put, account_replace, contact_put, contact_replace, contact_append, contact_remove_id, domain_put, domain_replace, domain_append, domain_remove_id, host_put, host_replace, host_append, host_remove_id, address_put, address_append, address_remove_host, link_put, link_append, link_remove_domain, link_update_due, line_put, line_append, line_remove_id, message_put, message_append, message_remove_id, transfer_put, transfer_append, transfer_remove_contact, transfer_remove_domain, days_append}
-use Rattle.sqltables.specs.Meta.{Meta, meta_shown, meta_with_id, metas}
-use Rattle.sqltables.specs.Account.{Account, account_shown, account_with_id, accounts}
-use Rattle.sqltables.specs.Contact.{Contact, contact_shown, contacts, contact_with_id}
-use Rattle.sqltables.specs.Domain.{Domain}
-use Rattle.sqltables.specs.inner.Domain.{domain_shown, domains, domain_with_id}
-use Rattle.sqltables.specs.Host.{Host, host_shown, hosts, host_with_id}
-use Rattle.sqltables.specs.Address.{Address, address_shown, addresses, address_with_host}
-use Rattle.sqltables.specs.Link.{Link, link_shown, links, link_with_domain}
-use Rattle.sqltables.specs.Line.{Line, line_shown, lines, line_with_id}
-use Rattle.sqltables.specs.Message.{Message}
-use Rattle.sqltables.specs.inner.Message.{message_shown, messages, message_with_id}
-use Rattle.sqltables.specs.Transfer.{Transfer, transfer_shown, transfers, transfer_with_contact, transfer_with_domain}
-use Rattle.sqltables.specs.Day.{Day, day_shown, days}
+use Rattle.sqltables.specs.Meta.{MetaRow, meta_shown, meta_with_id, metas}
+use Rattle.sqltables.specs.Account.{AccountRow, account_shown, account_with_id, accounts}
+use Rattle.sqltables.specs.Contact.{ContactRow, contact_shown, contacts, contact_with_id}
+use Rattle.sqltables.specs.Domain.{DomainRow, domain_shown, domains, domain_with_id}
+use Rattle.sqltables.specs.Host.{HostRow, host_shown, hosts, host_with_id}
+use Rattle.sqltables.specs.Address.{AddressRow, address_shown, addresses, address_with_host}
+use Rattle.sqltables.specs.Link.{LinkRow, link_shown, links, link_with_domain}
+use Rattle.sqltables.specs.Line.{LineRow, line_shown, lines, line_with_id}
+use Rattle.sqltables.specs.Message.{MessageRow, message_shown, messages, message_with_id}
+use Rattle.sqltables.specs.Transfer.{TransferRow, transfer_shown, transfers, transfer_with_contact, transfer_with_domain}
+use Rattle.sqltables.specs.Day.{DayRow, day_shown, days}
 use Rattle.sqltables.specs.inner.Content.{metas_to, accounts_to, contacts_to, domains_to, hosts_to, addresses_to, links_to, lines_to, messages_to, transfers_to, days_to}
 use Rattle.sqltables.specs.inner.Hand.{IsApart}
 use Rattle.sqltables.specs.inner.Statements.{Alters, Appends}
@@ -35,35 +33,35 @@ pub use Rattle.sqltables.proofs.TableLemmas.{alters-by, appends-by, bound-last, 
 
 -- ---- meta
 
-pub put_meta : (x : Meta) → Alters metas.tree meta_put (meta_shown x) (metas_to (λ xs. insert_by metas.key xs x))
+pub put_meta : (x : MetaRow) → Alters metas.tree meta_put (meta_shown x) (metas_to (λ xs. insert_by metas.key xs x))
 unfolding understood everything
 put_meta = put_by meta_part meta_shown 16 (record { command = refl; plain = (refl, refl) }) (record { values = λ x. refl; place = λ x v. refl; updates = λ x v r. refl; unshared = λ new r. refl; headed = λ x. refl })
 
-pub replace_meta : (x : Meta) → Alters metas.tree meta_replace (meta_shown x) (metas_to (λ xs. update_where (meta_with_id x.id) (λ y. record x { id = y.id }) xs))
+pub replace_meta : (x : MetaRow) → Alters metas.tree meta_replace (meta_shown x) (metas_to (λ xs. update_where (meta_with_id x.id) (λ y. record x { id = y.id }) xs))
 unfolding understood everything
 replace_meta x = replace_by meta_part (meta_with_id x.id) (λ y. record x { id = y.id }) 16 (record { command = refl; plain = (refl, refl) }) (λ y. last_term (at_ints false Eq y.id x.id)) (record { row = λ y. refl; key = λ y. refl })
 
 -- ---- account
 
-pub put_account : (x : Account) → Alters accounts.tree account_put (account_shown x) (accounts_to (λ xs. insert_by accounts.key xs x))
+pub put_account : (x : AccountRow) → Alters accounts.tree account_put (account_shown x) (accounts_to (λ xs. insert_by accounts.key xs x))
 unfolding understood everything
 put_account = put_by account_part account_shown 7 (record { command = refl; plain = (refl, refl) }) (record { values = λ x. refl; place = λ x v. refl; updates = λ x v r. refl; unshared = λ new r. refl; headed = λ x. refl })
 
-pub replace_account : (x : Account) → Alters accounts.tree account_replace (account_shown x) (accounts_to (λ xs. update_where (account_with_id x.id) (λ y. record x { id = y.id }) xs))
+pub replace_account : (x : AccountRow) → Alters accounts.tree account_replace (account_shown x) (accounts_to (λ xs. update_where (account_with_id x.id) (λ y. record x { id = y.id }) xs))
 unfolding understood everything
 replace_account x = replace_by account_part (account_with_id x.id) (λ y. record x { id = y.id }) 7 (record { command = refl; plain = (refl, refl) }) (λ y. last_term (at_ints false Eq y.id x.id)) (record { row = λ y. refl; key = λ y. refl })
 
 -- ---- contact
 
-pub put_contact : (x : Contact) → Alters contacts.tree contact_put (contact_shown x) (contacts_to (λ xs. insert_by contacts.key xs x))
+pub put_contact : (x : ContactRow) → Alters contacts.tree contact_put (contact_shown x) (contacts_to (λ xs. insert_by contacts.key xs x))
 unfolding understood everything
 put_contact = put_by contact_part contact_shown 19 (record { command = refl; plain = (refl, refl) }) (record { values = λ x. refl; place = λ x v. refl; updates = λ x v r. refl; unshared = λ new r. refl; headed = λ x. refl })
 
-pub replace_contact : (x : Contact) → Alters contacts.tree contact_replace (contact_shown x) (contacts_to (λ xs. update_where (contact_with_id x.id) (λ y. record x { id = y.id }) xs))
+pub replace_contact : (x : ContactRow) → Alters contacts.tree contact_replace (contact_shown x) (contacts_to (λ xs. update_where (contact_with_id x.id) (λ y. record x { id = y.id }) xs))
 unfolding understood everything
 replace_contact x = replace_by contact_part (contact_with_id x.id) (λ y. record x { id = y.id }) 19 (record { command = refl; plain = (refl, refl) }) (λ y. last_term (at_ints false Eq y.id x.id)) (record { row = λ y. refl; key = λ y. refl })
 
-pub append_contact : (x : Contact) → Appends contacts.tree contact_append (drop 1 (contact_shown x)) (contacts_to (λ xs. appended contacts (λ id. record x { id = id }) xs)) (λ c. next_key contacts.key c.contacts)
+pub append_contact : (x : ContactRow) → Appends contacts.tree contact_append (drop 1 (contact_shown x)) (contacts_to (λ xs. appended contacts (λ id. record x { id = id }) xs)) (λ c. next_key contacts.key c.contacts)
 unfolding understood everything
 append_contact = adds_by contact_part contact_shown (λ x id. record x { id = id }) 19 (record { command = refl; plain = (refl, refl) }) (record { values = λ x. refl; casts = λ x. simp (cast_int, cast_null, cast_text, cast_maybe_int, cast_maybe_text); row = λ x id. refl })
 
@@ -73,15 +71,15 @@ remove_contacts_by_id v = remove_by contact_part (contact_with_id v) (equals 0 0
 
 -- ---- domain
 
-pub put_domain : (x : Domain) → Alters domains.tree domain_put (domain_shown x) (domains_to (λ xs. insert_by domains.key xs x))
+pub put_domain : (x : DomainRow) → Alters domains.tree domain_put (domain_shown x) (domains_to (λ xs. insert_by domains.key xs x))
 unfolding understood everything
 put_domain = put_by domain_part domain_shown 14 (record { command = refl; plain = (refl, refl) }) (record { values = λ x. refl; place = λ x v. refl; updates = λ x v r. refl; unshared = λ new r. refl; headed = λ x. refl })
 
-pub replace_domain : (x : Domain) → Alters domains.tree domain_replace (domain_shown x) (domains_to (λ xs. update_where (domain_with_id x.id) (λ y. record x { id = y.id }) xs))
+pub replace_domain : (x : DomainRow) → Alters domains.tree domain_replace (domain_shown x) (domains_to (λ xs. update_where (domain_with_id x.id) (λ y. record x { id = y.id }) xs))
 unfolding understood everything
 replace_domain x = replace_by domain_part (domain_with_id x.id) (λ y. record x { id = y.id }) 14 (record { command = refl; plain = (refl, refl) }) (λ y. last_term (at_ints false Eq y.id x.id)) (record { row = λ y. refl; key = λ y. refl })
 
-pub append_domain : (x : Domain) → Appends domains.tree domain_append (drop 1 (domain_shown x)) (domains_to (λ xs. appended domains (λ id. record x { id = id }) xs)) (λ c. next_key domains.key c.domains)
+pub append_domain : (x : DomainRow) → Appends domains.tree domain_append (drop 1 (domain_shown x)) (domains_to (λ xs. appended domains (λ id. record x { id = id }) xs)) (λ c. next_key domains.key c.domains)
 unfolding understood everything
 append_domain = adds_by domain_part domain_shown (λ x id. record x { id = id }) 14 (record { command = refl; plain = (refl, refl) }) (record { values = λ x. refl; casts = λ x. simp (cast_int, cast_null, cast_text, cast_maybe_int, cast_maybe_text); row = λ x id. refl })
 
@@ -91,15 +89,15 @@ remove_domains_by_id v = remove_by domain_part (domain_with_id v) (equals 0 0 �
 
 -- ---- host
 
-pub put_host : (x : Host) → Alters hosts.tree host_put (host_shown x) (hosts_to (λ xs. insert_by hosts.key xs x))
+pub put_host : (x : HostRow) → Alters hosts.tree host_put (host_shown x) (hosts_to (λ xs. insert_by hosts.key xs x))
 unfolding understood everything
 put_host = put_by host_part host_shown 9 (record { command = refl; plain = (refl, refl) }) (record { values = λ x. refl; place = λ x v. refl; updates = λ x v r. refl; unshared = λ new r. refl; headed = λ x. refl })
 
-pub replace_host : (x : Host) → Alters hosts.tree host_replace (host_shown x) (hosts_to (λ xs. update_where (host_with_id x.id) (λ y. record x { id = y.id }) xs))
+pub replace_host : (x : HostRow) → Alters hosts.tree host_replace (host_shown x) (hosts_to (λ xs. update_where (host_with_id x.id) (λ y. record x { id = y.id }) xs))
 unfolding understood everything
 replace_host x = replace_by host_part (host_with_id x.id) (λ y. record x { id = y.id }) 9 (record { command = refl; plain = (refl, refl) }) (λ y. last_term (at_ints false Eq y.id x.id)) (record { row = λ y. refl; key = λ y. refl })
 
-pub append_host : (x : Host) → Appends hosts.tree host_append (drop 1 (host_shown x)) (hosts_to (λ xs. appended hosts (λ id. record x { id = id }) xs)) (λ c. next_key hosts.key c.hosts)
+pub append_host : (x : HostRow) → Appends hosts.tree host_append (drop 1 (host_shown x)) (hosts_to (λ xs. appended hosts (λ id. record x { id = id }) xs)) (λ c. next_key hosts.key c.hosts)
 unfolding understood everything
 append_host = adds_by host_part host_shown (λ x id. record x { id = id }) 9 (record { command = refl; plain = (refl, refl) }) (record { values = λ x. refl; casts = λ x. simp (cast_int, cast_null, cast_text, cast_maybe_int, cast_maybe_text); row = λ x id. refl })
 
@@ -109,11 +107,11 @@ remove_hosts_by_id v = remove_by host_part (host_with_id v) (equals 0 0 ∷ []) 
 
 -- ---- address
 
-pub put_address : (x : Address) → Alters addresses.tree address_put (address_shown x) (addresses_to (λ xs. insert_by addresses.key xs x))
+pub put_address : (x : AddressRow) → Alters addresses.tree address_put (address_shown x) (addresses_to (λ xs. insert_by addresses.key xs x))
 unfolding understood everything
 put_address = put_by address_part address_shown 2 (record { command = refl; plain = (refl, refl) }) (record { values = λ x. refl; place = λ x v. refl; updates = λ x v r. refl; unshared = λ new r. refl; headed = λ x. refl })
 
-pub append_address : (x : Address) → Alters addresses.tree address_append (drop 1 (address_shown x)) (addresses_to (λ xs. appended addresses (λ id. record x { id = id }) xs))
+pub append_address : (x : AddressRow) → Alters addresses.tree address_append (drop 1 (address_shown x)) (addresses_to (λ xs. appended addresses (λ id. record x { id = id }) xs))
 unfolding understood everything
 append_address = append_by address_part address_shown (λ x id. record x { id = id }) 2 (record { command = refl; plain = (refl, refl) }) (record { values = λ x. refl; casts = λ x. simp (cast_int, cast_null, cast_text, cast_maybe_int, cast_maybe_text); row = λ x id. refl })
 
@@ -123,11 +121,11 @@ remove_addresses_by_host v = remove_by address_part (address_with_host v) (equal
 
 -- ---- link
 
-pub put_link : (x : Link) → Alters links.tree link_put (link_shown x) (links_to (λ xs. insert_by links.key xs x))
+pub put_link : (x : LinkRow) → Alters links.tree link_put (link_shown x) (links_to (λ xs. insert_by links.key xs x))
 unfolding understood everything
 put_link = put_by link_part link_shown 5 (record { command = refl; plain = (refl, refl) }) (record { values = λ x. refl; place = λ x v. refl; updates = λ x v r. refl; unshared = λ new r. refl; headed = λ x. refl })
 
-pub append_link : (x : Link) → Alters links.tree link_append (drop 1 (link_shown x)) (links_to (λ xs. appended links (λ id. record x { id = id }) xs))
+pub append_link : (x : LinkRow) → Alters links.tree link_append (drop 1 (link_shown x)) (links_to (λ xs. appended links (λ id. record x { id = id }) xs))
 unfolding understood everything
 append_link = append_by link_part link_shown (λ x id. record x { id = id }) 5 (record { command = refl; plain = (refl, refl) }) (record { values = λ x. refl; casts = λ x. simp (cast_int, cast_null, cast_text, cast_maybe_int, cast_maybe_text); row = λ x id. refl })
 
@@ -149,11 +147,11 @@ update_links_due v due = alters link_part link_update_due (Int v ∷ Int due ∷
 
 -- ---- line
 
-pub put_line : (x : Line) → Alters lines.tree line_put (line_shown x) (lines_to (λ xs. insert_by lines.key xs x))
+pub put_line : (x : LineRow) → Alters lines.tree line_put (line_shown x) (lines_to (λ xs. insert_by lines.key xs x))
 unfolding understood everything
 put_line = put_by line_part line_shown 10 (record { command = refl; plain = (refl, refl) }) (record { values = λ x. refl; place = λ x v. refl; updates = λ x v r. refl; unshared = λ new r. refl; headed = λ x. refl })
 
-pub append_line : (x : Line) → Alters lines.tree line_append (drop 1 (line_shown x)) (lines_to (λ xs. appended lines (λ id. record x { id = id }) xs))
+pub append_line : (x : LineRow) → Alters lines.tree line_append (drop 1 (line_shown x)) (lines_to (λ xs. appended lines (λ id. record x { id = id }) xs))
 unfolding understood everything
 append_line = append_by line_part line_shown (λ x id. record x { id = id }) 10 (record { command = refl; plain = (refl, refl) }) (record { values = λ x. refl; casts = λ x. simp (cast_int, cast_null, cast_text, cast_maybe_int, cast_maybe_text); row = λ x id. refl })
 
@@ -163,11 +161,11 @@ remove_lines_by_id v = remove_by line_part (line_with_id v) (equals 0 0 ∷ []) 
 
 -- ---- message
 
-pub put_message : (x : Message) → Alters messages.tree message_put (message_shown x) (messages_to (λ xs. insert_by messages.key xs x))
+pub put_message : (x : MessageRow) → Alters messages.tree message_put (message_shown x) (messages_to (λ xs. insert_by messages.key xs x))
 unfolding understood everything
 put_message = put_by message_part message_shown 7 (record { command = refl; plain = (refl, refl) }) (record { values = λ x. refl; place = λ x v. refl; updates = λ x v r. refl; unshared = λ new r. refl; headed = λ x. refl })
 
-pub append_message : (x : Message) → Alters messages.tree message_append (drop 1 (message_shown x)) (messages_to (λ xs. appended messages (λ id. record x { id = id }) xs))
+pub append_message : (x : MessageRow) → Alters messages.tree message_append (drop 1 (message_shown x)) (messages_to (λ xs. appended messages (λ id. record x { id = id }) xs))
 unfolding understood everything
 append_message = append_by message_part message_shown (λ x id. record x { id = id }) 7 (record { command = refl; plain = (refl, refl) }) (record { values = λ x. refl; casts = λ x. simp (cast_int, cast_null, cast_text, cast_maybe_int, cast_maybe_text); row = λ x id. refl })
 
@@ -177,11 +175,11 @@ remove_messages_by_id v = remove_by message_part (message_with_id v) (equals 0 0
 
 -- ---- transfer
 
-pub put_transfer : (x : Transfer) → Alters transfers.tree transfer_put (transfer_shown x) (transfers_to (λ xs. insert_by transfers.key xs x))
+pub put_transfer : (x : TransferRow) → Alters transfers.tree transfer_put (transfer_shown x) (transfers_to (λ xs. insert_by transfers.key xs x))
 unfolding understood everything
 put_transfer = put_by transfer_part transfer_shown 8 (record { command = refl; plain = (refl, refl) }) (record { values = λ x. refl; place = λ x v. refl; updates = λ x v r. refl; unshared = λ new r. refl; headed = λ x. refl })
 
-pub append_transfer : (x : Transfer) → Alters transfers.tree transfer_append (drop 1 (transfer_shown x)) (transfers_to (λ xs. appended transfers (λ id. record x { id = id }) xs))
+pub append_transfer : (x : TransferRow) → Alters transfers.tree transfer_append (drop 1 (transfer_shown x)) (transfers_to (λ xs. appended transfers (λ id. record x { id = id }) xs))
 unfolding understood everything
 append_transfer = append_by transfer_part transfer_shown (λ x id. record x { id = id }) 8 (record { command = refl; plain = (refl, refl) }) (record { values = λ x. refl; casts = λ x. simp (cast_int, cast_null, cast_text, cast_maybe_int, cast_maybe_text); row = λ x id. refl })
 
@@ -195,32 +193,32 @@ remove_transfers_by_domain v = remove_by transfer_part (transfer_with_domain v) 
 
 -- ---- days
 
-pub append_day : (x : Day) → Alters days.tree days_append (drop 1 (day_shown x)) (days_to (λ xs. appended days (λ id. record x { id = id }) xs))
+pub append_day : (x : DayRow) → Alters days.tree days_append (drop 1 (day_shown x)) (days_to (λ xs. appended days (λ id. record x { id = id }) xs))
 unfolding understood everything
 append_day = append_by day_part day_shown (λ x id. record x { id = id }) 10 (record { command = refl; plain = (refl, refl) }) (record { values = λ x. refl; casts = λ x. simp (cast_int, cast_null, cast_text, cast_maybe_int, cast_maybe_text); row = λ x id. refl })
 
 -- ---- what hangs on no account
 
-pub apart-contacts : (change : List Contact → List Contact) → IsApart (contacts_to change)
+pub apart-contacts : (change : List ContactRow → List ContactRow) → IsApart (contacts_to change)
 apart-contacts change = record { accounts = λ f xs. refl; metas = λ xs. refl; days = λ xs. refl }
 
-pub apart-domains : (change : List Domain → List Domain) → IsApart (domains_to change)
+pub apart-domains : (change : List DomainRow → List DomainRow) → IsApart (domains_to change)
 apart-domains change = record { accounts = λ f xs. refl; metas = λ xs. refl; days = λ xs. refl }
 
-pub apart-hosts : (change : List Host → List Host) → IsApart (hosts_to change)
+pub apart-hosts : (change : List HostRow → List HostRow) → IsApart (hosts_to change)
 apart-hosts change = record { accounts = λ f xs. refl; metas = λ xs. refl; days = λ xs. refl }
 
-pub apart-addresses : (change : List Address → List Address) → IsApart (addresses_to change)
+pub apart-addresses : (change : List AddressRow → List AddressRow) → IsApart (addresses_to change)
 apart-addresses change = record { accounts = λ f xs. refl; metas = λ xs. refl; days = λ xs. refl }
 
-pub apart-links : (change : List Link → List Link) → IsApart (links_to change)
+pub apart-links : (change : List LinkRow → List LinkRow) → IsApart (links_to change)
 apart-links change = record { accounts = λ f xs. refl; metas = λ xs. refl; days = λ xs. refl }
 
-pub apart-lines : (change : List Line → List Line) → IsApart (lines_to change)
+pub apart-lines : (change : List LineRow → List LineRow) → IsApart (lines_to change)
 apart-lines change = record { accounts = λ f xs. refl; metas = λ xs. refl; days = λ xs. refl }
 
-pub apart-messages : (change : List Message → List Message) → IsApart (messages_to change)
+pub apart-messages : (change : List MessageRow → List MessageRow) → IsApart (messages_to change)
 apart-messages change = record { accounts = λ f xs. refl; metas = λ xs. refl; days = λ xs. refl }
 
-pub apart-transfers : (change : List Transfer → List Transfer) → IsApart (transfers_to change)
+pub apart-transfers : (change : List TransferRow → List TransferRow) → IsApart (transfers_to change)
 apart-transfers change = record { accounts = λ f xs. refl; metas = λ xs. refl; days = λ xs. refl }

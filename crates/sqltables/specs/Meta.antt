@@ -1,39 +1,21 @@
 -- What holds of the whole registry, in one row, and how they lie in their table.
-use Rattle.std.specs.Prelude.{ℕ, ℤ, Bool, List, [], ◌∷◌, refl}
+use Rattle.std.specs.Prelude.{ℤ, Bool, [], ◌∷◌, refl}
 use Rattle.std.specs.Ordering.{int_eq}
 use Rattle.sqlite_value.specs.declared.value.Value.TheVariants.{Int, Null, Text}
 use Rattle.sqlite_value.specs.Order.{Row}
 use Rattle.sqlrows.specs.Layouts.{Layout}
-
-pub record Meta : Type 0 where
-  pub id : ℤ
-  pub version : ℤ
-  pub clock : ℤ
-  pub zone : List ℕ
-  pub reserved : List ℕ
-  pub days_add : ℤ
-  pub days_auto_renew : ℤ
-  pub days_renew : ℤ
-  pub days_transfer : ℤ
-  pub days_redemption : ℤ
-  pub days_restore : ℤ
-  pub days_pending_delete : ℤ
-  pub days_answer : ℤ
-  pub days_lock : ℤ
-  pub price_create : ℤ
-  pub price_renew : ℤ
-  pub price_transfer : ℤ
+pub use Rattle.sqltables.specs.declared.meta.MetaRow.{MetaRow}
 
 -- as it is stored: its key, NULL in the key's column, and then the others
-abbrev pub meta_row : Meta → Row
+abbrev pub meta_row : MetaRow → Row
 meta_row x = Int x.id ∷ Null ∷ Int x.version ∷ Int x.clock ∷ Text x.zone ∷ Text x.reserved ∷ Int x.days_add ∷ Int x.days_auto_renew ∷ Int x.days_renew ∷ Int x.days_transfer ∷ Int x.days_redemption ∷ Int x.days_restore ∷ Int x.days_pending_delete ∷ Int x.days_answer ∷ Int x.days_lock ∷ Int x.price_create ∷ Int x.price_renew ∷ Int x.price_transfer ∷ []
 
 -- as a query shows it, and as parameters
-abbrev pub meta_shown : Meta → Row
+abbrev pub meta_shown : MetaRow → Row
 meta_shown x = Int x.id ∷ Int x.version ∷ Int x.clock ∷ Text x.zone ∷ Text x.reserved ∷ Int x.days_add ∷ Int x.days_auto_renew ∷ Int x.days_renew ∷ Int x.days_transfer ∷ Int x.days_redemption ∷ Int x.days_restore ∷ Int x.days_pending_delete ∷ Int x.days_answer ∷ Int x.days_lock ∷ Int x.price_create ∷ Int x.price_renew ∷ Int x.price_transfer ∷ []
 
-abbrev pub metas : Layout Meta
+abbrev pub metas : Layout MetaRow
 metas = record { tree = 0; key = λ x. x.id; to_row = meta_row; keyed = λ x. refl }
 
-abbrev pub meta_with_id : ℤ → Meta → Bool
+abbrev pub meta_with_id : ℤ → MetaRow → Bool
 meta_with_id v x = int_eq x.id v

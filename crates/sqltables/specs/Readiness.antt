@@ -10,17 +10,17 @@ use Rattle.states.specs.declared.readiness.Ready.TheVariants as readiness
 use Rattle.sqltables.specs.Decoding.{contents}
 use Rattle.sqltables.specs.declared.form.Form.{Form}
 use Rattle.sqltables.specs.declared.form.Form.TheVariants.{Unused, Making, Made, Other}
-use Rattle.sqltables.specs.Meta.{Meta}
+use Rattle.sqltables.specs.Meta.{MetaRow}
 use Rattle.sqltables.specs.Tables.{registry, schema_number}
 
 -- the table `meta` has one row, and in it the number of this schema
-abbrev pub is_numbered : List Meta → Bool
+abbrev pub is_numbered : List MetaRow → Bool
 is_numbered [] = false
 is_numbered (meta ∷ []) = int_eq meta.version schema_number
 is_numbered (meta ∷ other ∷ more) = false
 
 -- the table `meta` has no row yet, or one with that number
-abbrev pub may_be_numbered : List Meta → Bool
+abbrev pub may_be_numbered : List MetaRow → Bool
 may_be_numbered [] = true
 may_be_numbered (meta ∷ more) = is_numbered (meta ∷ more)
 

@@ -3,12 +3,10 @@ pub mod Adoption
 pub mod Answers
 pub mod Balance
 pub mod Content
-pub mod Domain
 pub mod Due
 pub mod Faults
 pub mod FirstTables
 pub mod Hand
-pub mod Message
 pub mod Reopening
 pub mod Statements
 pub mod Stored

@@ -1,22 +1,21 @@
 //! Registrars' accounts.
-ghost use Rattle.std.specs.Prelude.{◌≡◌, true, false, filter, IfOk};
+ghost use Rattle.std.specs.Prelude.{◌≡◌, true, false, filter};
 ghost use Rattle.sqlite_keyed.specs.Keyed.{insert_by};
 ghost use Rattle.sqlite_keyed.specs.Lists.{update_where};
 ghost use Rattle.sqltables.specs.inner.Content.{accounts_to};
 ghost use Rattle.states.specs.States.{Finds, Makes};
 ghost use Rattle.sqltables.specs.inner.Hand.{IsAtHand, IsThere, seen_with};
-ghost use Rattle.sqltables.specs.Account.{Account, accounts, account_with_id};
+ghost use Rattle.sqltables.specs.Account.{accounts, account_with_id};
 
 use crate::base::Base;
 use crate::hand::Hand;
 use crate::store::{RowStore, settle};
 use basis::list::Seq;
+use basis::text::Text;
 use sqlite::types::{ToSql, Type, ValueRef};
 use sqlite::{Alter, Error, Row, params};
 use sqlrows::{Number, Record};
 use states::BookFault;
-use std::alloc::{AllocError, Global};
-use std::marker::Model;
 
 /// The tree of the table `account`.
 const TREE: u64 = 1;
@@ -34,10 +33,10 @@ const REPLACE: &str =
     "UPDATE account SET ident = ?2, commands = ?3, messages = ?4, serial = ?5, waiting = ?6, balance = ?7, held = ?8 WHERE id = ?1";
 
 /// A row of the table `account`.
-#[derive(Drop)]
+#[derive(Clone, Drop)]
 pub struct AccountRow {
     pub id: i64,
-    pub ident: String,
+    pub ident: Text,
     pub commands: i64,
     pub messages: i64,
     pub serial: i64,
@@ -46,43 +45,9 @@ pub struct AccountRow {
     pub held: i64,
 }
 
-impl Model for AccountRow {
-    ghost use Rattle.std.specs.Prelude.{string_bytes};
-    ghost use Rattle.sqltables.specs.Account.{Account};
-
-    ghost Value = { Account };
-
-    ghost view = { λ x. record {
-      id = x.id;
-      ident = string_bytes x.ident;
-      commands = x.commands;
-      messages = x.messages;
-      serial = x.serial;
-      waiting = x.waiting;
-      balance = x.balance;
-      held = x.held;
-    } };
-}
-
 impl AccountRow {
     ghost use Rattle.sqlite.specs.Values.{bound};
     ghost use Rattle.sqltables.specs.Account.{account_shown};
-
-    /// Another copy.
-    pub(crate) fn copied(&self, alloc: Global) -> Result<AccountRow, AllocError>
-        ensures { IfOk result (λ row. row ≡ self.now) }
-    {
-        Ok(AccountRow {
-            id: self.id,
-            ident: String::from_str(alloc, self.ident.as_str())?,
-            commands: self.commands,
-            messages: self.messages,
-            serial: self.serial,
-            waiting: self.waiting,
-            balance: self.balance,
-            held: self.held,
-        })
-    }
 
     /// Whether both are of one account, under one name.
     pub(crate) fn is_of(&self, other: &AccountRow) -> bool
@@ -111,7 +76,7 @@ impl AccountRow {
     {
         [
             self.id.to_sql(),
-            (&self.ident).to_sql(),
+            self.ident.as_str().to_sql(),
             self.commands.to_sql(),
             self.messages.to_sql(),
             self.serial.to_sql(),
@@ -136,7 +101,7 @@ impl Record for AccountRow {
         balance.copy_from_slice(&bytes);
         Ok(AccountRow {
             id: row.get(0)?,
-            ident: row.get(1)?,
+            ident: Text::from_string(row.get(1)?),
             commands: row.get(2)?,
             messages: row.get(3)?,
             serial: row.get(4)?,
@@ -255,7 +220,7 @@ fn fetch<S: Alter>(
 {
     let rows = base.accounts_by_id(id);
     let rows = hand.or_forget(rows)?;
-    hand.keep_account(rows.as_slice(), base.alloc());
+    hand.keep_account(rows.as_slice());
     Ok(rows)
 }
 
@@ -304,6 +269,6 @@ fn put_there<S: Alter>(
 {
     let made = base.put_account(account);
     hand.or_forget(made)?;
-    hand.keep_account(std::slice::from_ref(account), base.alloc());
+    hand.keep_account(std::slice::from_ref(account));
     Ok(())
 }

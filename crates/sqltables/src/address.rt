@@ -5,15 +5,15 @@ ghost use Rattle.sqlite_keyed.specs.Keyed.{insert_by};
 ghost use Rattle.sqltables.specs.inner.Content.{addresses_to};
 ghost use Rattle.states.specs.States.{Finds, Makes};
 ghost use Rattle.sqlrows.specs.inner.Layouts.{appended};
-ghost use Rattle.sqltables.specs.Address.{Address, addresses, address_with_host};
+ghost use Rattle.sqltables.specs.Address.{addresses, address_with_host};
 
 use crate::store::RowStore;
 use basis::list::Seq;
+use basis::text::Text;
 use sqlite::types::{ToSql, ValueRef};
 use sqlite::{Alter, Error, Row, params};
 use sqlrows::{Number, Record};
 use states::BookFault;
-use std::marker::Model;
 
 /// The tree of the table `address`.
 const TREE: u64 = 9;
@@ -32,20 +32,7 @@ const REMOVE_HOST: &str = "DELETE FROM address WHERE host = ?1";
 pub struct AddressRow {
     pub id: i64,
     pub host: i64,
-    pub address: String,
-}
-
-impl Model for AddressRow {
-    ghost use Rattle.std.specs.Prelude.{string_bytes};
-    ghost use Rattle.sqltables.specs.Address.{Address};
-
-    ghost Value = { Address };
-
-    ghost view = { λ x. record {
-      id = x.id;
-      host = x.host;
-      address = string_bytes x.address;
-    } };
+    pub address: Text,
 }
 
 impl AddressRow {
@@ -66,7 +53,7 @@ impl Record for AddressRow {
     ghost shown = { address_shown };
 
     fn from_row(row: &Row) -> Result<AddressRow, Error> {
-        by_columns!(AddressRow of row: id 0, host 1, address 2)
+        by_columns!(AddressRow of row: number id 0, number host 1, text address 2)
     }
 }
 

@@ -5,15 +5,15 @@ ghost use Rattle.sqlite_keyed.specs.Lists.{delete_where, update_where};
 ghost use Rattle.sqltables.specs.inner.Content.{contacts_to};
 ghost use Rattle.states.specs.States.{Finds, Makes};
 ghost use Rattle.sqlrows.specs.inner.Layouts.{appended};
-ghost use Rattle.sqltables.specs.Contact.{Contact, contact_shown, contacts, contact_with_id, contact_with_name, contact_within_due, contact_of_sponsor_within, contacts_by_due};
+ghost use Rattle.sqltables.specs.Contact.{ContactRow, contact_shown, contacts, contact_with_id, contact_with_name, contact_within_due, contact_of_sponsor_within, contacts_by_due};
 
 use crate::store::RowStore;
 use basis::list::Seq;
+use basis::text::Text;
 use sqlite::types::{ToSql, ValueRef};
 use sqlite::{Alter, Error, Row, params};
-use sqlrows::{Number, Record, maybe_number, maybe_text};
+use sqlrows::{Number, Record, maybe_number, maybe_text, maybe_text_of};
 use states::BookFault;
-use std::marker::Model;
 
 /// The tree of the table `contact`.
 const TREE: u64 = 3;
@@ -47,38 +47,22 @@ const REMOVE_ID: &str = "DELETE FROM contact WHERE id = ?1";
 /// The postal columns of a row.
 #[derive(Drop)]
 pub struct PostalRow {
-    pub name: String,
-    pub org: Option<String>,
-    pub street: String,
-    pub city: String,
-    pub state: Option<String>,
-    pub postal_code: Option<String>,
-    pub country: String,
-}
-
-impl Model for PostalRow {
-    ghost use Rattle.std.specs.Prelude.{option_map, string_bytes};
-    ghost use Rattle.sqltables.specs.Contact.{Postal};
-
-    ghost Value = { Postal };
-
-    ghost view = { λ x. record {
-      name = string_bytes x.name;
-      org = option_map string_bytes x.org;
-      street = string_bytes x.street;
-      city = string_bytes x.city;
-      state = option_map string_bytes x.state;
-      postal_code = option_map string_bytes x.postal_code;
-      country = string_bytes x.country;
-    } };
+    pub name: Text,
+    pub org: Option<Text>,
+    pub street: Text,
+    pub city: Text,
+    pub state: Option<Text>,
+    pub postal_code: Option<Text>,
+    pub country: Text,
 }
 
 /// The postal columns of a contact's row.
 fn postal_of(row: &Row) -> Result<PostalRow, Error>
-    ensures { (x : Contact) → row.now ≡ contact_shown x → IfOk result (λ r. r ≡ x.postal) }
+    ensures { (x : ContactRow) → row.now ≡ contact_shown x → IfOk result (λ r. r ≡ x.postal) }
 {
     by_columns!(
-        PostalRow of row: name 10, org 11, street 12, city 13, state 14, postal_code 15, country 16
+        PostalRow of row: text name 10, maybe_text org 11, text street 12, text city 13,
+        maybe_text state 14, maybe_text postal_code 15, text country 16
     )
 }
 
@@ -86,43 +70,19 @@ fn postal_of(row: &Row) -> Result<PostalRow, Error>
 #[derive(Drop)]
 pub struct ContactRow {
     pub id: i64,
-    pub name: String,
+    pub name: Text,
     pub creator: i64,
     pub serial: i64,
     pub sponsor: i64,
     pub created: i64,
     pub transferred: Option<i64>,
     pub updated: Option<i64>,
-    pub statuses: String,
-    pub secret: String,
-    pub voice: Option<String>,
+    pub statuses: Text,
+    pub secret: Text,
+    pub voice: Option<Text>,
     pub due: Option<i64>,
-    pub mail: String,
+    pub mail: Text,
     pub postal: PostalRow,
-}
-
-impl Model for ContactRow {
-    ghost use Rattle.std.specs.Prelude.{option_map, string_bytes};
-    ghost use Rattle.sqltables.specs.Contact.{Contact};
-
-    ghost Value = { Contact };
-
-    ghost view = { λ x. record {
-      id = x.id;
-      name = string_bytes x.name;
-      creator = x.creator;
-      serial = x.serial;
-      sponsor = x.sponsor;
-      created = x.created;
-      transferred = x.transferred;
-      updated = x.updated;
-      statuses = string_bytes x.statuses;
-      secret = string_bytes x.secret;
-      voice = option_map string_bytes x.voice;
-      due = x.due;
-      mail = string_bytes x.mail;
-      postal = x.postal;
-    } };
 }
 
 impl ContactRow {
@@ -153,11 +113,14 @@ struct ContactDates {
 }
 
 fn dates_of(row: &Row) -> Result<ContactDates, Error>
-    ensures { (x : Contact) → row.now ≡ contact_shown x
+    ensures { (x : ContactRow) → row.now ≡ contact_shown x
         → IfOk result (λ dates. (dates.created ≡ x.created) × (dates.transferred ≡ x.transferred)
         × (dates.updated ≡ x.updated) × (dates.due ≡ x.due)) }
 {
-    by_columns!(ContactDates of row: created 5, transferred 6, updated 7, due 18)
+    by_columns!(
+        ContactDates of row: number created 5, maybe_number transferred 6, maybe_number updated 7,
+        maybe_number due 18
+    )
 }
 
 impl Record for ContactRow {
@@ -169,18 +132,18 @@ impl Record for ContactRow {
         let dates = dates_of(row)?;
         Ok(ContactRow {
             id: row.get(0)?,
-            name: row.get(1)?,
+            name: Text::from_string(row.get(1)?),
             creator: row.get(2)?,
             serial: row.get(3)?,
             sponsor: row.get(4)?,
             created: dates.created,
             transferred: dates.transferred,
             updated: dates.updated,
-            statuses: row.get(8)?,
-            secret: row.get(9)?,
-            voice: row.get(17)?,
+            statuses: Text::from_string(row.get(8)?),
+            secret: Text::from_string(row.get(9)?),
+            voice: maybe_text_of(row.get(17)?),
             due: dates.due,
-            mail: row.get(19)?,
+            mail: Text::from_string(row.get(19)?),
             postal: postal_of(row)?,
         })
     }

@@ -1,9 +1,9 @@
 //! Lengths of periods that are in force from a moment on.
-ghost use Rattle.std.specs.Prelude.{◌≡◌, true, IfOk};
+ghost use Rattle.std.specs.Prelude.{◌≡◌, true};
 ghost use Rattle.sqltables.specs.inner.Content.{days_to};
 ghost use Rattle.states.specs.States.{Finds, Makes};
 ghost use Rattle.sqlrows.specs.inner.Layouts.{appended};
-ghost use Rattle.sqltables.specs.Day.{Day, days};
+ghost use Rattle.sqltables.specs.Day.{days};
 ghost use Rattle.sqltables.specs.inner.Hand.{IsAtHand, seen_with};
 
 use crate::base::Base;
@@ -14,8 +14,6 @@ use sqlite::types::{ToSql, ValueRef};
 use sqlite::{Alter, Error, Row};
 use sqlrows::Record;
 use states::BookFault;
-use std::alloc::{AllocError, Global};
-use std::marker::Model;
 
 /// The tree of the table `day`.
 const TREE: u64 = 34;
@@ -27,7 +25,7 @@ const APPEND: &str =
     "INSERT INTO days (starts, days_add, days_auto_renew, days_renew, days_transfer, days_redemption, days_restore, days_pending_delete, days_answer, days_lock) VALUES (?1, ?2, ?3, ?4, ?5, ?6, ?7, ?8, ?9, ?10)";
 
 /// A row of the table `days`.
-#[derive(Drop)]
+#[derive(Clone, Drop)]
 pub struct DayRow {
     pub id: i64,
     pub starts: i64,
@@ -42,48 +40,9 @@ pub struct DayRow {
     pub days_lock: i64,
 }
 
-impl Model for DayRow {
-    ghost use Rattle.sqltables.specs.Day.{Day};
-
-    ghost Value = { Day };
-
-    ghost view = { λ x. record {
-      id = x.id;
-      starts = x.starts;
-      days_add = x.days_add;
-      days_auto_renew = x.days_auto_renew;
-      days_renew = x.days_renew;
-      days_transfer = x.days_transfer;
-      days_redemption = x.days_redemption;
-      days_restore = x.days_restore;
-      days_pending_delete = x.days_pending_delete;
-      days_answer = x.days_answer;
-      days_lock = x.days_lock;
-    } };
-}
-
 impl DayRow {
     ghost use Rattle.sqlite.specs.Values.{bound};
     ghost use Rattle.sqltables.specs.Day.{day_shown};
-
-    /// Another copy.
-    fn copied(&self) -> DayRow
-        ensures { result ≡ self.now }
-    {
-        DayRow {
-            id: self.id,
-            starts: self.starts,
-            days_add: self.days_add,
-            days_auto_renew: self.days_auto_renew,
-            days_renew: self.days_renew,
-            days_transfer: self.days_transfer,
-            days_redemption: self.days_redemption,
-            days_restore: self.days_restore,
-            days_pending_delete: self.days_pending_delete,
-            days_answer: self.days_answer,
-            days_lock: self.days_lock,
-        }
-    }
 
     /// Its columns as parameters, its number first.
     fn params(&self) -> [ValueRef<'_>; 11]
@@ -104,22 +63,12 @@ impl Record for DayRow {
 
     fn from_row(row: &Row) -> Result<DayRow, Error> {
         by_columns!(
-            DayRow of row: id 0, starts 1, days_add 2, days_auto_renew 3, days_renew 4,
-            days_transfer 5, days_redemption 6, days_restore 7, days_pending_delete 8,
-            days_answer 9, days_lock 10
+            DayRow of row: number id 0, number starts 1, number days_add 2,
+            number days_auto_renew 3, number days_renew 4, number days_transfer 5,
+            number days_redemption 6, number days_restore 7, number days_pending_delete 8,
+            number days_answer 9, number days_lock 10
         )
     }
-}
-
-/// Copies of rows.
-pub(crate) fn copies(alloc: Global, rows: &[DayRow]) -> Result<Seq<DayRow>, AllocError>
-    ensures { IfOk result (λ copies. copies ≡ rows.now) }
-{
-    let mut copies = Seq::new(alloc);
-    for row in rows {
-        copies.push(row.copied())?;
-    }
-    Ok(copies)
 }
 
 impl<S: Alter> Base<S> {
@@ -166,11 +115,11 @@ fn look_up<S: Alter>(base: &mut Base<S>, hand: &mut Hand) -> Result<Seq<DayRow>,
         (seen_with hand.old base.old) (seen_with hand.new base.new) }
 {
     if let Some(rows) = &hand.days {
-        return Ok(copies(base.alloc(), rows.as_slice())?);
+        return Ok(rows.clone()?);
     }
     let rows = base.all_days();
     let rows = hand.or_forget(rows)?;
-    hand.keep_days(rows.as_slice(), base.alloc());
+    hand.keep_days(&rows);
     Ok(rows)
 }
 

@@ -5,16 +5,15 @@ ghost use Rattle.sqlite_keyed.specs.Lists.{delete_where, update_where};
 ghost use Rattle.sqltables.specs.inner.Content.{domains_to};
 ghost use Rattle.states.specs.States.{Finds, Makes};
 ghost use Rattle.sqlrows.specs.inner.Layouts.{appended};
-ghost use Rattle.sqltables.specs.Domain.{Domain, domain_with_name};
-ghost use Rattle.sqltables.specs.inner.Domain.{domains, domain_after_id, domain_with_id, domain_with_registrant, domain_within_due, domain_of_sponsor_within, domain_of_registrant_within, domain_with_roid, domains_by_due};
+ghost use Rattle.sqltables.specs.Domain.{domain_with_name, domains, domain_after_id, domain_with_id, domain_with_registrant, domain_within_due, domain_of_sponsor_within, domain_of_registrant_within, domain_with_roid, domains_by_due};
 
 use crate::store::RowStore;
 use basis::list::Seq;
+use basis::text::Text;
 use sqlite::types::{ToSql, ValueRef};
 use sqlite::{Alter, Error, Row, params};
 use sqlrows::{Number, Record, maybe_number};
 use states::BookFault;
-use std::marker::Model;
 
 /// The tree of the table `domain`.
 const TREE: u64 = 5;
@@ -67,7 +66,7 @@ const REMOVE_ID: &str = "DELETE FROM domain WHERE id = ?1";
 #[derive(Drop)]
 pub struct DomainRow {
     pub id: i64,
-    pub name: String,
+    pub name: Text,
     pub creator: i64,
     pub serial: i64,
     pub sponsor: i64,
@@ -75,42 +74,17 @@ pub struct DomainRow {
     pub years: i64,
     pub transferred: Option<i64>,
     pub updated: Option<i64>,
-    pub statuses: String,
-    pub secret: String,
+    pub statuses: Text,
+    pub secret: Text,
     pub registrant: i64,
     pub deleted: Option<i64>,
     pub restore_requested: Option<i64>,
     pub due: i64,
 }
 
-impl Model for DomainRow {
-    ghost use Rattle.std.specs.Prelude.{string_bytes};
-    ghost use Rattle.sqltables.specs.Domain.{Domain};
-
-    ghost Value = { Domain };
-
-    ghost view = { λ x. record {
-      id = x.id;
-      name = string_bytes x.name;
-      creator = x.creator;
-      serial = x.serial;
-      sponsor = x.sponsor;
-      created = x.created;
-      years = x.years;
-      transferred = x.transferred;
-      updated = x.updated;
-      statuses = string_bytes x.statuses;
-      secret = string_bytes x.secret;
-      registrant = x.registrant;
-      deleted = x.deleted;
-      restore_requested = x.restore_requested;
-      due = x.due;
-    } };
-}
-
 impl DomainRow {
     ghost use Rattle.sqlite.specs.Values.{bound};
-    ghost use Rattle.sqltables.specs.inner.Domain.{domain_shown};
+    ghost use Rattle.sqltables.specs.Domain.{domain_shown};
 
     /// Its columns as parameters, its number first.
     fn params(&self) -> [ValueRef<'_>; 15]
@@ -126,15 +100,16 @@ impl DomainRow {
 }
 
 impl Record for DomainRow {
-    ghost use Rattle.sqltables.specs.inner.Domain.{domain_shown};
+    ghost use Rattle.sqltables.specs.Domain.{domain_shown};
 
     ghost shown = { domain_shown };
 
     fn from_row(row: &Row) -> Result<DomainRow, Error> {
         by_columns!(
-            DomainRow of row: id 0, name 1, creator 2, serial 3, sponsor 4, created 5, years 6,
-            transferred 7, updated 8, statuses 9, secret 10, registrant 11, deleted 12,
-            restore_requested 13, due 14
+            DomainRow of row: number id 0, text name 1, number creator 2, number serial 3,
+            number sponsor 4, number created 5, number years 6, maybe_number transferred 7,
+            maybe_number updated 8, text statuses 9, text secret 10, number registrant 11,
+            maybe_number deleted 12, maybe_number restore_requested 13, number due 14
         )
     }
 }

@@ -3,7 +3,7 @@ ghost use Rattle.std.specs.Prelude.{◌≡◌, true, ◌∷◌, [], Some, None, 
 ghost use Rattle.sqltables.specs.inner.Hand.{IsSameMeta, IsSameRow, KeepsAccount, KeepsDays, KeepsMeta, RenewsMeta, after, has_number, no_row, rows_at};
 
 use crate::account::AccountRow;
-use crate::day::{DayRow, copies};
+use crate::day::DayRow;
 use crate::meta::MetaRow;
 use basis::list::Seq;
 use sqlite::types::{ToSql, ValueRef};
@@ -71,17 +71,17 @@ impl Hand {
     {
         let mut rows = Seq::new(alloc);
         if let Some(row) = &self.account {
-            rows.push(row.copied(alloc)?)?;
+            rows.push(row.clone()?)?;
         }
         Ok(rows)
     }
 
     /// Keeps the account's row that was found, if it is one.
-    pub fn keep_account(&mut self, rows: &[AccountRow], alloc: Global)
+    pub fn keep_account(&mut self, rows: &[AccountRow])
         ensures { KeepsAccount rows.now self.old self.new }
     {
         self.account = match rows {
-            [row] => row.copied(alloc).ok(),
+            [row] => row.clone().ok(),
             _ => None,
         };
     }
@@ -113,7 +113,7 @@ impl Hand {
     {
         let mut rows = Seq::new(alloc);
         if let Some(row) = &self.meta {
-            rows.push(row.copied(alloc)?)?;
+            rows.push(row.clone()?)?;
         }
         Ok(rows)
     }
@@ -129,31 +129,27 @@ impl Hand {
     }
 
     /// Keeps the row of `meta` that was found, if it is one.
-    pub fn keep_meta(&mut self, rows: &[MetaRow], alloc: Global)
+    pub fn keep_meta(&mut self, rows: &[MetaRow])
         ensures { KeepsMeta rows.now self.old self.new }
     {
         self.meta = match rows {
-            [row] => row.copied(alloc).ok(),
+            [row] => row.clone().ok(),
             _ => None,
         };
     }
 
     /// Keeps a row of `meta` that was put, if it is the only one.
-    pub fn renew_meta(&mut self, is_only: bool, meta: &MetaRow, alloc: Global)
+    pub fn renew_meta(&mut self, is_only: bool, meta: &MetaRow)
         ensures { RenewsMeta is_only meta.now self.old self.new }
     {
-        self.meta = if is_only {
-            meta.copied(alloc).ok()
-        } else {
-            None
-        };
+        self.meta = if is_only { meta.clone().ok() } else { None };
     }
 
     /// Keeps the rows of `days` that were found.
-    pub fn keep_days(&mut self, rows: &[DayRow], alloc: Global)
+    pub fn keep_days(&mut self, rows: &Seq<DayRow>)
         ensures { KeepsDays rows.now self.old self.new }
     {
-        self.days = copies(alloc, rows).ok();
+        self.days = rows.clone().ok();
     }
 
     /// Keeps no rows of `days`.

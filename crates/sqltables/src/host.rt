@@ -5,15 +5,15 @@ ghost use Rattle.sqlite_keyed.specs.Lists.{delete_where, update_where};
 ghost use Rattle.sqltables.specs.inner.Content.{hosts_to};
 ghost use Rattle.states.specs.States.{Finds, Makes};
 ghost use Rattle.sqlrows.specs.inner.Layouts.{appended};
-ghost use Rattle.sqltables.specs.Host.{Host, hosts, host_with_id, host_with_name, host_with_above};
+ghost use Rattle.sqltables.specs.Host.{hosts, host_with_id, host_with_name, host_with_above};
 
 use crate::store::RowStore;
 use basis::list::Seq;
+use basis::text::Text;
 use sqlite::types::{ToSql, ValueRef};
 use sqlite::{Alter, Error, Row, params};
 use sqlrows::{Number, Record, maybe_number};
 use states::BookFault;
-use std::marker::Model;
 
 /// The tree of the table `host`.
 const TREE: u64 = 7;
@@ -45,36 +45,16 @@ const REMOVE_ID: &str = "DELETE FROM host WHERE id = ?1";
 #[derive(Drop)]
 pub struct HostRow {
     pub id: i64,
-    pub name: String,
+    pub name: Text,
     pub creator: i64,
     pub serial: i64,
     /// The last two labels of its name.
-    pub above: String,
+    pub above: Text,
     pub external_sponsor: Option<i64>,
     pub sponsor: Option<i64>,
     pub created: i64,
     pub updated: Option<i64>,
-    pub statuses: String,
-}
-
-impl Model for HostRow {
-    ghost use Rattle.std.specs.Prelude.{string_bytes};
-    ghost use Rattle.sqltables.specs.Host.{Host};
-
-    ghost Value = { Host };
-
-    ghost view = { λ x. record {
-      id = x.id;
-      name = string_bytes x.name;
-      creator = x.creator;
-      serial = x.serial;
-      above = string_bytes x.above;
-      external_sponsor = x.external_sponsor;
-      sponsor = x.sponsor;
-      created = x.created;
-      updated = x.updated;
-      statuses = string_bytes x.statuses;
-    } };
+    pub statuses: Text,
 }
 
 impl HostRow {
@@ -100,8 +80,9 @@ impl Record for HostRow {
 
     fn from_row(row: &Row) -> Result<HostRow, Error> {
         by_columns!(
-            HostRow of row: id 0, name 1, creator 2, serial 3, above 4, external_sponsor 5,
-            sponsor 6, created 7, updated 8, statuses 9
+            HostRow of row: number id 0, text name 1, number creator 2, number serial 3,
+            text above 4, maybe_number external_sponsor 5, maybe_number sponsor 6, number created 7,
+            maybe_number updated 8, text statuses 9
         )
     }
 }

@@ -2,11 +2,18 @@
 //! put and remove them.
 #![tactic(auto)]
 
-/// A record of a row's values, each by the place of its column.
+/// A record of a row's values, each by its kind and the place of its column.
 macro_rules! by_columns {
-    ($record:ident of $row:ident: $($field:ident $at:literal),*) => {
-        Ok($record { $($field: $row.get($at)?),* })
+    ($record:ident of $row:ident: $($kind:ident $field:ident $at:literal),*) => {
+        Ok($record { $($field: column!($row, $kind $at)),* })
     };
+}
+
+macro_rules! column {
+    ($row:ident, number $at:literal) => { $row.get($at)? };
+    ($row:ident, text $at:literal) => { Text::from_string($row.get($at)?) };
+    ($row:ident, maybe_number $at:literal) => { $row.get($at)? };
+    ($row:ident, maybe_text $at:literal) => { maybe_text_of($row.get($at)?) };
 }
 
 /// A record's columns as parameters, in their order, each a number or a text or one that may be absent.
@@ -18,7 +25,7 @@ macro_rules! parameters {
 
 macro_rules! parameter {
     ($record:ident, number $($field:ident).+) => { $record.$($field).+.to_sql() };
-    ($record:ident, text $($field:ident).+) => { (&$record.$($field).+).to_sql() };
+    ($record:ident, text $($field:ident).+) => { $record.$($field).+.as_str().to_sql() };
     ($record:ident, maybe_number $($field:ident).+) => { maybe_number($record.$($field).+) };
     ($record:ident, maybe_text $($field:ident).+) => { maybe_text(&$record.$($field).+) };
 }

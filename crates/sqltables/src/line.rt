@@ -5,7 +5,7 @@ ghost use Rattle.sqlite_keyed.specs.Keyed.{insert_by};
 ghost use Rattle.sqltables.specs.inner.Content.{lines_to};
 ghost use Rattle.states.specs.States.{Finds, Makes};
 ghost use Rattle.sqlrows.specs.inner.Layouts.{appended};
-ghost use Rattle.sqltables.specs.Line.{Line, lines, line_with_account, line_with_id, line_of_object, line_shown};
+ghost use Rattle.sqltables.specs.Line.{LineRow, lines, line_with_account, line_with_id, line_of_object, line_shown};
 
 use crate::store::RowStore;
 use basis::list::Seq;
@@ -13,7 +13,6 @@ use sqlite::types::{ToSql, ValueRef};
 use sqlite::{Alter, Error, Row, params};
 use sqlrows::{Number, Record, maybe_number};
 use states::BookFault;
-use std::marker::Model;
 
 /// The tree of the table `line`.
 const TREE: u64 = 11;
@@ -39,19 +38,11 @@ pub struct GraceRow {
     pub ends: Option<i64>,
 }
 
-impl Model for GraceRow {
-    ghost use Rattle.sqltables.specs.Line.{Grace};
-
-    ghost Value = { Grace };
-
-    ghost view = { λ x. record { started = x.started; ends = x.ends } };
-}
-
 /// The columns of a grace in a line's row.
 fn grace_of(row: &Row) -> Result<GraceRow, Error>
-    ensures { (x : Line) → row.now ≡ line_shown x → IfOk result (λ r. r ≡ x.grace) }
+    ensures { (x : LineRow) → row.now ≡ line_shown x → IfOk result (λ r. r ≡ x.grace) }
 {
-    by_columns!(GraceRow of row: started 7, ends 8)
+    by_columns!(GraceRow of row: maybe_number started 7, maybe_number ends 8)
 }
 
 /// A row of the table `line`.
@@ -67,25 +58,6 @@ pub struct LineRow {
     pub refunded: Option<i64>,
     pub recorded: i64,
     pub grace: GraceRow,
-}
-
-impl Model for LineRow {
-    ghost use Rattle.sqltables.specs.Line.{Line};
-
-    ghost Value = { Line };
-
-    ghost view = { λ x. record {
-      id = x.id;
-      account = x.account;
-      kind = x.kind;
-      creator = x.creator;
-      serial = x.serial;
-      years = x.years;
-      cents = x.cents;
-      refunded = x.refunded;
-      recorded = x.recorded;
-      grace = x.grace;
-    } };
 }
 
 impl LineRow {

@@ -5,7 +5,7 @@ ghost use Rattle.sqlite_keyed.specs.Keyed.{insert_by};
 ghost use Rattle.sqltables.specs.inner.Content.{links_to};
 ghost use Rattle.states.specs.States.{Finds, Makes};
 ghost use Rattle.sqlrows.specs.inner.Layouts.{appended};
-ghost use Rattle.sqltables.specs.Link.{Link, links, link_with_domain, link_with_contact, link_with_host, link_of_contact_within, link_of_host_within};
+ghost use Rattle.sqltables.specs.Link.{links, link_with_domain, link_with_contact, link_with_host, link_of_contact_within, link_of_host_within};
 
 use crate::store::RowStore;
 use basis::list::Seq;
@@ -13,7 +13,6 @@ use sqlite::types::{ToSql, ValueRef};
 use sqlite::{Alter, Error, Row, params};
 use sqlrows::{Number, Record, maybe_number};
 use states::BookFault;
-use std::marker::Model;
 
 /// The tree of the table `link`.
 const TREE: u64 = 10;
@@ -55,21 +54,6 @@ pub struct LinkRow {
     pub due: i64,
 }
 
-impl Model for LinkRow {
-    ghost use Rattle.sqltables.specs.Link.{Link};
-
-    ghost Value = { Link };
-
-    ghost view = { λ x. record {
-      id = x.id;
-      domain = x.domain;
-      contact = x.contact;
-      host = x.host;
-      role = x.role;
-      due = x.due;
-    } };
-}
-
 impl LinkRow {
     ghost use Rattle.sqlite.specs.Values.{bound};
     ghost use Rattle.sqltables.specs.Link.{link_shown};
@@ -91,7 +75,10 @@ impl Record for LinkRow {
     ghost shown = { link_shown };
 
     fn from_row(row: &Row) -> Result<LinkRow, Error> {
-        by_columns!(LinkRow of row: id 0, domain 1, contact 2, host 3, role 4, due 5)
+        by_columns!(
+            LinkRow of row: number id 0, number domain 1, maybe_number contact 2,
+            maybe_number host 3, number role 4, number due 5
+        )
     }
 }
 

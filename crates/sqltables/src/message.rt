@@ -5,16 +5,15 @@ ghost use Rattle.sqlite_keyed.specs.Keyed.{insert_by};
 ghost use Rattle.sqltables.specs.inner.Content.{messages_to};
 ghost use Rattle.states.specs.States.{Finds, Makes};
 ghost use Rattle.sqlrows.specs.inner.Layouts.{appended};
-ghost use Rattle.sqltables.specs.Message.{Message};
-ghost use Rattle.sqltables.specs.inner.Message.{messages, message_with_id, is_same_message, queue_of};
+ghost use Rattle.sqltables.specs.Message.{messages, message_with_id, is_same_message, queue_of};
 
 use crate::store::RowStore;
 use basis::list::Seq;
+use basis::text::Text;
 use sqlite::types::{ToSql, ValueRef};
 use sqlite::{Alter, Error, Row, params};
 use sqlrows::{Number, Record};
 use states::BookFault;
-use std::marker::Model;
 
 /// The tree of the table `message`.
 const TREE: u64 = 12;
@@ -43,33 +42,15 @@ pub struct MessageRow {
     pub class: i64,
     /// The recipient's number of a command's message; of time's, the place of its letter.
     pub number: i64,
-    pub name: String,
+    pub name: Text,
     pub subject: i64,
     /// What a command's message says of a transfer, and 0 of time's.
     pub notice: i64,
 }
 
-impl Model for MessageRow {
-    ghost use Rattle.std.specs.Prelude.{string_bytes};
-    ghost use Rattle.sqltables.specs.Message.{Message};
-
-    ghost Value = { Message };
-
-    ghost view = { λ x. record {
-      id = x.id;
-      account = x.account;
-      moment = x.moment;
-      class = x.class;
-      number = x.number;
-      name = string_bytes x.name;
-      subject = x.subject;
-      notice = x.notice;
-    } };
-}
-
 impl MessageRow {
     ghost use Rattle.sqlite.specs.Values.{bound};
-    ghost use Rattle.sqltables.specs.inner.Message.{message_shown};
+    ghost use Rattle.sqltables.specs.Message.{message_shown};
 
     /// Its columns as parameters, its number first.
     fn params(&self) -> [ValueRef<'_>; 8]
@@ -83,14 +64,14 @@ impl MessageRow {
 }
 
 impl Record for MessageRow {
-    ghost use Rattle.sqltables.specs.inner.Message.{message_shown};
+    ghost use Rattle.sqltables.specs.Message.{message_shown};
 
     ghost shown = { message_shown };
 
     fn from_row(row: &Row) -> Result<MessageRow, Error> {
         by_columns!(
-            MessageRow of row: id 0, account 1, moment 2, class 3, number 4, name 5, subject 6,
-            notice 7
+            MessageRow of row: number id 0, number account 1, number moment 2, number class 3,
+            number number 4, text name 5, number subject 6, number notice 7
         )
     }
 }

@@ -1,22 +1,21 @@
 //! What holds of the whole registry, in one row.
-ghost use Rattle.std.specs.Prelude.{◌≡◌, true, IfOk};
+ghost use Rattle.std.specs.Prelude.{◌≡◌, true};
 ghost use Rattle.sqlite_keyed.specs.Keyed.{insert_by};
 ghost use Rattle.sqlite_keyed.specs.Lists.{update_where};
 ghost use Rattle.sqltables.specs.inner.Content.{metas_to};
 ghost use Rattle.states.specs.States.{Finds, Makes};
 ghost use Rattle.sqltables.specs.inner.Hand.{IsAtHand, seen_with};
-ghost use Rattle.sqltables.specs.Meta.{Meta, meta_with_id, metas};
+ghost use Rattle.sqltables.specs.Meta.{meta_with_id, metas};
 
 use crate::base::Base;
 use crate::hand::Hand;
 use crate::store::RowStore;
 use basis::list::Seq;
+use basis::text::Text;
 use sqlite::types::{ToSql, ValueRef};
 use sqlite::{Alter, Error, Row};
 use sqlrows::Record;
 use states::BookFault;
-use std::alloc::{AllocError, Global};
-use std::marker::Model;
 
 /// The tree of the table `meta`.
 const TREE: u64 = 0;
@@ -31,13 +30,13 @@ const REPLACE: &str =
     "UPDATE meta SET version = ?2, clock = ?3, zone = ?4, reserved = ?5, days_add = ?6, days_auto_renew = ?7, days_renew = ?8, days_transfer = ?9, days_redemption = ?10, days_restore = ?11, days_pending_delete = ?12, days_answer = ?13, days_lock = ?14, price_create = ?15, price_renew = ?16, price_transfer = ?17 WHERE id = ?1";
 
 /// A row of the table `meta`.
-#[derive(Drop)]
+#[derive(Clone, Drop)]
 pub struct MetaRow {
     pub id: i64,
     pub version: i64,
     pub clock: i64,
-    pub zone: String,
-    pub reserved: String,
+    pub zone: Text,
+    pub reserved: Text,
     pub days_add: i64,
     pub days_auto_renew: i64,
     pub days_renew: i64,
@@ -52,61 +51,9 @@ pub struct MetaRow {
     pub price_transfer: i64,
 }
 
-impl Model for MetaRow {
-    ghost use Rattle.std.specs.Prelude.{string_bytes};
-    ghost use Rattle.sqltables.specs.Meta.{Meta};
-
-    ghost Value = { Meta };
-
-    ghost view = { λ x. record {
-      id = x.id;
-      version = x.version;
-      clock = x.clock;
-      zone = string_bytes x.zone;
-      reserved = string_bytes x.reserved;
-      days_add = x.days_add;
-      days_auto_renew = x.days_auto_renew;
-      days_renew = x.days_renew;
-      days_transfer = x.days_transfer;
-      days_redemption = x.days_redemption;
-      days_restore = x.days_restore;
-      days_pending_delete = x.days_pending_delete;
-      days_answer = x.days_answer;
-      days_lock = x.days_lock;
-      price_create = x.price_create;
-      price_renew = x.price_renew;
-      price_transfer = x.price_transfer;
-    } };
-}
-
 impl MetaRow {
     ghost use Rattle.sqlite.specs.Values.{bound};
     ghost use Rattle.sqltables.specs.Meta.{meta_shown};
-
-    /// Another copy.
-    pub(crate) fn copied(&self, alloc: Global) -> Result<MetaRow, AllocError>
-        ensures { IfOk result (λ row. row ≡ self.now) }
-    {
-        Ok(MetaRow {
-            id: self.id,
-            version: self.version,
-            clock: self.clock,
-            zone: String::from_str(alloc, self.zone.as_str())?,
-            reserved: String::from_str(alloc, self.reserved.as_str())?,
-            days_add: self.days_add,
-            days_auto_renew: self.days_auto_renew,
-            days_renew: self.days_renew,
-            days_transfer: self.days_transfer,
-            days_redemption: self.days_redemption,
-            days_restore: self.days_restore,
-            days_pending_delete: self.days_pending_delete,
-            days_answer: self.days_answer,
-            days_lock: self.days_lock,
-            price_create: self.price_create,
-            price_renew: self.price_renew,
-            price_transfer: self.price_transfer,
-        })
-    }
 
     /// The parameters of the statement that puts it.
     fn params(&self) -> [ValueRef<'_>; 17]
@@ -129,10 +76,11 @@ impl Record for MetaRow {
 
     fn from_row(row: &Row) -> Result<MetaRow, Error> {
         by_columns!(
-            MetaRow of row: id 0, version 1, clock 2, zone 3, reserved 4, days_add 5,
-            days_auto_renew 6, days_renew 7, days_transfer 8, days_redemption 9, days_restore 10,
-            days_pending_delete 11, days_answer 12, days_lock 13, price_create 14, price_renew 15,
-            price_transfer 16
+            MetaRow of row: number id 0, number version 1, number clock 2, text zone 3,
+            text reserved 4, number days_add 5, number days_auto_renew 6, number days_renew 7,
+            number days_transfer 8, number days_redemption 9, number days_restore 10,
+            number days_pending_delete 11, number days_answer 12, number days_lock 13,
+            number price_create 14, number price_renew 15, number price_transfer 16
         )
     }
 }
@@ -194,7 +142,7 @@ fn look_up<S: Alter>(base: &mut Base<S>, hand: &mut Hand) -> Result<Seq<MetaRow>
     }
     let rows = base.all_metas();
     let rows = hand.or_forget(rows)?;
-    hand.keep_meta(rows.as_slice(), base.alloc());
+    hand.keep_meta(rows.as_slice());
     Ok(rows)
 }
 
@@ -210,7 +158,7 @@ fn put<S: Alter>(base: &mut Base<S>, hand: &mut Hand, meta: &MetaRow) -> Result<
     let is_only = hand.has_meta(meta);
     let made = write(base, hand, meta);
     hand.or_forget(made)?;
-    hand.renew_meta(is_only, meta, base.alloc());
+    hand.renew_meta(is_only, meta);
     Ok(())
 }
 

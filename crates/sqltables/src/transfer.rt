@@ -5,7 +5,7 @@ ghost use Rattle.sqlite_keyed.specs.Keyed.{insert_by};
 ghost use Rattle.sqltables.specs.inner.Content.{transfers_to};
 ghost use Rattle.states.specs.States.{Finds, Makes};
 ghost use Rattle.sqlrows.specs.inner.Layouts.{appended};
-ghost use Rattle.sqltables.specs.Transfer.{Transfer, transfers, transfer_with_contact, transfer_with_domain, transfer_pending_by, transfer_pending_from};
+ghost use Rattle.sqltables.specs.Transfer.{transfers, transfer_with_contact, transfer_with_domain, transfer_pending_by, transfer_pending_from};
 
 use crate::store::RowStore;
 use basis::list::Seq;
@@ -13,7 +13,6 @@ use sqlite::types::{ToSql, ValueRef};
 use sqlite::{Alter, Error, Row, params};
 use sqlrows::{Number, Record, maybe_number};
 use states::BookFault;
-use std::marker::Model;
 
 /// The tree of the table `transfer`.
 const TREE: u64 = 13;
@@ -54,24 +53,6 @@ pub struct TransferRow {
     pub state: i64,
 }
 
-impl Model for TransferRow {
-    ghost use Rattle.sqltables.specs.Transfer.{Transfer};
-
-    ghost Value = { Transfer };
-
-    ghost view = { λ x. record {
-      id = x.id;
-      contact = x.contact;
-      domain = x.domain;
-      requester = x.requester;
-      losing = x.losing;
-      requested = x.requested;
-      ac_date = x.ac_date;
-      due = x.due;
-      state = x.state;
-    } };
-}
-
 impl TransferRow {
     ghost use Rattle.sqlite.specs.Values.{bound};
     ghost use Rattle.sqltables.specs.Transfer.{transfer_shown};
@@ -94,8 +75,9 @@ impl Record for TransferRow {
 
     fn from_row(row: &Row) -> Result<TransferRow, Error> {
         by_columns!(
-            TransferRow of row: id 0, contact 1, domain 2, requester 3, losing 4, requested 5,
-            ac_date 6, due 7, state 8
+            TransferRow of row: number id 0, maybe_number contact 1, maybe_number domain 2,
+            number requester 3, number losing 4, number requested 5, number ac_date 6,
+            maybe_number due 7, number state 8
         )
     }
 }

@@ -13,11 +13,12 @@ use Rattle.sqlcolumns.proofs.NumberLemmas.{moment_back}
 use Rattle.sqlrows.specs.Read.{rows_of}
 use Rattle.model.specs.Registry.{blank}
 use Rattle.policy.specs.declared.terms.Terms.{Terms}
-use Rattle.sqltables.specs.Account.{Account}
+use Rattle.sqltables.specs.declared.account.AccountRow.{AccountRow}
 use Rattle.sqltables.specs.Content.{Content}
 use Rattle.sqltables.specs.inner.Content.{metas_to}
-use Rattle.sqltables.specs.Day.{Day}
-use Rattle.sqltables.specs.Meta.{Meta, metas}
+use Rattle.sqltables.specs.declared.day.DayRow.{DayRow}
+use Rattle.sqltables.specs.Meta.{metas}
+use Rattle.sqltables.specs.declared.meta.MetaRow.{MetaRow}
 use Rattle.sqltables.specs.Readiness.{may_be_numbered}
 use Rattle.sqltables.specs.Tables.{schema_number}
 use Rattle.sqlterms.specs.inner.Changes.{IsClockSet}
@@ -29,43 +30,43 @@ use Rattle.sqlterms.specs.Terms.{days_at, terms_at, terms_in}
 pub first_moment : IsMoment blank.clock
 first_moment = (leb-true 946_684_800 946_684_800 refl, leb-true 946_684_800 7_258_118_399 refl)
 
-first_row : (o : Option Meta) → slice_get (rows_of o) 0 ≡ o
+first_row : (o : Option MetaRow) → slice_get (rows_of o) 0 ≡ o
 first_row None = refl
 first_row (Some row) = refl
 
-insert_one : (o : Option Meta) (new : Meta) → (meta_or_new o).id ≡ new.id → insert_by metas.key (rows_of o) new ≡ new ∷ []
+insert_one : (o : Option MetaRow) (new : MetaRow) → (meta_or_new o).id ≡ new.id → insert_by metas.key (rows_of o) new ≡ new ∷ []
 insert_one None new e = refl
 insert_one (Some row) new e =
     ap (λ (r : Ordering). match_ordering r (row ∷ new ∷ []) (new ∷ []) (new ∷ row ∷ [])) (ap (int_cmp row.id) (sym e) ∙ tied_itself int_cmp_total row.id)
 
-module _ (xs : Content) (o : Option Meta) (is : xs.metas ≡ rows_of o) where
-  one_meta : (new : Meta) → (meta_or_new o).id ≡ new.id → insert_by metas.key xs.metas new ≡ new ∷ []
+module _ (xs : Content) (o : Option MetaRow) (is : xs.metas ≡ rows_of o) where
+  one_meta : (new : MetaRow) → (meta_or_new o).id ≡ new.id → insert_by metas.key xs.metas new ≡ new ∷ []
   one_meta new e = ap (λ rows. insert_by metas.key rows new) is ∙ insert_one o new e
 
   meta_was : slice_get xs.metas 0 ≡ o
   meta_was = ap (λ rows. slice_get rows 0) is ∙ first_row o
 
-  same_clock : (o : Option Meta) → IsMoment blank.clock → clock_in (Some (meta_or_new o)) ≡ clock_in o
+  same_clock : (o : Option MetaRow) → IsMoment blank.clock → clock_in (Some (meta_or_new o)) ≡ clock_in o
   same_clock None first = ap (λ c. unwrap_or c blank.clock) (moment_back blank.clock first)
   same_clock (Some row) first = refl
 
-  no_terms : (o : Option Meta) (tables : List Day) (accounts : List Account) → terms_at (meta_or_new o) tables accounts ≡ terms_in o tables accounts
+  no_terms : (o : Option MetaRow) (tables : List DayRow) (accounts : List AccountRow) → terms_at (meta_or_new o) tables accounts ≡ terms_in o tables accounts
   no_terms None tables accounts = refl
   no_terms (Some row) tables accounts = refl
 
-  no_days : (o : Option Meta) (tables : List Day) → days_at tables (meta_or_new o) ≡ option_and_then (days_at tables) o
+  no_days : (o : Option MetaRow) (tables : List DayRow) → days_at tables (meta_or_new o) ≡ option_and_then (days_at tables) o
   no_days None tables = refl
   no_days (Some row) tables = refl
 
-  numbered-so : (o : Option Meta) → int_eq (meta_or_new o).version schema_number ≡ may_be_numbered (rows_of o)
+  numbered-so : (o : Option MetaRow) → int_eq (meta_or_new o).version schema_number ≡ may_be_numbered (rows_of o)
   numbered-so None = refl
   numbered-so (Some row) = refl
 
   -- the number in the row stays, and a new row has it
-  pub same_number : (new : Meta) → (meta_or_new o).id ≡ new.id → new.version ≡ (meta_or_new o).version → may_be_numbered (insert_by metas.key xs.metas new) ≡ may_be_numbered xs.metas
+  pub same_number : (new : MetaRow) → (meta_or_new o).id ≡ new.id → new.version ≡ (meta_or_new o).version → may_be_numbered (insert_by metas.key xs.metas new) ≡ may_be_numbered xs.metas
   same_number new e version = ap may_be_numbered (one_meta new e) ∙ ap (λ (v : ℤ). int_eq v schema_number) version ∙ numbered-so o ∙ ap may_be_numbered (sym is)
 
-  clock_at : (m : ℕ) (o : Option Meta) → IsAt m o → clock_in o ≡ m
+  clock_at : (m : ℕ) (o : Option MetaRow) → IsAt m o → clock_in o ≡ m
   clock_at m None at = absurd at
   clock_at m (Some row) at = ap (λ c. unwrap_or (moment_in c) blank.clock) at.1 ∙ ap (λ c. unwrap_or c blank.clock) (moment_back m at.0)
 
@@ -74,27 +75,27 @@ module _ (xs : Content) (o : Option Meta) (is : xs.metas ≡ rows_of o) where
   clock_is_there m at = record { clock = ap clock_in meta_was ∙ clock_at m o at; terms = refl; days = refl; numbered = refl; others = refl }
 
   -- the clock is another, and the terms aren't
-  pub clock_is_set : (m : ℕ) (new : Meta) → IsMoment m → new ≡ with_clock m (meta_or_new o) → IsClockSet m xs (metas_to (λ rows. insert_by metas.key rows new) xs)
+  pub clock_is_set : (m : ℕ) (new : MetaRow) → IsMoment m → new ≡ with_clock m (meta_or_new o) → IsClockSet m xs (metas_to (λ rows. insert_by metas.key rows new) xs)
   clock_is_set m new range e =
-      let rows : insert_by metas.key xs.metas new ≡ new ∷ [] = one_meta new (ap (λ (r : Meta). r.id) (sym e)) in
+      let rows : insert_by metas.key xs.metas new ≡ new ∷ [] = one_meta new (ap (λ (r : MetaRow). r.id) (sym e)) in
       record {
         clock =
-            ap (λ rows. clock_in (slice_get rows 0)) rows ∙ ap (λ (r : Meta). unwrap_or (moment_in r.clock) blank.clock) e
+            ap (λ rows. clock_in (slice_get rows 0)) rows ∙ ap (λ (r : MetaRow). unwrap_or (moment_in r.clock) blank.clock) e
             ∙ ap (λ c. unwrap_or c blank.clock) (moment_back m range);
         terms =
-            ap (λ rows. terms_in (slice_get rows 0) xs.days xs.accounts) rows ∙ ap (λ (r : Meta). terms_at r xs.days xs.accounts) e
+            ap (λ rows. terms_in (slice_get rows 0) xs.days xs.accounts) rows ∙ ap (λ (r : MetaRow). terms_at r xs.days xs.accounts) e
             ∙ no_terms o xs.days xs.accounts ∙ ap (λ o. terms_in o xs.days xs.accounts) (sym meta_was);
         days =
             ap (λ rows. option_and_then (days_at xs.days) (slice_get rows 0)) rows ∙ ap (days_at xs.days) e
             ∙ no_days o xs.days ∙ ap (option_and_then (days_at xs.days)) (sym meta_was);
-        numbered = same_number new (ap (λ (r : Meta). r.id) (sym e)) (ap (λ (r : Meta). r.version) e);
+        numbered = same_number new (ap (λ (r : MetaRow). r.id) (sym e)) (ap (λ (r : MetaRow). r.version) e);
         others = refl;
       }
 
   -- the terms are others, and the clock isn't
-  pub same_clock_of : (value : Terms) (labels : List ℕ) (new : Meta) → IsMoment blank.clock → new ≡ with_terms value labels (meta_or_new o)
+  pub same_clock_of : (value : Terms) (labels : List ℕ) (new : MetaRow) → IsMoment blank.clock → new ≡ with_terms value labels (meta_or_new o)
       → clock_of (metas_to (λ rows. insert_by metas.key rows new) xs) ≡ clock_of xs
   same_clock_of value labels new first e =
-      ap (λ rows. clock_in (slice_get rows 0)) (one_meta new (ap (λ (r : Meta). r.id) (sym e)))
-      ∙ ap (λ (r : Meta). unwrap_or (moment_in r.clock) blank.clock) e
+      ap (λ rows. clock_in (slice_get rows 0)) (one_meta new (ap (λ (r : MetaRow). r.id) (sym e)))
+      ∙ ap (λ (r : MetaRow). unwrap_or (moment_in r.clock) blank.clock) e
       ∙ same_clock o first ∙ ap clock_in (sym meta_was)

@@ -4,7 +4,7 @@ use Rattle.std.specs.Prelude.{option_and_then, slice_get}
 use Rattle.basis.specs.Sets.{Names}
 use Rattle.policy.specs.declared.prices.Prices.{Prices}
 use Rattle.policy.specs.declared.schedule.Schedule.{Schedule}
-use Rattle.sqltables.specs.Account.{Account}
+use Rattle.sqltables.specs.declared.account.AccountRow.{AccountRow}
 use Rattle.sqlterms.specs.Meta.{meta_of}
 use Rattle.sqlterms.specs.Terms.{days_at, ids_in, prices_in, reserved_in, schedule_in, terms_in, terms_made}
 use Rattle.sqlite_keyed.specs.Keyed.{insert_by}
@@ -14,8 +14,9 @@ use Rattle.model.specs.Registry.{blank}
 use Rattle.policy.specs.declared.terms.Terms.{Terms}
 use Rattle.sqltables.specs.Content.{Content}
 use Rattle.sqltables.specs.inner.Content.{metas_to}
-use Rattle.sqltables.specs.Day.{Day}
-use Rattle.sqltables.specs.Meta.{Meta, metas}
+use Rattle.sqltables.specs.declared.day.DayRow.{DayRow}
+use Rattle.sqltables.specs.Meta.{metas}
+use Rattle.sqltables.specs.declared.meta.MetaRow.{MetaRow}
 use Rattle.sqlterms.specs.inner.Changes.{ArePutBeside, IsTermsSet}
 use Rattle.sqlterms.specs.Clock.{clock_in}
 use Rattle.sqlterms.specs.inner.Meta.{meta_or_new, with_terms}
@@ -33,7 +34,7 @@ made-days zone reserved (Some days) None ids value e = cc
 made-days zone reserved None prices ids value e = cc
 
 -- the days of terms that were put down are those in the row
-terms-days : (o : Option Meta) (tables : List Day) (accounts : List Account) (value : Terms) → terms_in o tables accounts ≡ Some value → option_and_then (days_at tables) o ≡ Some value.days
+terms-days : (o : Option MetaRow) (tables : List DayRow) (accounts : List AccountRow) (value : Terms) → terms_in o tables accounts ≡ Some value → option_and_then (days_at tables) o ≡ Some value.days
 terms-days None tables accounts value e = cc
 terms-days (Some row) tables accounts value e = go (length row.zone == 0) refl
   where
@@ -45,7 +46,7 @@ terms-days (Some row) tables accounts value e = go (length row.zone == 0) refl
         ∙ made-days row.zone (reserved_in row.reserved) (schedule_in row tables) (prices_in row) (ids_in accounts) value (sym (ap (λ b. cond b None (terms_made row.zone (reserved_in row.reserved) (schedule_in row tables) (prices_in row) (ids_in accounts))) is) ∙ e)
 
 -- the row of meta is put, and then the tables of lengths and the accounts' idents
-pub terms_are_set : (xs ys : Content) (o : Option Meta) (value : Terms) (labels : List ℕ) (new : Meta)
+pub terms_are_set : (xs ys : Content) (o : Option MetaRow) (value : Terms) (labels : List ℕ) (new : MetaRow)
     → IsMoment blank.clock → xs.metas ≡ rows_of o → new ≡ with_terms value labels (meta_or_new o)
     → ArePutBeside (metas_to (λ rows. insert_by metas.key rows new) xs) ys → terms_of ys ≡ Some value → IsTermsSet value xs ys
 terms_are_set xs ys o value labels new first is written beside read =
@@ -57,7 +58,7 @@ terms_are_set xs ys o value labels new first is written beside read =
       accounts = same_accounts xs ys beside.rows (ap (λ (s : Content). s.lines) rest) (ap (λ (s : Content). s.messages) rest);
       sums = same_sums xs ys beside.rows (ap (λ (s : Content). s.lines) rest) (ap (λ (s : Content). s.messages) rest);
       rows = beside.rows;
-      numbered = ap (λ (s : Content). may_be_numbered s.metas) rest ∙ same_number xs o is new (ap (λ (r : Meta). r.id) (sym written)) (ap (λ (r : Meta). r.version) written);
+      numbered = ap (λ (s : Content). may_be_numbered s.metas) rest ∙ same_number xs o is new (ap (λ (r : MetaRow). r.id) (sym written)) (ap (λ (r : MetaRow). r.version) written);
       others = ap (λ (s : Content). record s { metas = xs.metas }) rest;
     }
 

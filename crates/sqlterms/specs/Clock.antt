@@ -4,11 +4,11 @@ use Rattle.std.specs.Option.{unwrap_or}
 use Rattle.sqlcolumns.specs.Numbers.{moment_in}
 use Rattle.model.specs.Registry.{blank}
 use Rattle.sqltables.specs.Content.{Content}
-use Rattle.sqltables.specs.Meta.{Meta}
+use Rattle.sqltables.specs.declared.meta.MetaRow.{MetaRow}
 use Rattle.sqlterms.specs.Meta.{meta_of}
 
 -- that of the row, and that of a registry that was never opened where there is none
-abbrev pub clock_in : Option Meta → ℕ
+abbrev pub clock_in : Option MetaRow → ℕ
 clock_in None = blank.clock
 clock_in (Some row) = unwrap_or (moment_in row.clock) blank.clock
 

@@ -12,10 +12,10 @@ use Rattle.policy.specs.declared.prices.Prices.{Prices}
 use Rattle.policy.specs.declared.schedule.DatedDays.{DatedDays}
 use Rattle.policy.specs.declared.schedule.Schedule.{Schedule}
 use Rattle.policy.specs.declared.terms.Terms.{Terms}
-use Rattle.sqltables.specs.Account.{Account}
+use Rattle.sqltables.specs.declared.account.AccountRow.{AccountRow}
 use Rattle.sqltables.specs.Content.{Content}
-use Rattle.sqltables.specs.Day.{Day}
-use Rattle.sqltables.specs.Meta.{Meta}
+use Rattle.sqltables.specs.declared.day.DayRow.{DayRow}
+use Rattle.sqltables.specs.declared.meta.MetaRow.{MetaRow}
 use Rattle.sqlterms.specs.Meta.{meta_of}
 
 -- ---- the columns of meta
@@ -42,7 +42,7 @@ days_made add auto_renew renew transfer redemption restore pending_delete answer
   i ← lock
   Some (record { add = a; auto_renew = b; renew = c; transfer = d; redemption = e; restore = f; pending_delete = g; answer = h; lock = i })
 
-abbrev pub days_in : Meta → Option Days
+abbrev pub days_in : MetaRow → Option Days
 days_in row =
     days_made (count_in row.days_add) (count_in row.days_auto_renew) (count_in row.days_renew) (count_in row.days_transfer) (count_in row.days_redemption)
     (count_in row.days_restore) (count_in row.days_pending_delete) (count_in row.days_answer) (count_in row.days_lock)
@@ -54,7 +54,7 @@ prices_made create renew transfer = do
   t ← transfer
   Some (record { create = c; renew = r; transfer = t })
 
-abbrev pub prices_in : Meta → Option Prices
+abbrev pub prices_in : MetaRow → Option Prices
 prices_in row =
     prices_made (count_in row.price_create) (count_in row.price_renew) (count_in row.price_transfer)
 
@@ -80,21 +80,21 @@ dated_made from days = do
   d ← days
   Some (record { from = m; days = d })
 
-abbrev pub dated_days_in : Day → Option Days
+abbrev pub dated_days_in : DayRow → Option Days
 dated_days_in row =
     days_made (count_in row.days_add) (count_in row.days_auto_renew) (count_in row.days_renew) (count_in row.days_transfer) (count_in row.days_redemption)
     (count_in row.days_restore) (count_in row.days_pending_delete) (count_in row.days_answer) (count_in row.days_lock)
 
-abbrev pub dated_in : Day → Option DatedDays
+abbrev pub dated_in : DayRow → Option DatedDays
 dated_in row = dated_made (moment_in row.starts) (dated_days_in row)
 
 -- these tables, and those of the rows after them, if each reads
-abbrev pub dated_behind : List DatedDays → List Day → Option (List DatedDays)
+abbrev pub dated_behind : List DatedDays → List DayRow → Option (List DatedDays)
 dated_behind tables [] = Some tables
 dated_behind tables (row ∷ rows) =
     dated_in row >>= (λ table. dated_behind (tables ++ table ∷ []) rows)
 
-abbrev pub all_dated : List Day → Option (List DatedDays)
+abbrev pub all_dated : List DayRow → Option (List DatedDays)
 all_dated rows = dated_behind [] rows
 
 -- the lengths of periods over time, of these parts, if both are there
@@ -105,7 +105,7 @@ schedule_made first later = do
   Some (record { first = f; later = l })
 
 -- the days of the row of meta are the first, and those of the rows of days are the later ones
-abbrev pub schedule_in : Meta → List Day → Option Schedule
+abbrev pub schedule_in : MetaRow → List DayRow → Option Schedule
 schedule_in row tables = schedule_made (days_in row) (all_dated tables)
 
 -- ---- the idents of accounts
@@ -116,14 +116,14 @@ is_unnamed [] = false
 is_unnamed (b ∷ bs) = b == 35
 
 -- the ids after these, whose accounts have the numbers that follow
-abbrev pub ids_behind : List (List ℕ) → List Account → Option (List (List ℕ))
+abbrev pub ids_behind : List (List ℕ) → List AccountRow → Option (List (List ℕ))
 ids_behind ids [] = Some ids
 ids_behind ids (row ∷ rows) =
     if is_unnamed row.ident then ids_behind ids rows
     else (if int_eq row.id (pos (length ids + 1)) then ids_behind (ids ++ row.ident ∷ []) rows else None)
 
 -- The ids of the accounts that have one, which have the numbers from 1 on.
-abbrev pub ids_in : List Account → Option (List (List ℕ))
+abbrev pub ids_in : List AccountRow → Option (List (List ℕ))
 ids_in rows = ids_behind [] rows
 
 -- ---- the terms
@@ -138,20 +138,20 @@ terms_made zone reserved days prices ids = do
   Some (record { zone = zone; reserved = reserved; days = d; prices = p; ids = i })
 
 -- a row under which the registry was opened has a zone
-abbrev pub has_zone : Meta → Bool
+abbrev pub has_zone : MetaRow → Bool
 has_zone row = not (length row.zone == 0)
 
 -- terms were put down
 abbrev pub has_terms : Content → Bool
 has_terms xs = option_map_or has_zone (meta_of xs) false
 
-abbrev pub terms_at : Meta → List Day → List Account → Option Terms
+abbrev pub terms_at : MetaRow → List DayRow → List AccountRow → Option Terms
 terms_at row tables accounts =
     if length row.zone == 0 then None
     else terms_made row.zone (reserved_in row.reserved) (schedule_in row tables) (prices_in row) (ids_in accounts)
 
 -- none where there is no row, or it has no zone
-abbrev pub terms_in : Option Meta → List Day → List Account → Option Terms
+abbrev pub terms_in : Option MetaRow → List DayRow → List AccountRow → Option Terms
 terms_in None tables accounts = None
 terms_in (Some row) tables accounts = terms_at row tables accounts
 
@@ -159,7 +159,7 @@ abbrev pub terms_of : Content → Option Terms
 terms_of xs = terms_in (meta_of xs) xs.days xs.accounts
 
 -- the lengths of periods, where terms were put down
-abbrev pub days_at : List Day → Meta → Option Schedule
+abbrev pub days_at : List DayRow → MetaRow → Option Schedule
 days_at tables row = if length row.zone == 0 then None else schedule_in row tables
 
 abbrev pub days_of : Content → Option Schedule

@@ -31,7 +31,7 @@ pub(crate) fn ids_of(alloc: Global, rows: &[AccountRow]) -> Result<Seq<Text>, Bo
         if row.id != ids.as_slice().len() as i64 + 1 {
             return Err(BookFault::Store);
         }
-        ids.push(Text::from_str(alloc, row.ident.as_str())?)?;
+        ids.push(row.ident.clone()?)?;
     }
     Ok(ids)
 }

@@ -1,6 +1,5 @@
 //! Labels as one text, one in each line.
-ghost use Rattle.std.specs.Prelude.{◌≡◌, IfOk, string_bytes};
-ghost use Rattle.std.specs.Option.{option_map};
+ghost use Rattle.std.specs.Prelude.{◌≡◌, IfOk};
 ghost use Rattle.sqlterms.specs.Terms as spec;
 
 use basis::sets::NameSet;
@@ -9,11 +8,11 @@ use sqlcolumns::{street_column, street_of_column};
 use std::alloc::{AllocError, Global};
 
 /// The labels with a line feed between them; none where one has a line feed.
-pub(crate) fn labels_column(alloc: Global, labels: &[Text]) -> Result<Option<String>, AllocError>
-    ensures { IfOk result (λ text. option_map string_bytes text ≡ spec.labels_column labels.now) }
+pub(crate) fn labels_column(alloc: Global, labels: &[Text]) -> Result<Option<Text>, AllocError>
+    ensures { IfOk result (λ text. text ≡ spec.labels_column labels.now) }
 {
     if labels.is_empty() {
-        return Ok(Some(String::new(alloc)));
+        return Ok(Some(Text::from_string(String::new(alloc))));
     }
     street_column(alloc, labels)
 }

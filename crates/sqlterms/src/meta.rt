@@ -1,11 +1,12 @@
 //! The one row of `meta`.
-ghost use Rattle.std.specs.Prelude.{◌≡◌, true, IfOk, string_bytes};
+ghost use Rattle.std.specs.Prelude.{◌≡◌, true, IfOk};
 ghost use Rattle.calendar.specs.Moment.{IsMoment};
 ghost use Rattle.sqlrows.specs.Read.{rows_of};
 ghost use Rattle.sqlterms.specs.Meta as spec;
 ghost use Rattle.sqlterms.specs.inner.Meta as inner_spec;
 ghost use Rattle.states.specs.States.{FindsSome};
 
+use basis::text::Text;
 use calendar::Moment;
 use policy::Terms;
 use sqlite::Alter;
@@ -30,8 +31,8 @@ fn new_meta(alloc: Global) -> MetaRow
         id: 1,
         version: 2,
         clock: 946_684_800,
-        zone: String::new(alloc),
-        reserved: String::new(alloc),
+        zone: Text::from_string(String::new(alloc)),
+        reserved: Text::from_string(String::new(alloc)),
         days_add: 0,
         days_auto_renew: 0,
         days_renew: 0,
@@ -78,23 +79,16 @@ pub(crate) fn with_clock(row: MetaRow, moment: Moment) -> MetaRow
 }
 
 /// The row with what it says of terms, and the reserved labels as one text.
-pub(crate) fn with_terms(
-    alloc: Global,
-    row: MetaRow,
-    terms: &Terms,
-    labels: String,
-) -> Result<MetaRow, AllocError>
-    ensures { IfOk result (λ changed. changed ≡ inner_spec.with_terms terms.now (string_bytes labels)
-        row) }
+pub(crate) fn with_terms(row: MetaRow, terms: &Terms, labels: Text) -> Result<MetaRow, AllocError>
+    ensures { IfOk result (λ changed. changed ≡ inner_spec.with_terms terms.now labels row) }
 {
     let days = &terms.days.first;
     let prices = &terms.prices;
-    let zone = String::from_str(alloc, terms.zone.as_str())?;
     Ok(MetaRow {
         id: row.id,
         version: row.version,
         clock: row.clock,
-        zone,
+        zone: terms.zone.clone()?,
         reserved: labels,
         days_add: i64::from(days.add),
         days_auto_renew: i64::from(days.auto_renew),

@@ -8,12 +8,11 @@ use sqlite::Alter;
 use sqlrows::{Number, only};
 use sqltables::{AccountRow, RowStore};
 use states::BookFault;
-use std::alloc::{AllocError, Global};
+use std::alloc::AllocError;
 
 /// Gives the accounts with the numbers from 1 on these ids. An account that isn't there is refused.
 pub(crate) fn name_accounts<S: Alter>(
     store: &mut RowStore<S>,
-    alloc: Global,
     ids: &[Text],
 ) -> Result<(), BookFault>
     requires { store.old.is_open ≡ true }
@@ -25,7 +24,7 @@ pub(crate) fn name_accounts<S: Alter>(
             return Err(BookFault::Store);
         }
         place += 1;
-        name_account(store, alloc, Number::new(i64::from(place)), id)?;
+        name_account(store, Number::new(i64::from(place)), id)?;
     }
     Ok(())
 }
@@ -33,7 +32,6 @@ pub(crate) fn name_accounts<S: Alter>(
 /// Gives an account an id.
 fn name_account<S: Alter>(
     store: &mut RowStore<S>,
-    alloc: Global,
     number: Number,
     id: &Text,
 ) -> Result<(), BookFault>
@@ -45,15 +43,15 @@ fn name_account<S: Alter>(
     let Some(row) = only(rows)? else {
         return Err(BookFault::Store);
     };
-    let named = with_ident(alloc, row, id)?;
+    let named = with_ident(row, id)?;
     store.put_account(&named)?;
     Ok(())
 }
 
-fn with_ident(alloc: Global, row: AccountRow, id: &Text) -> Result<AccountRow, AllocError>
+fn with_ident(row: AccountRow, id: &Text) -> Result<AccountRow, AllocError>
     ensures { IfOk result (λ named. named ≡ record row { ident = id.now }) }
 {
     let mut row = row;
-    row.ident = String::from_str(alloc, id.as_str())?;
+    row.ident = id.clone()?;
     Ok(row)
 }

@@ -40,7 +40,7 @@ pub fn days<S: Alter>(store: &mut RowStore<S>, alloc: Global) -> Result<Option<S
     let Some(row) = maybe_meta(store)? else {
         return Ok(None);
     };
-    if row.zone.is_empty() {
+    if row.zone.as_str().is_empty() {
         return Ok(None);
     }
     let days = or_fault(schedule_at(store, alloc, &row)?)?;
@@ -89,7 +89,7 @@ pub fn terms<S: Alter>(store: &mut RowStore<S>, alloc: Global) -> Result<Option<
     let Some(row) = maybe_meta(store)? else {
         return Ok(None);
     };
-    if row.zone.is_empty() {
+    if row.zone.as_str().is_empty() {
         return Ok(None);
     }
     let terms = terms_at(store, alloc, &row)?;
@@ -132,7 +132,7 @@ fn terms_of_row(
     ensures { IfOk result (λ terms. spec.terms_made row.now.zone (spec.reserved_in row.now.reserved)
         days (spec.prices_in row.now) (Some ids) ≡ Some terms) }
 {
-    let zone = Text::from_str(alloc, row.zone.as_str())?;
+    let zone = row.zone.clone()?;
     let reserved = reserved_of_column(alloc, row.reserved.as_str())?;
     or_fault(terms_made(zone, reserved, days, prices_of(row), Some(ids)))
 }

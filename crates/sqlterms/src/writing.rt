@@ -68,10 +68,10 @@ fn write_terms<S: Alter>(
 {
     let labels = or_fault(labels_column(alloc, value.reserved.names())?)?;
     let meta = maybe_meta(store)?;
-    let row = with_terms(alloc, meta_or_new(alloc, meta), value, labels)?;
+    let row = with_terms(meta_or_new(alloc, meta), value, labels)?;
     store.put_meta(&row)?;
     drop(row);
-    put_beside(store, alloc, value)?;
+    put_beside(store, value)?;
     let read = terms(store, alloc)?;
     let same = are(&read, value);
     drop(read);
@@ -82,16 +82,12 @@ fn write_terms<S: Alter>(
 }
 
 /// Puts down what of terms isn't in the row of `meta`.
-fn put_beside<S: Alter>(
-    store: &mut RowStore<S>,
-    alloc: Global,
-    value: &Terms,
-) -> Result<(), BookFault>
+fn put_beside<S: Alter>(store: &mut RowStore<S>, value: &Terms) -> Result<(), BookFault>
     requires { store.old.is_open ≡ true }
     ensures { Changes result ArePutBeside store.old store.new }
 {
     put_tables(store, value.days.later.as_slice())?;
-    name_accounts(store, alloc, value.ids.as_slice())?;
+    name_accounts(store, value.ids.as_slice())?;
     Ok(())
 }
 

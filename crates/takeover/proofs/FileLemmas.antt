@@ -18,7 +18,7 @@ use Rattle.oldrows.specs.Stored as old
 use Rattle.oldrows.specs.inner.Stored.{Covers, IsLeftAs}
 use Rattle.sqltables.specs.Adoption.{IsAdopted}
 use Rattle.sqltables.specs.Content.{Content}
-use Rattle.sqltables.specs.Meta.{Meta}
+use Rattle.sqltables.specs.declared.meta.MetaRow.{MetaRow}
 use Rattle.sqltables.specs.Readiness.{is_numbered, may_be_numbered}
 use Rattle.sqltables.specs.Stored as stored
 use Rattle.sqltables.specs.inner.Reopening.{IsFoundAgain, IsReopened}
@@ -52,8 +52,8 @@ old-files-stay g files found from read it reads honest over image may trees open
     (λ h. (h.0, it.leaves (it.answers (reads.honest honest)) h.0 (subst (λ (l : List (Remains Content)). Has l h.0) reads.leaves h.1), h.2))
 
 -- a registry that was opened has a row of meta, so the row has the number
-numbered-if : (xs : Content) (terms : Terms) (metas : List Meta) → xs.metas ≡ metas → may_be_numbered metas ≡ true → terms_of xs ≡ Some terms → is_numbered metas ≡ true
-numbered-if xs terms [] is e some = absurd (let never : ◌≡◌ {A = Option Terms} None (Some terms) = sym (ap (λ (rows : List Meta). terms_of (record xs { metas = rows })) is) ∙ some in cc)
+numbered-if : (xs : Content) (terms : Terms) (metas : List MetaRow) → xs.metas ≡ metas → may_be_numbered metas ≡ true → terms_of xs ≡ Some terms → is_numbered metas ≡ true
+numbered-if xs terms [] is e some = absurd (let never : ◌≡◌ {A = Option Terms} None (Some terms) = sym (ap (λ (rows : List MetaRow). terms_of (record xs { metas = rows })) is) ∙ some in cc)
 numbered-if xs terms (meta ∷ more) is e some = e
 
 module _ (p : PolicyRules) (from : OldState) (to again : StateOf Content) (right : are_right (numbered_anew from.content) ≡ true) (terms : Terms) (some : (stored_of from.content).terms ≡ Some terms) where

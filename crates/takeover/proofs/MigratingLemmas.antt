@@ -12,18 +12,20 @@ use Rattle.sqlcolumns.specs.Lines.{line_in}
 use Rattle.sqlcolumns.specs.Numbers.{registrar_in}
 use Rattle.policy.specs.Rules.{PolicyRules}
 use Rattle.policy.specs.declared.schedule.Schedule.{Schedule}
-use Rattle.sqltables.specs.Account.{Account, accounts}
+use Rattle.sqltables.specs.Account.{accounts}
+use Rattle.sqltables.specs.declared.account.AccountRow.{AccountRow}
 use Rattle.sqltables.specs.Address.{addresses}
 use Rattle.sqltables.specs.Contact.{contacts}
 use Rattle.sqltables.specs.Content.{Content, no_content}
-use Rattle.sqltables.specs.Day.{Day}
-use Rattle.sqltables.specs.inner.Domain.{domains}
+use Rattle.sqltables.specs.declared.day.DayRow.{DayRow}
+use Rattle.sqltables.specs.Domain.{domains}
 use Rattle.sqltables.specs.Host.{hosts}
 use Rattle.sqltables.specs.Line.{line_with_account, lines}
-use Rattle.sqltables.specs.Line as table
+use Rattle.sqltables.specs.declared.line.LineRow.{LineRow}
 use Rattle.sqltables.specs.Link.{links}
-use Rattle.sqltables.specs.inner.Message.{messages}
-use Rattle.sqltables.specs.Meta.{Meta, metas}
+use Rattle.sqltables.specs.Message.{messages}
+use Rattle.sqltables.specs.Meta.{metas}
+use Rattle.sqltables.specs.declared.meta.MetaRow.{MetaRow}
 use Rattle.sqltables.specs.Readiness.{may_be_numbered}
 use Rattle.sqltables.specs.Transfer.{transfers}
 use Rattle.states.specs.declared.fault.BookFault.{BookFault}
@@ -54,11 +56,11 @@ use Rattle.sqlbook.specs.AsBook.{HasMade}
 
 -- ---- the number of the schema says nothing of the registry
 
-clock-taken : (rows : List Meta) → clock_in (slice_get (map renumbered rows) 0) ≡ clock_in (slice_get rows 0)
+clock-taken : (rows : List MetaRow) → clock_in (slice_get (map renumbered rows) 0) ≡ clock_in (slice_get rows 0)
 clock-taken [] = refl
 clock-taken (row ∷ rows) = refl
 
-terms-taken : (rows : List Meta) (tables : List Day) (holders : List Account) → terms_in (slice_get (map renumbered rows) 0) tables holders ≡ terms_in (slice_get rows 0) tables holders
+terms-taken : (rows : List MetaRow) (tables : List DayRow) (holders : List AccountRow) → terms_in (slice_get (map renumbered rows) 0) tables holders ≡ terms_in (slice_get rows 0) tables holders
 terms-taken [] tables holders = refl
 terms-taken (row ∷ rows) tables holders = refl
 
@@ -68,7 +70,7 @@ module _ (days : Schedule) (xs : Content) where
   abbrev ys : Content
   ys = record xs { lines = ended days xs.lines }
 
-  read-same : (id : ℤ) (rows : List table.Line) → filter_map line_in (filter (line_with_account id) (ended days rows)) ≡ filter_map line_in (filter (line_with_account id) rows)
+  read-same : (id : ℤ) (rows : List LineRow) → filter_map line_in (filter (line_with_account id) (ended days rows)) ≡ filter_map line_in (filter (line_with_account id) rows)
   read-same id [] = refl
   read-same id (row ∷ rows) = go (line_with_account id row) (read-same id rows)
     where
@@ -81,10 +83,10 @@ module _ (days : Schedule) (xs : Content) where
   lines-same : (id : ℤ) → lines_of ys id ≡ lines_of xs id
   lines-same id = ap (bag_of in_order) (read-same id xs.lines)
 
-  account-same : (row : Account) → account_in ys row ≡ account_in xs row
+  account-same : (row : AccountRow) → account_in ys row ≡ account_in xs row
   account-same row = ap (λ l. record (account_in xs row) { lines = l }) (lines-same row.id)
 
-  entries-same : (rows : List Account) → entries_of ys rows ≡ entries_of xs rows
+  entries-same : (rows : List AccountRow) → entries_of ys rows ≡ entries_of xs rows
   entries-same [] = refl
   entries-same (row ∷ rows) =
       (λ i. option_map_or (λ place. (place, account-same row i) ∷ entries-same rows i) (registrar_in row.id) (entries-same rows i))
@@ -92,14 +94,14 @@ module _ (days : Schedule) (xs : Content) where
   pub accounts-same : accounts_of ys ≡ accounts_of xs
   accounts-same = ap from_entries (entries-same xs.accounts)
 
-  right-same : (row : Account) → is_right ys row ≡ is_right xs row
+  right-same : (row : AccountRow) → is_right ys row ≡ is_right xs row
   right-same row = ap (λ l. int_eq (balance_in row.balance) (balance l) && int_eq row.waiting (pos (length (queue_of xs row.id)))) (lines-same row.id)
 
-  right-if-there : (o : Option Account) → option_map_or (is_right ys) o true ≡ option_map_or (is_right xs) o true
+  right-if-there : (o : Option AccountRow) → option_map_or (is_right ys) o true ≡ option_map_or (is_right xs) o true
   right-if-there None = refl
   right-if-there (Some row) = right-same row
 
-  all-same : (rows : List Account) → list_all (λ (row : Account). has_right_sums ys row.id) rows ≡ list_all (λ (row : Account). has_right_sums xs row.id) rows
+  all-same : (rows : List AccountRow) → list_all (λ (row : AccountRow). has_right_sums ys row.id) rows ≡ list_all (λ (row : AccountRow). has_right_sums xs row.id) rows
   all-same [] = refl
   all-same (row ∷ rows) = λ i. right-if-there (row_of xs row.id) i && all-same rows i
 
@@ -117,7 +119,7 @@ right-taken days xs = ap (λ sums. may_be_numbered (map renumbered xs.metas) && 
 
 -- ---- what is put is what was there
 
-renumbered-keyed : (rows : List Meta) → IsKeyedBy metas.key rows → IsKeyedBy metas.key (map renumbered rows)
+renumbered-keyed : (rows : List MetaRow) → IsKeyedBy metas.key rows → IsKeyedBy metas.key (map renumbered rows)
 renumbered-keyed rows up = ascending-map _ renumbered rows up
 
 module _ (xs : Content) (is : IsOldContent xs) where
@@ -148,7 +150,7 @@ module _ (xs : Content) (is : IsOldContent xs) where
   pub suits-heads : (p : PolicyRules) → suits p (stored_of (put_of_all heads xs no_content)) ≡ suits p (stored_of xs)
   suits-heads p =
       ap (λ (c : Content). suits p (stored_of c)) put-heads
-      ∙ (λ i. suits_in p (clock-taken xs.metas i) ((terms-taken xs.metas [] xs.accounts ∙ ap (λ (tables : List Day). terms_in (slice_get xs.metas 0) tables xs.accounts) (sym is.days)) i))
+      ∙ (λ i. suits_in p (clock-taken xs.metas i) ((terms-taken xs.metas [] xs.accounts ∙ ap (λ (tables : List DayRow). terms_in (slice_get xs.metas 0) tables xs.accounts) (sym is.days)) i))
 
   pub put-all : (days : Schedule) → put_lines days xs (put_of_all others xs (put_of_all heads xs no_content)) ≡ taken days xs
   put-all days = ap (λ (c : Content). put_lines days xs (put_of_all others xs c)) put-heads ∙ put-rest days

@@ -9,7 +9,7 @@ use Rattle.policy.specs.Rules.{PolicyRules}
 use Rattle.policy.specs.Terms.{continues, terms_of}
 use Rattle.books.specs.Book.{Stored}
 use Rattle.sqltables.specs.Content.{Content}
-use Rattle.sqltables.specs.Line.{Line}
+use Rattle.sqltables.specs.declared.line.LineRow.{LineRow}
 use Rattle.takeover.specs.Graces.{with_grace_end}
 use Rattle.states.specs.declared.fault.BookFault.{BookFault}
 use Rattle.states.specs.declared.fault.BookFault.TheVariants as faults
@@ -28,7 +28,7 @@ abbrev pub numbered_anew : Content → Content
 numbered_anew xs = record xs { metas = map renumbered xs.metas }
 
 -- each line with the end of its grace
-abbrev pub ended : Schedule → List Line → List Line
+abbrev pub ended : Schedule → List LineRow → List LineRow
 ended days rows = map (with_grace_end days) rows
 
 abbrev pub suits_in : PolicyRules → ℕ → Option Terms → Bool

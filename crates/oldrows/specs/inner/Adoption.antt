@@ -6,14 +6,14 @@ use Rattle.sqlite_trees.specs.Tree.{Trees}
 use Rattle.states.specs.declared.readiness.Ready.{Ready}
 use Rattle.states.specs.declared.readiness.Ready.TheVariants.{Empty, Used, Other}
 use Rattle.sqltables.specs.Content.{Content, no_content}
-use Rattle.sqltables.specs.Meta.{Meta}
+use Rattle.sqltables.specs.declared.meta.MetaRow.{MetaRow}
 use Rattle.sqltables.specs.inner.FirstTables.{first_number, first_registry}
 use Rattle.oldrows.specs.Stored.{Answers, OldState}
 use Rattle.oldrows.specs.inner.Stored.{IsLeftAs, IsSeenAs, IsShapedAs, old_contents}
 use Rattle.states.specs.States.{Has, Remains}
 
 -- the table `meta` has one row, and in it the number of that schema
-abbrev pub is_first : List Meta → Bool
+abbrev pub is_first : List MetaRow → Bool
 is_first [] = false
 is_first (meta ∷ []) = int_eq meta.version first_number
 is_first (meta ∷ other ∷ more) = false

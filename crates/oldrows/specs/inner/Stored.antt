@@ -20,11 +20,11 @@ use Rattle.sqltables.specs.inner.Consistent.{AreKeyed}
 use Rattle.sqltables.specs.Meta as meta_table
 use Rattle.sqltables.specs.Account as account_table
 use Rattle.sqltables.specs.Contact as contact_table
-use Rattle.sqltables.specs.inner.Domain as inner_domain_table
+use Rattle.sqltables.specs.Domain as domain_table
 use Rattle.sqltables.specs.Host as host_table
 use Rattle.sqltables.specs.Address as address_table
 use Rattle.sqltables.specs.Link as link_table
-use Rattle.sqltables.specs.inner.Message as inner_message_table
+use Rattle.sqltables.specs.Message as message_table
 use Rattle.sqltables.specs.Transfer as transfer_table
 use Rattle.oldrows.specs.inner.Lines.{first_line_in, first_lines, without_end}
 use Rattle.oldrows.specs.Stored.{OldState, IsAsked, IsRead}
@@ -39,12 +39,12 @@ pub record IsOld (content : Content) (db : Database) : Type 0 where
   pub metas : Holds meta_table.metas db.trees content.metas
   pub accounts : Holds account_table.accounts db.trees content.accounts
   pub contacts : Holds contact_table.contacts db.trees content.contacts
-  pub domains : Holds inner_domain_table.domains db.trees content.domains
+  pub domains : Holds domain_table.domains db.trees content.domains
   pub hosts : Holds host_table.hosts db.trees content.hosts
   pub addresses : Holds address_table.addresses db.trees content.addresses
   pub links : Holds link_table.links db.trees content.links
   pub lines : Holds first_lines db.trees content.lines
-  pub messages : Holds inner_message_table.messages db.trees content.messages
+  pub messages : Holds message_table.messages db.trees content.messages
   pub transfers : Holds transfer_table.transfers db.trees content.transfers
   pub endless : map without_end content.lines ≡ content.lines
   pub days : content.days ≡ []

@@ -15,10 +15,12 @@ use Rattle.sqlcolumns.specs.Lines.{line_in}
 use Rattle.sqlrows.specs.inner.Layouts.{appended}
 use Rattle.sqlcolumns.specs.Numbers.{counter_column, counter_in, registrar_column}
 use Rattle.sqltables.specs.Account as account_table
+use Rattle.sqltables.specs.declared.account.AccountRow.{AccountRow}
 use Rattle.sqltables.specs.inner.Balance.{balance_bytes}
 use Rattle.sqltables.specs.Content.{Content}
 use Rattle.sqltables.specs.inner.Content.{accounts_to, lines_to}
 use Rattle.sqltables.specs.Line as line_table
+use Rattle.sqltables.specs.declared.line.LineRow.{LineRow}
 use Rattle.accounts.specs.declared.counters.Counters.{Counters}
 use Rattle.sqlaccounts.specs.Accounts.{accounts_of, balance_in, ident_and_held_of, place_ident, row_of, sums_are_right}
 
@@ -47,7 +49,7 @@ pub record IsChange (r : ℕ) (f : Account → Account) (old new : Content) : Ty
   pub others : AreOthersKept old new
 
 -- the row of an account that was just opened
-abbrev pub opened_row : ℕ → account_table.Account
+abbrev pub opened_row : ℕ → AccountRow
 opened_row r = record { id = registrar_column r; ident = place_ident r; commands = pos 0; messages = pos 0; serial = pos 0; waiting = pos 0; balance = balance_bytes (pos 0); held = pos 0 }
 
 -- A registrar has an account. A row that was there stays as it is, and where its own wasn't there is
@@ -64,33 +66,33 @@ pub record IsOpened (r : ℕ) (old new : Content) : Type 0 where
 -- ---- one row of account put for another
 
 -- the balance alone is another, by so many cents
-pub record IsPaid (cents : ℤ) (row changed : account_table.Account) : Type 0 where
+pub record IsPaid (cents : ℤ) (row changed : AccountRow) : Type 0 where
   pub rest : changed ≡ record row { balance = changed.balance }
   pub sum : balance_in changed.balance ≡ balance_in row.balance +ℤ cents
 
-abbrev pub counted_in : account_table.Account → Counters
+abbrev pub counted_in : AccountRow → Counters
 counted_in row = record { commands = counter_in row.commands; messages = counter_in row.messages; serial = counter_in row.serial }
 
 -- what a row counts: 0 where there is none
-abbrev pub counters_in : Option account_table.Account → Counters
+abbrev pub counters_in : Option AccountRow → Counters
 counters_in row = option_map_or counted_in row (record { commands = 0; messages = 0; serial = 0 })
 
 -- the counters alone are others
-pub record IsCounted (x : Counters) (row changed : account_table.Account) : Type 0 where
+pub record IsCounted (x : Counters) (row changed : AccountRow) : Type 0 where
   pub rest : changed ≡ record row { commands = counter_column x.commands; messages = counter_column x.messages; serial = counter_column x.serial }
   pub back : counted_in changed ≡ x
 
 -- ---- one row of line more, or less
 
 -- a row of the account's that reads as this line
-pub record IsWritten (r : ℕ) (line : Line) (ends : Option ℤ) (row : line_table.Line) : Type 0 where
+pub record IsWritten (r : ℕ) (line : Line) (ends : Option ℤ) (row : LineRow) : Type 0 where
   pub account : row.account ≡ registrar_column r
   pub reads : line_in row ≡ Some line
   pub grace_end : row.grace.ends ≡ ends
 
 -- a row of this line comes last, with the column for the end of its grace
-pub record IsLineAppended (line : Line) (ends : Option ℤ) (old new : List line_table.Line) : Type 0 where
-  pub row : line_table.Line
+pub record IsLineAppended (line : Line) (ends : Option ℤ) (old new : List LineRow) : Type 0 where
+  pub row : LineRow
   pub reads : line_in row ≡ Some line
   pub grace_end : row.grace.ends ≡ ends
   pub last : new ≡ appended line_table.lines (λ id. record row { id = id }) old
@@ -101,5 +103,5 @@ AddsLine r line ends old new =
     IsChange r (with_lines (add in_order line)) old new × IsLineAppended line ends old.lines new.lines
 
 -- without the row of line that has this number, and with this row of account in its place
-abbrev pub without_line : ℤ → account_table.Account → Content → Content
+abbrev pub without_line : ℤ → AccountRow → Content → Content
 without_line id account xs = accounts_to (λ rows. insert_by account_table.accounts.key rows account) (lines_to (delete_where (line_table.line_with_id id)) xs)

@@ -8,15 +8,15 @@ use Rattle.accounts.specs.Lines.{is_line}
 use Rattle.sqlcolumns.specs.Lines.{line_in}
 use Rattle.sqlcolumns.specs.Numbers.{counter_column, registrar_column}
 use Rattle.sqlcolumns.specs.Roids.{IsRoid}
-use Rattle.sqltables.specs.Line as table
 use Rattle.sqltables.specs.Line.{line_of_object, line_with_account}
+use Rattle.sqltables.specs.declared.line.LineRow.{LineRow}
 
 -- a row of the registrar's with the domain's columns
-abbrev pub is_row_on : ℕ → Roid → table.Line → Bool
+abbrev pub is_row_on : ℕ → Roid → LineRow → Bool
 is_row_on r roid row = line_of_object (registrar_column r) (registrar_column roid.creator) (counter_column roid.serial) row
 
 -- a row of the registrar's, with the domain's columns if there is one
-abbrev pub is_row_about : ℕ → Option Roid → table.Line → Bool
+abbrev pub is_row_about : ℕ → Option Roid → LineRow → Bool
 is_row_about r None row = line_with_account (registrar_column r) row
 is_row_about r (Some roid) row = is_row_on r roid row
 
@@ -26,5 +26,5 @@ pub record IsDomainRoid (roid : Roid) : Type 0 where
   pub parts : IsRoid roid
 
 -- a row that reads as this line
-abbrev pub reads_as : Line → table.Line → Bool
+abbrev pub reads_as : Line → LineRow → Bool
 reads_as line row = option_map_or (is_line line) (line_in row) false

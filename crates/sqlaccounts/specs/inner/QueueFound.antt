@@ -3,7 +3,7 @@ use Rattle.std.specs.Prelude.{◌≡◌, ℕ, true, filter, Some}
 use Rattle.accounts.specs.declared.message.Message.{Message}
 use Rattle.sqlcolumns.specs.Numbers.{is_place, registrar_column}
 use Rattle.sqltables.specs.Content.{Content}
-use Rattle.sqltables.specs.inner.Message.{is_same_message}
+use Rattle.sqltables.specs.Message.{is_same_message}
 use Rattle.sqlaccounts.specs.Accounts.{row_of}
 use Rattle.sqlaccounts.specs.inner.QueueRows.{IsWritten}
 use Rattle.sqlaccounts.specs.declared.queue.Found.{Found}

@@ -2,14 +2,14 @@
 use Rattle.std.specs.Prelude.{◌≡◌, ℤ, ◌+ℤ◌, Some}
 use Rattle.accounts.specs.declared.message.Message.{Message}
 use Rattle.sqlcolumns.specs.Messages.{message_in}
-use Rattle.sqltables.specs.Account as account_table
-use Rattle.sqltables.specs.Message as table
+use Rattle.sqltables.specs.declared.account.AccountRow.{AccountRow}
+use Rattle.sqltables.specs.declared.message.MessageRow.{MessageRow}
 
 -- under the account's number it reads as the message
-pub record IsWritten (id : ℤ) (m : Message) (row : table.Message) : Type 0 where
+pub record IsWritten (id : ℤ) (m : Message) (row : MessageRow) : Type 0 where
   pub account : row.account ≡ id
   pub reads : message_in row ≡ Some m
 
 -- as many messages more wait
-pub record IsWaitingMore (step : ℤ) (row changed : account_table.Account) : Type 0 where
+pub record IsWaitingMore (step : ℤ) (row changed : AccountRow) : Type 0 where
   pub rest : changed ≡ record row { waiting = row.waiting +ℤ step }

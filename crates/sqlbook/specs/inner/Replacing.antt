@@ -5,7 +5,7 @@ use Rattle.sqlite_rules.specs.Lists.{Has}
 use Rattle.objects.specs.declared.domain.Domain.{Domain}
 use Rattle.policy.specs.declared.schedule.Schedule.{Schedule}
 use Rattle.sqltables.specs.Content.{Content}
-use Rattle.sqltables.specs.Domain as table
+use Rattle.sqltables.specs.declared.domain.DomainRow.{DomainRow}
 use Rattle.sqltables.specs.inner.Consistent.{IsConsistent}
 use Rattle.sqldomains.specs.inner.Changes.{IsDomainPut, sponsor_in}
 use Rattle.sqldomains.specs.Domains.{domains_of}
@@ -18,9 +18,9 @@ abbrev pub IsUnder : Schedule → Content → Type 0
 IsUnder days xs = IfSome (days_of xs) (λ d. d ≡ days)
 
 -- this domain, or none, is under a name, and its row is right
-pub record IsCheckedDomain (name : List ℕ) (right : Content → table.Domain → Bool) (xs : Content) (domain : Option Domain) : Type 0 where
+pub record IsCheckedDomain (name : List ℕ) (right : Content → DomainRow → Bool) (xs : Content) (domain : Option Domain) : Type 0 where
   pub domain_is : get (domains_of xs) name ≡ domain
-  pub right_is : (row : table.Domain) → Has xs.domains row → row.name ≡ name → right xs row ≡ true
+  pub right_is : (row : DomainRow) → Has xs.domains row → row.name ≡ name → right xs row ≡ true
 
 -- the moment goes with a domain
 abbrev pub due_with : Option Domain → ℕ → Option ℕ
@@ -34,14 +34,14 @@ pub record IsExchanged (name : List ℕ) (before after : Option Domain) (due : �
   pub put : IsDomainPut name after (due_with after due) mid new
 
 -- the same with the one under the name
-pub record IsExchangedThere (name : List ℕ) (right : Content → table.Domain → Bool) (after : Option Domain) (due : ℕ) (old new : Content) : Type 0 where
+pub record IsExchangedThere (name : List ℕ) (right : Content → DomainRow → Bool) (after : Option Domain) (due : ℕ) (old new : Content) : Type 0 where
   pub before : Option Domain
   pub consistent : IsConsistent old
   pub checked : IsCheckedDomain name right old before
   pub exchanged : IsExchanged name before after due old new
 
 -- the hosts below take their sponsor before
-pub record IsReplaced (name : List ℕ) (right : Content → table.Domain → Bool) (after : Option Domain) (due : ℕ) (old new : Content) : Type 0 where
+pub record IsReplaced (name : List ℕ) (right : Content → DomainRow → Bool) (after : Option Domain) (due : ℕ) (old new : Content) : Type 0 where
   pub moved : Content
   pub followed : IsSponsorSetBelow name (sponsor_in after) old moved
   pub exchanged : IsExchangedThere name right after due moved new

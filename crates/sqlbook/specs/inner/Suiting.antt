@@ -10,7 +10,7 @@ use Rattle.policy.specs.declared.schedule.Schedule.{Schedule}
 use Rattle.policy.specs.declared.terms.Terms.{Terms}
 use Rattle.books.specs.Book.{with_terms}
 use Rattle.sqltables.specs.Content.{Content}
-use Rattle.sqltables.specs.Domain as table
+use Rattle.sqltables.specs.declared.domain.DomainRow.{DomainRow}
 use Rattle.sqltables.specs.Readiness.{may_be_numbered}
 use Rattle.sqlaccounts.specs.Accounts.{sums_are_right}
 use Rattle.sqlderived.specs.Held.{helds_are_right}
@@ -25,7 +25,7 @@ abbrev pub SuitDomains : Schedule → Content → Type 0
 SuitDomains days xs = (days_of xs ≡ Some days) ⊎ (xs.domains ≡ [])
 
 -- all sums are right, and of the rows of domains this
-abbrev pub are_right_by : (Content → table.Domain → Bool) → Content → Bool
+abbrev pub are_right_by : (Content → DomainRow → Bool) → Content → Bool
 are_right_by right xs =
     may_be_numbered xs.metas
     && (sums_are_right xs && (helds_are_right xs && (list_all (right xs) xs.domains && sponsors_are_right xs)))

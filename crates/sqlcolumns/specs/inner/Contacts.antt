@@ -3,7 +3,8 @@ use Rattle.std.specs.Prelude.{ℕ, ℤ, List, Option, Some}
 use Rattle.objects.specs.declared.contact.Contact.{Contact}
 use Rattle.objects.specs.declared.contact.Postal.{Postal}
 use Rattle.objects.specs.declared.roid.ObjectKind.TheVariants as kinds
-use Rattle.sqltables.specs.Contact as table
+use Rattle.sqltables.specs.declared.contact.ContactRow.{ContactRow}
+use Rattle.sqltables.specs.declared.contact.PostalRow.{PostalRow}
 use Rattle.sqlcolumns.specs.declared.registration.Registration.{Registration}
 use Rattle.sqlcolumns.specs.declared.registration.RegistrationColumns.{RegistrationColumns}
 use Rattle.sqlcolumns.specs.Registrations.{IsRegistration, registration_columns}
@@ -19,16 +20,16 @@ IsContact c = IsRegistration (registration_of c)
 
 -- ---- written
 
-abbrev pub postal_with : Postal → List ℕ → table.Postal
+abbrev pub postal_with : Postal → List ℕ → PostalRow
 postal_with p street = record { name = p.name; org = p.org; street = street; city = p.city; state = p.sp; postal_code = p.pc; country = p.cc }
 
 -- the postal columns, if the street can be written
-abbrev pub postal_row : Postal → Option table.Postal
+abbrev pub postal_row : Postal → Option PostalRow
 postal_row p = do
   street ← street_column p.street
   Some (postal_with p street)
 
-abbrev pub row_with : ℤ → Contact → RegistrationColumns → table.Postal → table.Contact
+abbrev pub row_with : ℤ → Contact → RegistrationColumns → PostalRow → ContactRow
 row_with id c columns postal = record {
   id = id;
   name = c.name;
@@ -47,7 +48,7 @@ row_with id c columns postal = record {
 }
 
 -- the row of a contact, under its number
-abbrev pub contact_row : ℤ → Contact → Option table.Contact
+abbrev pub contact_row : ℤ → Contact → Option ContactRow
 contact_row id c = do
   columns ← registration_columns kinds.Contact (registration_of c)
   postal ← postal_row c.postal

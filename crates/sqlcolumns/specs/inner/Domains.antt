@@ -4,7 +4,7 @@ use Rattle.calendar.specs.Moment.{IsMoment}
 use Rattle.objects.specs.declared.domain.Deletion.{Deletion}
 use Rattle.objects.specs.declared.domain.Domain.{Domain}
 use Rattle.objects.specs.declared.roid.ObjectKind.TheVariants as kinds
-use Rattle.sqltables.specs.Domain as table
+use Rattle.sqltables.specs.declared.domain.DomainRow.{DomainRow}
 use Rattle.sqlcolumns.specs.declared.domain.DeletionColumns.{DeletionColumns}
 use Rattle.sqlcolumns.specs.declared.registration.Registration.{Registration}
 use Rattle.sqlcolumns.specs.declared.registration.RegistrationColumns.{RegistrationColumns}
@@ -32,7 +32,7 @@ abbrev pub deletion_columns : Option Deletion → DeletionColumns
 deletion_columns None = record { deleted = None; restore_requested = None }
 deletion_columns (Some d) = record { deleted = Some (moment_column d.deleted); restore_requested = maybe_moment_column d.restore_requested }
 
-abbrev pub row_with : ℤ → ℤ → ℕ → Domain → RegistrationColumns → DeletionColumns → table.Domain
+abbrev pub row_with : ℤ → ℤ → ℕ → Domain → RegistrationColumns → DeletionColumns → DomainRow
 row_with id registrant due d columns deletion = record {
   id = id;
   name = d.name;
@@ -52,7 +52,7 @@ row_with id registrant due d columns deletion = record {
 }
 
 -- the row of a domain, under its number, whose registrant has this one, and for which something is due then
-abbrev pub domain_row : ℤ → ℤ → ℕ → Domain → Option table.Domain
+abbrev pub domain_row : ℤ → ℤ → ℕ → Domain → Option DomainRow
 domain_row id registrant due d = do
   columns ← registration_columns kinds.Domain (registration_of d)
   Some (row_with id registrant due d columns (deletion_columns d.deletion))

@@ -3,7 +3,7 @@ use Rattle.std.specs.Prelude.{ℤ, Option, Some, IfSome}
 use Rattle.calendar.specs.Moment.{IsMoment}
 use Rattle.objects.specs.declared.host.Host.{Host}
 use Rattle.objects.specs.declared.roid.ObjectKind.TheVariants as kinds
-use Rattle.sqltables.specs.Host as table
+use Rattle.sqltables.specs.declared.host.HostRow.{HostRow}
 use Rattle.sqlcolumns.specs.declared.roid.RoidColumns.{RoidColumns}
 use Rattle.sqlcolumns.specs.Above.{above}
 use Rattle.sqlcolumns.specs.Numbers.{IsPlace, maybe_moment_column, maybe_registrar_column, moment_column}
@@ -19,7 +19,7 @@ pub record IsHost (h : Host) : Type 0 where
 
 -- ---- written
 
-abbrev pub row_with : ℤ → Option ℤ → Host → RoidColumns → table.Host
+abbrev pub row_with : ℤ → Option ℤ → Host → RoidColumns → HostRow
 row_with id sponsor h roid = record {
   id = id;
   name = h.name;
@@ -34,7 +34,7 @@ row_with id sponsor h roid = record {
 }
 
 -- the row of a host, under its number, which this account sponsors
-abbrev pub host_row : ℤ → Option ℤ → Host → Option table.Host
+abbrev pub host_row : ℤ → Option ℤ → Host → Option HostRow
 host_row id sponsor h = do
   roid ← roid_columns kinds.Host h.roid
   Some (row_with id sponsor h roid)

@@ -4,7 +4,7 @@ use Rattle.calendar.specs.Moment.{IsMoment}
 use Rattle.objects.specs.declared.roid.ObjectKind.TheVariants.{Domain}
 use Rattle.objects.specs.declared.roid.Roid.{Roid}
 use Rattle.accounts.specs.declared.line.Line.{Line}
-use Rattle.sqltables.specs.Line as table
+use Rattle.sqltables.specs.declared.line.LineRow.{LineRow}
 use Rattle.sqlcolumns.specs.declared.line.DomainColumns.{DomainColumns}
 use Rattle.sqlcolumns.specs.declared.roid.RoidColumns.{RoidColumns}
 use Rattle.sqlcolumns.specs.Codes.{kind_column}
@@ -31,7 +31,7 @@ abbrev pub domain_columns : Option Roid → Option DomainColumns
 domain_columns None = Some (record { creator = None; serial = None })
 domain_columns (Some roid) = option_map not_null (roid_columns Domain roid)
 
-abbrev pub row_with : ℤ → ℤ → Line → Option ℤ → DomainColumns → ℤ → table.Line
+abbrev pub row_with : ℤ → ℤ → Line → Option ℤ → DomainColumns → ℤ → LineRow
 row_with id account line ends domain cents = record {
   id = id;
   account = account;
@@ -47,7 +47,7 @@ row_with id account line ends domain cents = record {
 
 -- The row of a line, under its number and its account's. When its grace ends is no part of the line: that
 -- column is given.
-abbrev pub line_row : ℤ → ℤ → Line → Option ℤ → Option table.Line
+abbrev pub line_row : ℤ → ℤ → Line → Option ℤ → Option LineRow
 line_row id account line ends = do
   domain ← domain_columns line.roid
   cents ← exact_column line.cents

@@ -9,9 +9,10 @@ use Rattle.policy.specs.Rules.{PolicyRules}
 use Rattle.lifecycle.specs.declared.due_object.Due.{Due}
 use Rattle.lifecycle.specs.DueObjects.{contact_due, domain_due, with_due}
 use Rattle.sqltables.specs.Contact as contact_table
+use Rattle.sqltables.specs.declared.contact.ContactRow.{ContactRow}
 use Rattle.sqltables.specs.Content.{Content}
 use Rattle.sqltables.specs.Domain as domain_table
-use Rattle.sqltables.specs.inner.Domain as inner_domain_table
+use Rattle.sqltables.specs.declared.domain.DomainRow.{DomainRow}
 use Rattle.sqldomains.specs.Domains.{domain_of, domains_of}
 use Rattle.sqlobjects.specs.Objects.{contact_of, contacts_of}
 
@@ -32,16 +33,16 @@ with_rows read found (row ∷ rows) = do
   with_rows read found rows
 
 -- the contact of a row, if it is due by a moment
-abbrev pub contact_in : ℕ → Content → contact_table.Contact → Option (Option Due)
+abbrev pub contact_in : ℕ → Content → ContactRow → Option (Option Due)
 contact_in t xs row = option_map (λ (c : Contact). contact_due t (c.name, c)) (contact_of xs row)
 
 -- the same of a domain
-abbrev pub domain_in : PolicyRules → ℕ → Content → domain_table.Domain → Option (Option Due)
+abbrev pub domain_in : PolicyRules → ℕ → Content → DomainRow → Option (Option Due)
 domain_in p t xs row = option_map (λ (d : Domain). domain_due p t (d.name, d)) (domain_of xs row)
 
 -- the rows whose column is no later than a moment
-abbrev pub contacts_until : ℕ → Content → List contact_table.Contact
+abbrev pub contacts_until : ℕ → Content → List ContactRow
 contacts_until t xs = contact_table.contacts_by_due (filter (contact_table.contact_within_due (moment_column t)) xs.contacts)
 
-abbrev pub domains_until : ℕ → Content → List domain_table.Domain
-domains_until t xs = inner_domain_table.domains_by_due (filter (inner_domain_table.domain_within_due (moment_column t)) xs.domains)
+abbrev pub domains_until : ℕ → Content → List DomainRow
+domains_until t xs = domain_table.domains_by_due (filter (domain_table.domain_within_due (moment_column t)) xs.domains)

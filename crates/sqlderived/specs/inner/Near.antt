@@ -8,12 +8,16 @@ use Rattle.policy.specs.Rules.{PolicyRules}
 use Rattle.lifecycle.specs.declared.due_object.Due.{Due}
 use Rattle.concerns.specs.DueFor.{due_for, is_picked}
 use Rattle.sqltables.specs.Contact as contact_table
+use Rattle.sqltables.specs.declared.contact.ContactRow.{ContactRow}
 use Rattle.sqltables.specs.Content.{Content}
 use Rattle.sqltables.specs.Domain as domain_table
-use Rattle.sqltables.specs.inner.Domain as inner_domain_table
+use Rattle.sqltables.specs.declared.domain.DomainRow.{DomainRow}
 use Rattle.sqltables.specs.Host as host_table
+use Rattle.sqltables.specs.declared.host.HostRow.{HostRow}
 use Rattle.sqltables.specs.Link as link_table
+use Rattle.sqltables.specs.declared.link.LinkRow.{LinkRow}
 use Rattle.sqltables.specs.Transfer as transfer_table
+use Rattle.sqltables.specs.declared.transfer.TransferRow.{TransferRow}
 use Rattle.sqlderived.specs.inner.Finding.{contact_in, contacts_until, domain_in, domains_until, objects_in, with_rows}
 
 -- ---- whether anything is due at all
@@ -43,105 +47,105 @@ each_of gives (a ∷ as_) = gives a ++ each_of gives as_
 
 -- ---- by the registrar
 
-abbrev pub contacts_sponsored : Option ℕ → ℕ → Content → List contact_table.Contact
+abbrev pub contacts_sponsored : Option ℕ → ℕ → Content → List ContactRow
 contacts_sponsored None t xs = []
 contacts_sponsored (Some r) t xs = filter (contact_table.contact_of_sponsor_within (registrar_column r) (moment_column t)) xs.contacts
 
-abbrev pub domains_sponsored : Option ℕ → ℕ → Content → List domain_table.Domain
+abbrev pub domains_sponsored : Option ℕ → ℕ → Content → List DomainRow
 domains_sponsored None t xs = []
 domains_sponsored (Some r) t xs =
-    filter (inner_domain_table.domain_of_sponsor_within (registrar_column r) (moment_column t)) xs.domains
+    filter (domain_table.domain_of_sponsor_within (registrar_column r) (moment_column t)) xs.domains
 
 -- the transfers that are pending, which it asked for or which take something away from it
-abbrev pub pending_of : Option ℕ → Content → List transfer_table.Transfer
+abbrev pub pending_of : Option ℕ → Content → List TransferRow
 pending_of None xs = []
 pending_of (Some r) xs = filter (transfer_table.transfer_pending_by (registrar_column r)) xs.transfers ++ filter (transfer_table.transfer_pending_from (registrar_column r)) xs.transfers
 
-abbrev pub contact_numbered : Content → Option ℤ → List contact_table.Contact
+abbrev pub contact_numbered : Content → Option ℤ → List ContactRow
 contact_numbered xs None = []
 contact_numbered xs (Some id) = filter (contact_table.contact_with_id id) xs.contacts
 
-abbrev pub domain_numbered : Content → Option ℤ → List domain_table.Domain
+abbrev pub domain_numbered : Content → Option ℤ → List DomainRow
 domain_numbered xs None = []
-domain_numbered xs (Some id) = filter (inner_domain_table.domain_with_id id) xs.domains
+domain_numbered xs (Some id) = filter (domain_table.domain_with_id id) xs.domains
 
-abbrev pub contact_of_transfer : Content → transfer_table.Transfer → List contact_table.Contact
+abbrev pub contact_of_transfer : Content → TransferRow → List ContactRow
 contact_of_transfer xs row = contact_numbered xs row.contact
 
-abbrev pub domain_of_transfer : Content → transfer_table.Transfer → List domain_table.Domain
+abbrev pub domain_of_transfer : Content → TransferRow → List DomainRow
 domain_of_transfer xs row = domain_numbered xs row.domain
 
 -- ---- by names
 
-abbrev pub contacts_named : Content → List ℕ → List contact_table.Contact
+abbrev pub contacts_named : Content → List ℕ → List ContactRow
 contacts_named xs name = filter (contact_table.contact_with_name name) xs.contacts
 
-abbrev pub domains_named : Content → List ℕ → List domain_table.Domain
+abbrev pub domains_named : Content → List ℕ → List DomainRow
 domains_named xs name = filter (domain_table.domain_with_name name) xs.domains
 
-abbrev pub hosts_named : Content → List ℕ → List host_table.Host
+abbrev pub hosts_named : Content → List ℕ → List HostRow
 hosts_named xs name = filter (host_table.host_with_name name) xs.hosts
 
 -- the domains with the identifier of one, that one among them
-abbrev pub domains_alike : Content → domain_table.Domain → List domain_table.Domain
-domains_alike xs row = filter (inner_domain_table.domain_with_roid row.creator row.serial) xs.domains
+abbrev pub domains_alike : Content → DomainRow → List DomainRow
+domains_alike xs row = filter (domain_table.domain_with_roid row.creator row.serial) xs.domains
 
 -- the domain to which a link belongs
-abbrev pub domain_of_link : Content → link_table.Link → List domain_table.Domain
-domain_of_link xs row = filter (inner_domain_table.domain_with_id row.domain) xs.domains
+abbrev pub domain_of_link : Content → LinkRow → List DomainRow
+domain_of_link xs row = filter (domain_table.domain_with_id row.domain) xs.domains
 
 -- the domains that may be due, and name the contact of a row
-abbrev pub domains_to_contact : ℕ → Content → contact_table.Contact → List domain_table.Domain
+abbrev pub domains_to_contact : ℕ → Content → ContactRow → List DomainRow
 domains_to_contact t xs row =
-    filter (inner_domain_table.domain_of_registrant_within row.id (moment_column t)) xs.domains
+    filter (domain_table.domain_of_registrant_within row.id (moment_column t)) xs.domains
     ++ each_of (domain_of_link xs) (filter (link_table.link_of_contact_within row.id (moment_column t)) xs.links)
 
-abbrev pub domains_to_host : ℕ → Content → host_table.Host → List domain_table.Domain
+abbrev pub domains_to_host : ℕ → Content → HostRow → List DomainRow
 domains_to_host t xs row = each_of (domain_of_link xs) (filter (link_table.link_of_host_within row.id (moment_column t)) xs.links)
 
-abbrev pub domains_to_contacts : ℕ → Content → List ℕ → List domain_table.Domain
+abbrev pub domains_to_contacts : ℕ → Content → List ℕ → List DomainRow
 domains_to_contacts t xs name = each_of (domains_to_contact t xs) (contacts_named xs name)
 
-abbrev pub domains_to_hosts : ℕ → Content → List ℕ → List domain_table.Domain
+abbrev pub domains_to_hosts : ℕ → Content → List ℕ → List DomainRow
 domains_to_hosts t xs name = each_of (domains_to_host t xs) (hosts_named xs name)
 
 -- ---- all of them
 
 -- where these transfers are pending
-abbrev pub contacts_found : Option ℕ → List transfer_table.Transfer → Names → ℕ → Content
-    → List contact_table.Contact
+abbrev pub contacts_found : Option ℕ → List TransferRow → Names → ℕ → Content
+    → List ContactRow
 contacts_found r pending g t xs =
     contacts_sponsored r t xs
     ++ (each_of (contact_of_transfer xs) pending
     ++ each_of (contacts_named xs) g.contacts)
 
-abbrev pub contacts_near : Option ℕ → Names → ℕ → Content → List contact_table.Contact
+abbrev pub contacts_near : Option ℕ → Names → ℕ → Content → List ContactRow
 contacts_near r g t xs = contacts_found r (pending_of r xs) g t xs
 
-abbrev pub domains_by_names : Names → ℕ → Content → List domain_table.Domain
+abbrev pub domains_by_names : Names → ℕ → Content → List DomainRow
 domains_by_names g t xs =
     each_of (domains_alike xs) (each_of (domains_named xs) g.domains)
     ++ (each_of (domains_to_contacts t xs) g.contacts
     ++ each_of (domains_to_hosts t xs) g.hosts)
 
-abbrev pub domains_found : Option ℕ → List transfer_table.Transfer → Names → ℕ → Content
-    → List domain_table.Domain
+abbrev pub domains_found : Option ℕ → List TransferRow → Names → ℕ → Content
+    → List DomainRow
 domains_found r pending g t xs =
     domains_sponsored r t xs
     ++ (each_of (domain_of_transfer xs) pending
     ++ domains_by_names g t xs)
 
-abbrev pub domains_near : Option ℕ → Names → ℕ → Content → List domain_table.Domain
+abbrev pub domains_near : Option ℕ → Names → ℕ → Content → List DomainRow
 domains_near r g t xs = domains_found r (pending_of r xs) g t xs
 
 -- of these, those that may be due: no other is read
-abbrev pub contacts_asked : Option ℕ → Names → ℕ → Content → List contact_table.Contact
+abbrev pub contacts_asked : Option ℕ → Names → ℕ → Content → List ContactRow
 contacts_asked r g t xs =
     filter (contact_table.contact_within_due (moment_column t)) (contacts_near r g t xs)
 
-abbrev pub domains_asked : Option ℕ → Names → ℕ → Content → List domain_table.Domain
+abbrev pub domains_asked : Option ℕ → Names → ℕ → Content → List DomainRow
 domains_asked r g t xs =
-    filter (inner_domain_table.domain_within_due (moment_column t)) (domains_near r g t xs)
+    filter (domain_table.domain_within_due (moment_column t)) (domains_near r g t xs)
 
 -- this is what is due of the rows that are found
 pub record IsFoundNear (p : PolicyRules) (r : Option ℕ) (g : Names) (t : ℕ) (xs : Content) (due : List Due) : Type 0 where

@@ -3,26 +3,26 @@ use Rattle.std.specs.Prelude.{◌≡◌, ⊤, ℕ, ℤ, pos, ◌+ℤ◌, Option,
 use Rattle.objects.specs.declared.domain.Domain.{Domain}
 use Rattle.sqlaccounts.specs.Accounts.{accounts_of, row_of, sums_are_right}
 use Rattle.sqlderived.specs.Held.{counts_where, is_held_by}
-use Rattle.sqltables.specs.Account as account_table
+use Rattle.sqltables.specs.declared.account.AccountRow.{AccountRow}
 use Rattle.sqltables.specs.Content.{Content}
 
 -- a row has all columns that it had, but for how many domains are held
-abbrev pub IsAlike : account_table.Account → account_table.Account → Type 0
+abbrev pub IsAlike : AccountRow → AccountRow → Type 0
 IsAlike old new = new ≡ record old { held = new.held }
 
 -- there is a row like the one that there was, or none as there was none
-abbrev pub AreAlike : Option account_table.Account → Option account_table.Account → Type 0
+abbrev pub AreAlike : Option AccountRow → Option AccountRow → Type 0
 AreAlike None None = ⊤
 AreAlike None (Some new) = ⊥
 AreAlike (Some old) None = ⊥
 AreAlike (Some old) (Some new) = IsAlike old new
 
 -- and of the domains that are held so many are less, and so many more
-pub record IsCounted (less more : ℕ) (old new : account_table.Account) : Type 0 where
+pub record IsCounted (less more : ℕ) (old new : AccountRow) : Type 0 where
   pub rest : IsAlike old new
   pub held : new.held +ℤ pos less ≡ old.held +ℤ pos more
 
-abbrev pub AreCounted : ℕ → ℕ → Option account_table.Account → Option account_table.Account → Type 0
+abbrev pub AreCounted : ℕ → ℕ → Option AccountRow → Option AccountRow → Type 0
 AreCounted less more None None = ⊤
 AreCounted less more None (Some new) = ⊥
 AreCounted less more (Some old) None = ⊥

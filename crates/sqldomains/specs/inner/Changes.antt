@@ -5,7 +5,7 @@ use Rattle.sqlite_typed.specs.Tests.{bytes_eq}
 use Rattle.objects.specs.declared.domain.Domain.{Domain}
 use Rattle.sqlcolumns.specs.Numbers.{maybe_registrar_column, moment_column}
 use Rattle.sqltables.specs.Content.{Content}
-use Rattle.sqltables.specs.Domain as table
+use Rattle.sqltables.specs.declared.domain.DomainRow.{DomainRow}
 use Rattle.sqltables.specs.inner.Consistent.{IsConsistent}
 use Rattle.sqlobjects.specs.inner.Changes.{put}
 use Rattle.sqlobjects.specs.Objects.{contacts_of, hosts_of}
@@ -31,11 +31,11 @@ pub record IsDomainPut (name : List ℕ) (value : Option Domain) (due : Option �
   pub addresses : new.addresses ≡ old.addresses
   pub lines : new.lines ≡ old.lines
   pub messages : new.messages ≡ old.messages
-  pub others : AreOthersKept (λ (r : table.Domain). r.name) name old.domains new.domains
-  pub readings : (row : table.Domain) → Has old.domains row → Has new.domains row
+  pub others : AreOthersKept (λ (r : DomainRow). r.name) name old.domains new.domains
+  pub readings : (row : DomainRow) → Has old.domains row → Has new.domains row
       → bytes_eq row.name name ≡ false → domain_of new row ≡ domain_of old row
-  pub due_is : (row : table.Domain) → Has new.domains row → row.name ≡ name
+  pub due_is : (row : DomainRow) → Has new.domains row → row.name ≡ name
       → Some row.due ≡ option_map moment_column due
-  pub sponsor_is : (row : table.Domain) → Has new.domains row → row.name ≡ name
+  pub sponsor_is : (row : DomainRow) → Has new.domains row → row.name ≡ name
       → Some row.sponsor ≡ maybe_registrar_column (sponsor_in value)
   pub consistent : IsConsistent old × IsConsistent new

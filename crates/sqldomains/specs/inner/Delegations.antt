@@ -8,7 +8,7 @@ use Rattle.objects.specs.declared.zone.Delegation.{Delegation}
 use Rattle.objects.specs.Delegations.{delegation_of}
 use Rattle.sqlcolumns.specs.Steps.{◌>>=◌}
 use Rattle.sqltables.specs.Content.{Content}
-use Rattle.sqltables.specs.Domain as table
+use Rattle.sqltables.specs.declared.domain.DomainRow.{DomainRow}
 use Rattle.sqldomains.specs.Domains.{domain_of, domains_of}
 
 abbrev pub delegations : Content → List Delegation
@@ -23,11 +23,11 @@ abbrev pub with_domain : Delegations → Domain → Delegations
 with_domain all d = insert all d.name (delegation_of d)
 
 -- with that of a row's domain, if it reads
-abbrev pub with_row : Content → Delegations → table.Domain → Option Delegations
+abbrev pub with_row : Content → Delegations → DomainRow → Option Delegations
 with_row xs all row = option_map (with_domain all) (domain_of xs row)
 
 -- with those of these rows, if all read
-abbrev pub with_rows : Content → Delegations → List table.Domain → Option Delegations
+abbrev pub with_rows : Content → Delegations → List DomainRow → Option Delegations
 with_rows xs all [] = Some all
 with_rows xs all (row ∷ rows) = do
   all ← with_row xs all row

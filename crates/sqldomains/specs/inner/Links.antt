@@ -6,12 +6,12 @@ use Rattle.sqlite_rules.specs.Lists.{Has}
 use Rattle.objects.specs.declared.domain.Domain.{Domain}
 use Rattle.objects.specs.Links.{names_contact, names_host}
 use Rattle.sqltables.specs.Contact.{contact_with_name}
-use Rattle.sqltables.specs.Contact as contact_table
+use Rattle.sqltables.specs.declared.contact.ContactRow.{ContactRow}
 use Rattle.sqltables.specs.Content.{Content}
-use Rattle.sqltables.specs.inner.Domain.{domain_with_registrant}
-use Rattle.sqltables.specs.Domain as table
+use Rattle.sqltables.specs.Domain.{domain_with_registrant}
+use Rattle.sqltables.specs.declared.domain.DomainRow.{DomainRow}
 use Rattle.sqltables.specs.Host.{host_with_name}
-use Rattle.sqltables.specs.Host as host_table
+use Rattle.sqltables.specs.declared.host.HostRow.{HostRow}
 use Rattle.sqltables.specs.Link.{link_with_contact, link_with_host}
 use Rattle.sqldomains.specs.Domains.{domain_of, domains_of}
 
@@ -26,12 +26,12 @@ is_linked_host xs name = list_any (λ d. names_host name d.links) (values (domai
 abbrev pub IsNumberOfContact : Content → List ℕ → Option ℤ → Type 0
 IsNumberOfContact xs name None = filter (contact_with_name name) xs.contacts ≡ []
 IsNumberOfContact xs name (Some id) =
-    (row : contact_table.Contact) × Has xs.contacts row × (row.name ≡ name) × (row.id ≡ id)
+    (row : ContactRow) × Has xs.contacts row × (row.name ≡ name) × (row.id ≡ id)
 
 abbrev pub IsNumberOfHost : Content → List ℕ → Option ℤ → Type 0
 IsNumberOfHost xs name None = filter (host_with_name name) xs.hosts ≡ []
 IsNumberOfHost xs name (Some id) =
-    (row : host_table.Host) × Has xs.hosts row × (row.name ≡ name) × (row.id ≡ id)
+    (row : HostRow) × Has xs.hosts row × (row.name ≡ name) × (row.id ≡ id)
 
 -- no row refers to the contact with this number
 pub record IsNoContact (xs : Content) (id : ℤ) : Type 0 where
@@ -39,15 +39,15 @@ pub record IsNoContact (xs : Content) (id : ℤ) : Type 0 where
   pub links : filter (link_with_contact id) xs.links ≡ []
 
 -- a domain's row, if any row refers to the contact with this number
-abbrev pub IsUseOfContact : Content → ℤ → Option table.Domain → Type 0
+abbrev pub IsUseOfContact : Content → ℤ → Option DomainRow → Type 0
 IsUseOfContact xs id None = IsNoContact xs id
 IsUseOfContact xs id (Some row) = Has xs.domains row
 
 -- the same of a host
-abbrev pub IsUseOfHost : Content → ℤ → Option table.Domain → Type 0
+abbrev pub IsUseOfHost : Content → ℤ → Option DomainRow → Type 0
 IsUseOfHost xs id None = filter (link_with_host id) xs.links ≡ []
 IsUseOfHost xs id (Some row) = Has xs.domains row
 
 -- the domain of a row passes
-abbrev pub Passes : Content → (Domain → Bool) → table.Domain → Type 0
+abbrev pub Passes : Content → (Domain → Bool) → DomainRow → Type 0
 Passes xs test row = (d : Domain) × (domain_of xs row ≡ Some d) × (test d ≡ true)

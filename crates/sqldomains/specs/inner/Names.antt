@@ -7,7 +7,8 @@ use Rattle.objects.specs.Hosts.{is_below}
 use Rattle.sqlcolumns.specs.Above.{above}
 use Rattle.sqlcolumns.specs.Steps.{◌>>=◌}
 use Rattle.sqltables.specs.Content.{Content}
-use Rattle.sqltables.specs.Host.{Host, host_with_above}
+use Rattle.sqltables.specs.Host.{host_with_above}
+use Rattle.sqltables.specs.declared.host.HostRow.{HostRow}
 use Rattle.sqlobjects.specs.Objects.{hosts_of}
 
 -- ---- read row by row
@@ -36,7 +37,7 @@ abbrev pub is_dotted : List ℕ → Bool
 is_dotted name = nat_lt 0 (count_by (λ b. b == 46) name)
 
 -- the rows of all hosts that can be below a domain: these have its last two labels above them, if it has two
-abbrev pub rows_around : List ℕ → Content → List Host
+abbrev pub rows_around : List ℕ → Content → List HostRow
 rows_around domain xs = if is_dotted domain then filter (host_with_above (above domain)) xs.hosts else xs.hosts
 
 -- the name, if a host has it

@@ -11,8 +11,9 @@ use Rattle.sqlcolumns.specs.inner.Domains.{domain_row}
 use Rattle.sqltables.specs.Content.{Content}
 use Rattle.sqltables.specs.inner.Content.{links_to}
 use Rattle.sqltables.specs.Domain as table
-use Rattle.sqltables.specs.inner.Domain as inner_table
-use Rattle.sqltables.specs.Link.{Link, link_with_domain}
+use Rattle.sqltables.specs.declared.domain.DomainRow.{DomainRow}
+use Rattle.sqltables.specs.Link.{link_with_domain}
+use Rattle.sqltables.specs.declared.link.LinkRow.{LinkRow}
 use Rattle.sqltables.specs.Transfer.{transfer_with_contact, transfer_with_domain}
 use Rattle.sqlobjects.specs.Changes.{contact_name, host_name}
 use Rattle.sqlobjects.specs.declared.transfers.Transferable.TheVariants as transferable
@@ -47,14 +48,14 @@ pub record AreLinksCleared (id : ℤ) (old new : Content) : Type 0 where
   pub others : AreOtherLinksKept id old new
 
 -- a row that leads from a domain, which is due then, to what has this name
-pub record IsLinkTo (xs : Content) (id due : ℤ) (role : Role) (name : List ℕ) (row : Link) : Type 0 where
+pub record IsLinkTo (xs : Content) (id due : ℤ) (role : Role) (name : List ℕ) (row : LinkRow) : Type 0 where
   pub domain : row.domain ≡ id
   pub due_is : row.due ≡ due
   pub role_is : row.role ≡ role_column role
   pub leads : linked_name xs role row.contact row.host ≡ Some name
 
 -- the same of a contact in a role, and of a host
-pub record IsContactLinkTo (xs : Content) (id due : ℤ) (role : Role) (name : List ℕ) (row : Link) : Type 0 where
+pub record IsContactLinkTo (xs : Content) (id due : ℤ) (role : Role) (name : List ℕ) (row : LinkRow) : Type 0 where
   pub domain : row.domain ≡ id
   pub due_is : row.due ≡ due
   pub role_is : row.role ≡ role_column role
@@ -63,7 +64,7 @@ pub record IsContactLinkTo (xs : Content) (id due : ℤ) (role : Role) (name : L
   pub host_is : row.host ≡ None
   pub name_is : contact_name xs contact ≡ Some name
 
-pub record IsHostLinkTo (xs : Content) (id due : ℤ) (name : List ℕ) (row : Link) : Type 0 where
+pub record IsHostLinkTo (xs : Content) (id due : ℤ) (name : List ℕ) (row : LinkRow) : Type 0 where
   pub domain : row.domain ≡ id
   pub due_is : row.due ≡ due
   pub role_is : row.role ≡ role_column roles.Host
@@ -84,11 +85,11 @@ pub record AreLinksPut (id due : ℤ) (links : Links) (old new : Content) : Type
   pub others : AreOtherLinksKept id old new
 
 -- these rows lead to this
-abbrev pub LeadTo : Content → Links → List Link → Type 0
+abbrev pub LeadTo : Content → Links → List LinkRow → Type 0
 LeadTo xs links rows = with_links xs (registrant_alone links.registrant) rows ≡ Some links
 
 -- the rows that lead from a domain, which is due then, compared with what it is to name
-abbrev pub AreCompared : Content → ℤ → Links → List Link → LinkComparison → Type 0
+abbrev pub AreCompared : Content → ℤ → Links → List LinkRow → LinkComparison → Type 0
 AreCompared xs due links rows comparisons.Absent = rows ≡ []
 AreCompared xs due links rows comparisons.Same = LeadTo xs links rows × (are_dated due rows ≡ true)
 AreCompared xs due links rows comparisons.Misdated = LeadTo xs links rows
@@ -97,7 +98,7 @@ AreCompared xs due links rows comparisons.Different = ⊤
 -- the rows that lead from the domain with this number say that it is due then
 abbrev pub AreDuesSet : ℤ → ℤ → Content → Content → Type 0
 AreDuesSet id due old new =
-    new ≡ links_to (update_where (link_with_domain id) (λ (l : Link). record l { due = due })) old
+    new ≡ links_to (update_where (link_with_domain id) (λ (l : LinkRow). record l { due = due })) old
 
 -- the domain with this number names this, if its hosts are in their order and the rows that led from it
 -- compared so
@@ -118,13 +119,13 @@ pub record AreOtherPartsKept (id : ℤ) (old new : Content) : Type 0 where
   pub rest : record new { domains = old.domains; links = old.links; transfers = old.transfers } ≡ old
 
 -- the row of a domain, with these columns
-abbrev pub row_beside : ℤ → DerivedColumns → Domain → Option table.Domain
+abbrev pub row_beside : ℤ → DerivedColumns → Domain → Option DomainRow
 row_beside id beside d = domain_row id beside.registrant beside.due d
 
 -- the domain, but for its links and its transfer, is in this row, and no other row is changed
-abbrev pub IsDomainPlaced : Domain → DerivedColumns → table.Domain → Content → Content → Type 0
+abbrev pub IsDomainPlaced : Domain → DerivedColumns → DomainRow → Content → Content → Type 0
 IsDomainPlaced d beside =
-    IsRowPlaced domains (λ (row : table.Domain). row_beside row.id beside d ≡ Some row) d.name
+    IsRowPlaced domains (λ (row : DomainRow). row_beside row.id beside d ≡ Some row) d.name
 
 -- no link and no transfer is of the domain with this number
 pub record HasNoParts (id : ℤ) (xs : Content) : Type 0 where
@@ -140,11 +141,11 @@ pub record ArePartsPut (id due : ℤ) (d : Domain) (old new : Content) : Type 0 
 -- the domain with this number, its links and its transfer aren't there any more
 pub record IsDomainRemoved (id : ℤ) (old new : Content) : Type 0 where
   pub kept : AreOtherPartsKept id old new
-  pub domains : new.domains ≡ delete_where (inner_table.domain_with_id id) old.domains
+  pub domains : new.domains ≡ delete_where (table.domain_with_id id) old.domains
   pub links : filter (link_with_domain id) new.links ≡ []
   pub transfers : filter (transfer_with_domain id) new.transfers ≡ []
 
 -- the same of the row that was found, if there was one
-abbrev pub IsDomainDropped : Option table.Domain → Content → Content → Type 0
+abbrev pub IsDomainDropped : Option DomainRow → Content → Content → Type 0
 IsDomainDropped None old new = new ≡ old
 IsDomainDropped (Some row) old new = IsDomainRemoved row.id old new

@@ -8,7 +8,7 @@ use Rattle.sqlite_rules.specs.Lists.{Has}
 use Rattle.objects.specs.declared.contact.Contact.{Contact}
 use Rattle.objects.specs.declared.host.Host.{Host}
 use Rattle.sqltables.specs.Content.{Content}
-use Rattle.sqltables.specs.Host as host_table
+use Rattle.sqltables.specs.declared.host.HostRow.{HostRow}
 use Rattle.sqltables.specs.Transfer.{transfer_with_domain}
 use Rattle.sqltables.specs.inner.Consistent.{IsConsistent}
 use Rattle.sqlobjects.specs.Objects.{contacts_of, hosts_of}
@@ -56,10 +56,10 @@ pub record IsHostPut (name : List ℕ) (value : Option Host) (old new : Content)
   pub lines : new.lines ≡ old.lines
   pub messages : new.messages ≡ old.messages
   pub transfers : new.transfers ≡ old.transfers
-  pub others : AreOthersKept (λ (r : host_table.Host). r.name) name old.hosts new.hosts
-  pub sponsor_was : (row : host_table.Host) → Has old.hosts row → row.name ≡ name
+  pub others : AreOthersKept (λ (r : HostRow). r.name) name old.hosts new.hosts
+  pub sponsor_was : (row : HostRow) → Has old.hosts row → row.name ≡ name
       → is_sponsor_right old row ≡ true
-  pub sponsor_is : (row : host_table.Host) → Has new.hosts row → row.name ≡ name
+  pub sponsor_is : (row : HostRow) → Has new.hosts row → row.name ≡ name
       → is_sponsor_right new row ≡ true
   pub names : (id : ℤ) (n m : List ℕ) → host_name old id ≡ Some n → host_name new id ≡ Some m
       → n ≡ m

@@ -12,10 +12,12 @@ use Rattle.sqlcolumns.specs.inner.Hosts.{host_row}
 use Rattle.sqlcolumns.specs.Steps.{◌>>=◌}
 use Rattle.sqlcolumns.specs.Transfers.{is_same}
 use Rattle.sqltables.specs.Contact as contact_table
+use Rattle.sqltables.specs.declared.contact.ContactRow.{ContactRow}
 use Rattle.sqltables.specs.Content.{Content}
 use Rattle.sqltables.specs.inner.Content.{hosts_to}
-use Rattle.sqltables.specs.Domain as domain_table
+use Rattle.sqltables.specs.declared.domain.DomainRow.{DomainRow}
 use Rattle.sqltables.specs.Host as host_table
+use Rattle.sqltables.specs.declared.host.HostRow.{HostRow}
 use Rattle.sqltables.specs.inner.Consistent.{IsConsistent}
 use Rattle.states.specs.declared.fault.BookFault.{BookFault}
 use Rattle.states.specs.States.{StateOf, Stays}
@@ -61,7 +63,7 @@ pub record NamedTable (R : Type 0) : Type 0 where
   pub rows_are : (all : List R) (xs : Content) → rows (with_rows all xs) ≡ all
   pub keyed : (xs : Content) → IsConsistent xs → IsKeyedBy key (rows xs)
 
-abbrev pub contacts : NamedTable contact_table.Contact
+abbrev pub contacts : NamedTable ContactRow
 contacts = record {
   key = λ row. row.id;
   name = λ row. row.name;
@@ -75,7 +77,7 @@ contacts = record {
   keyed = λ xs consistent. consistent.keyed.contacts;
 }
 
-abbrev pub hosts : NamedTable host_table.Host
+abbrev pub hosts : NamedTable HostRow
 hosts = record {
   key = λ row. row.id;
   name = λ row. row.name;
@@ -89,7 +91,7 @@ hosts = record {
   keyed = λ xs consistent. consistent.keyed.hosts;
 }
 
-abbrev pub domains : NamedTable domain_table.Domain
+abbrev pub domains : NamedTable DomainRow
 domains = record {
   key = λ row. row.id;
   name = λ row. row.name;
@@ -134,9 +136,9 @@ IsPlacedAt table found given row old new =
 -- ---- contacts
 
 -- the contact, but for its transfer, is in this row, and no other row is changed
-abbrev pub IsContactPlaced : Contact → contact_table.Contact → Content → Content → Type 0
+abbrev pub IsContactPlaced : Contact → ContactRow → Content → Content → Type 0
 IsContactPlaced c =
-    IsRowPlaced contacts (λ (row : contact_table.Contact). contact_row row.id c ≡ Some row) c.name
+    IsRowPlaced contacts (λ (row : ContactRow). contact_row row.id c ≡ Some row) c.name
 
 -- the contact with this number, and its transfer, aren't there any more
 pub record IsContactRemoved (id : ℤ) (old new : Content) : Type 0 where
@@ -144,7 +146,7 @@ pub record IsContactRemoved (id : ℤ) (old new : Content) : Type 0 where
   pub contacts : new.contacts ≡ delete_where (contact_table.contact_with_id id) old.contacts
 
 -- the same of the row that was found, if there was one
-abbrev pub IsContactDropped : Option contact_table.Contact → Content → Content → Type 0
+abbrev pub IsContactDropped : Option ContactRow → Content → Content → Type 0
 IsContactDropped None old new = new ≡ old
 IsContactDropped (Some row) old new = IsContactRemoved row.id old new
 
@@ -167,23 +169,23 @@ pub record AreAddressesAdded (id : ℤ) (addresses : List (List ℕ)) (old new :
   pub others : AreOtherAddressesKept id old new
 
 -- its column says who sponsors the host
-abbrev pub HasRightSponsor : Content → host_table.Host → Type 0
+abbrev pub HasRightSponsor : Content → HostRow → Type 0
 HasRightSponsor xs row = row.sponsor ≡ sponsor_of xs row
 
 -- the row of a host under a number
-pub record IsHostRow (xs : Content) (id : ℤ) (h : Host) (row : host_table.Host) : Type 0 where
+pub record IsHostRow (xs : Content) (id : ℤ) (h : Host) (row : HostRow) : Type 0 where
   pub is : host_row id row.sponsor h ≡ Some row
   pub sponsor : HasRightSponsor xs row
 
 -- this row, or none, has the name, and who sponsors it is right
-pub record IsHostFound (xs : Content) (name : List ℕ) (found : Option host_table.Host) : Type 0 where
+pub record IsHostFound (xs : Content) (name : List ℕ) (found : Option HostRow) : Type 0 where
   pub rows : filter (host_table.host_with_name name) xs.hosts ≡ rows_of found
   pub sponsor : IfSome found (HasRightSponsor xs)
 
 -- the host, but for its addresses, is in this row, and no other row is changed
-abbrev pub IsHostPlaced : Host → host_table.Host → Content → Content → Type 0
+abbrev pub IsHostPlaced : Host → HostRow → Content → Content → Type 0
 IsHostPlaced h row old =
-    IsRowPlaced hosts (λ (it : host_table.Host). IsHostRow old it.id h it) h.name row old
+    IsRowPlaced hosts (λ (it : HostRow). IsHostRow old it.id h it) h.name row old
 
 -- the host with this number, and its addresses, aren't there any more
 pub record IsHostRemoved (id : ℤ) (old new : Content) : Type 0 where
@@ -191,14 +193,14 @@ pub record IsHostRemoved (id : ℤ) (old new : Content) : Type 0 where
   pub hosts : new.hosts ≡ delete_where (host_table.host_with_id id) old.hosts
 
 -- the same of the row that was found, if there was one
-abbrev pub IsHostDropped : Option host_table.Host → Content → Content → Type 0
+abbrev pub IsHostDropped : Option HostRow → Content → Content → Type 0
 IsHostDropped None old new = new ≡ old
 IsHostDropped (Some row) old new = IsHostRemoved row.id old new
 
 -- no row has the name of this host, and the row of the one name, whose sponsor was right, is its now
-pub record IsRowTaken (from : List ℕ) (h : Host) (row : host_table.Host) (old new : Content) : Type 0 where
+pub record IsRowTaken (from : List ℕ) (h : Host) (row : HostRow) (old new : Content) : Type 0 where
   pub free : filter (host_table.host_with_name h.name) old.hosts ≡ []
-  pub found : host_table.Host
+  pub found : HostRow
   pub was : IsHostFound old from (Some found)
   pub is : IsHostRow old found.id h row
   pub content : new ≡ hosts_to (λ rows. insert_by host_table.hosts.key rows row) old
@@ -206,26 +208,26 @@ pub record IsRowTaken (from : List ℕ) (h : Host) (row : host_table.Host) (old 
 -- ---- hosts that take a domain's sponsor
 
 -- a row had the sponsor before and has the one after
-pub record IsMoved (s : Sponsors) (row after : host_table.Host) : Type 0 where
+pub record IsMoved (s : Sponsors) (row after : HostRow) : Type 0 where
   pub had : is_same row.sponsor s.before ≡ true
   pub has : after ≡ record row { sponsor = s.after }
 
 -- the rows, with this one written with its new sponsor, unless its host is sponsored outside the zone; none
 -- where it had another sponsor than the one before
-abbrev pub with_moved : Sponsors → List host_table.Host → host_table.Host
-    → Option (List host_table.Host)
+abbrev pub with_moved : Sponsors → List HostRow → HostRow
+    → Option (List HostRow)
 with_moved s xs row =
     if is_some row.external_sponsor then Some xs
     else (if is_same row.sponsor s.before then Some (insert_by host_table.hosts.key xs (record row { sponsor = s.after })) else None)
 
 -- the same with each of these rows, one after another
-abbrev pub with_all_moved : Sponsors → List host_table.Host → List host_table.Host
-    → Option (List host_table.Host)
+abbrev pub with_all_moved : Sponsors → List HostRow → List HostRow
+    → Option (List HostRow)
 with_all_moved s xs [] = Some xs
 with_all_moved s xs (row ∷ rows) = with_moved s xs row >>= (λ ys. with_all_moved s ys rows)
 
 -- rows of hosts are these now, if there are any such, and nothing else is changed
-pub record AreWritten (made : List host_table.Host → Option (List host_table.Host)) (old new : Content) : Type 0 where
+pub record AreWritten (made : List HostRow → Option (List HostRow)) (old new : Content) : Type 0 where
   pub hosts : made old.hosts ≡ Some new.hosts
   pub rest : new ≡ record old { hosts = new.hosts }
 

@@ -9,17 +9,18 @@ use Rattle.sqlite_keyed.specs.Lists.{delete_where}
 use Rattle.sqlrows.specs.inner.Layouts.{appended}
 use Rattle.sqlrows.specs.Read.{rows_of}
 use Rattle.sqltables.specs.Content.{Content}
-use Rattle.sqltables.specs.Transfer.{Transfer, transfer_with_contact, transfer_with_domain, transfers}
+use Rattle.sqltables.specs.Transfer.{transfer_with_contact, transfer_with_domain, transfers}
+use Rattle.sqltables.specs.declared.transfer.TransferRow.{TransferRow}
 use Rattle.sqlobjects.specs.declared.transfers.Transferable.{Transferable}
 use Rattle.sqlobjects.specs.declared.transfers.Transferable.TheVariants.{Contact, Domain}
 use Rattle.sqlobjects.specs.Objects.{last_transfer}
 
 -- a row is of this object's transfer
-abbrev pub is_of : Transferable → Transfer → Bool
+abbrev pub is_of : Transferable → TransferRow → Bool
 is_of (Contact id) = transfer_with_contact id
 is_of (Domain id) = transfer_with_domain id
 
-abbrev pub names_both : Transfer → Bool
+abbrev pub names_both : TransferRow → Bool
 names_both row = is_some row.contact && is_some row.domain
 
 abbrev pub are_same : Transferable → Transferable → Bool
@@ -40,25 +41,25 @@ pub record IsTransferCleared (it : Transferable) (old new : Content) : Type 0 wh
   pub kept : AreOtherTransfersKept it old new
 
 -- the row of an object's transfer, but for its number
-abbrev pub row_of : Transferable → object.Transfer → Transfer
+abbrev pub row_of : Transferable → object.Transfer → TransferRow
 row_of (Contact id) transfer = transfer_row (pos 0) (Some id) None transfer
 row_of (Domain id) transfer = transfer_row (pos 0) None (Some id) transfer
 
-abbrev pub maybe_row : Transferable → Option object.Transfer → Option Transfer
+abbrev pub maybe_row : Transferable → Option object.Transfer → Option TransferRow
 maybe_row it transfer = option_map (row_of it) transfer
 
 -- the rows, and after them this one, if there is one, under a number of its own
-abbrev pub with_added : Option Transfer → List Transfer → List Transfer
+abbrev pub with_added : Option TransferRow → List TransferRow → List TransferRow
 with_added None rows = rows
 with_added (Some row) rows = appended transfers (λ id. record row { id = id }) rows
 
 -- this row, or none, is of the object's transfer, and of no other object's
-pub record IsRowOf (it : Transferable) (rows : List Transfer) (row : Option Transfer) : Type 0 where
+pub record IsRowOf (it : Transferable) (rows : List TransferRow) (row : Option TransferRow) : Type 0 where
   pub is : filter (is_of it) rows ≡ rows_of row
   pub alone : option_map_or names_both row false ≡ false
 
 -- the rows, with this one, if there is one, in place of the one that is of the object's transfer, whose number stays
-abbrev pub with_over : Transferable → Option Transfer → Option Transfer → List Transfer → List Transfer
+abbrev pub with_over : Transferable → Option TransferRow → Option TransferRow → List TransferRow → List TransferRow
 with_over it None row rows = with_added row rows
 with_over it (Some there) None rows = delete_where (is_of it) rows
 with_over it (Some there) (Some row) rows = insert_by transfers.key rows (record row { id = there.id })

@@ -3,17 +3,17 @@ use Rattle.std.specs.Prelude.{◌≡◌, ℕ, ℤ, List, Option, Some}
 use Rattle.sqlite_keyed.specs.Keyed.{IsKeyedBy}
 use Rattle.sqlite_rules.specs.Lists.{Has}
 use Rattle.sqltables.specs.Content.{Content}
-use Rattle.sqltables.specs.Meta.{Meta}
-use Rattle.sqltables.specs.Account.{Account}
-use Rattle.sqltables.specs.Contact.{Contact}
-use Rattle.sqltables.specs.Domain.{Domain}
-use Rattle.sqltables.specs.Host.{Host}
-use Rattle.sqltables.specs.Address.{Address}
-use Rattle.sqltables.specs.Link.{Link}
-use Rattle.sqltables.specs.Line.{Line}
-use Rattle.sqltables.specs.Message.{Message}
-use Rattle.sqltables.specs.Transfer.{Transfer}
-use Rattle.sqltables.specs.Day.{Day}
+use Rattle.sqltables.specs.Meta.{MetaRow}
+use Rattle.sqltables.specs.Account.{AccountRow}
+use Rattle.sqltables.specs.Contact.{ContactRow}
+use Rattle.sqltables.specs.Domain.{DomainRow}
+use Rattle.sqltables.specs.Host.{HostRow}
+use Rattle.sqltables.specs.Address.{AddressRow}
+use Rattle.sqltables.specs.Link.{LinkRow}
+use Rattle.sqltables.specs.Line.{LineRow}
+use Rattle.sqltables.specs.Message.{MessageRow}
+use Rattle.sqltables.specs.Transfer.{TransferRow}
+use Rattle.sqltables.specs.Day.{DayRow}
 
 -- rows with the same name are the same row
 abbrev pub IsNamedBy : {X : Type 0} → (X → List ℕ) → List X → Type 0
@@ -26,42 +26,42 @@ LeadsTo {X} {Y} xs column ys key =
 
 -- the rows of each table are in the order of their numbers, of which none comes twice
 pub record AreKeyed (content : Content) : Type 0 where
-  pub metas : IsKeyedBy (λ (x : Meta). x.id) content.metas
-  pub accounts : IsKeyedBy (λ (x : Account). x.id) content.accounts
-  pub contacts : IsKeyedBy (λ (x : Contact). x.id) content.contacts
-  pub domains : IsKeyedBy (λ (x : Domain). x.id) content.domains
-  pub hosts : IsKeyedBy (λ (x : Host). x.id) content.hosts
-  pub addresses : IsKeyedBy (λ (x : Address). x.id) content.addresses
-  pub links : IsKeyedBy (λ (x : Link). x.id) content.links
-  pub lines : IsKeyedBy (λ (x : Line). x.id) content.lines
-  pub messages : IsKeyedBy (λ (x : Message). x.id) content.messages
-  pub transfers : IsKeyedBy (λ (x : Transfer). x.id) content.transfers
-  pub days : IsKeyedBy (λ (x : Day). x.id) content.days
+  pub metas : IsKeyedBy (λ (x : MetaRow). x.id) content.metas
+  pub accounts : IsKeyedBy (λ (x : AccountRow). x.id) content.accounts
+  pub contacts : IsKeyedBy (λ (x : ContactRow). x.id) content.contacts
+  pub domains : IsKeyedBy (λ (x : DomainRow). x.id) content.domains
+  pub hosts : IsKeyedBy (λ (x : HostRow). x.id) content.hosts
+  pub addresses : IsKeyedBy (λ (x : AddressRow). x.id) content.addresses
+  pub links : IsKeyedBy (λ (x : LinkRow). x.id) content.links
+  pub lines : IsKeyedBy (λ (x : LineRow). x.id) content.lines
+  pub messages : IsKeyedBy (λ (x : MessageRow). x.id) content.messages
+  pub transfers : IsKeyedBy (λ (x : TransferRow). x.id) content.transfers
+  pub days : IsKeyedBy (λ (x : DayRow). x.id) content.days
 
 -- no name comes twice
 pub record AreNamed (content : Content) : Type 0 where
-  pub accounts : IsNamedBy (λ (x : Account). x.ident) content.accounts
-  pub contacts : IsNamedBy (λ (x : Contact). x.name) content.contacts
-  pub domains : IsNamedBy (λ (x : Domain). x.name) content.domains
-  pub hosts : IsNamedBy (λ (x : Host). x.name) content.hosts
+  pub accounts : IsNamedBy (λ (x : AccountRow). x.ident) content.accounts
+  pub contacts : IsNamedBy (λ (x : ContactRow). x.name) content.contacts
+  pub domains : IsNamedBy (λ (x : DomainRow). x.name) content.domains
+  pub hosts : IsNamedBy (λ (x : HostRow). x.name) content.hosts
 
 -- each row that is referred to is there
 pub record AreLinked (content : Content) : Type 0 where
-  pub contact_sponsor : LeadsTo content.contacts (λ (x : Contact). Some x.sponsor) content.accounts (λ (x : Account). x.id)
-  pub domain_sponsor : LeadsTo content.domains (λ (x : Domain). Some x.sponsor) content.accounts (λ (x : Account). x.id)
-  pub domain_registrant : LeadsTo content.domains (λ (x : Domain). Some x.registrant) content.contacts (λ (x : Contact). x.id)
-  pub host_external_sponsor : LeadsTo content.hosts (λ (x : Host). x.external_sponsor) content.accounts (λ (x : Account). x.id)
-  pub host_sponsor : LeadsTo content.hosts (λ (x : Host). x.sponsor) content.accounts (λ (x : Account). x.id)
-  pub address_host : LeadsTo content.addresses (λ (x : Address). Some x.host) content.hosts (λ (x : Host). x.id)
-  pub link_domain : LeadsTo content.links (λ (x : Link). Some x.domain) content.domains (λ (x : Domain). x.id)
-  pub link_contact : LeadsTo content.links (λ (x : Link). x.contact) content.contacts (λ (x : Contact). x.id)
-  pub link_host : LeadsTo content.links (λ (x : Link). x.host) content.hosts (λ (x : Host). x.id)
-  pub line_account : LeadsTo content.lines (λ (x : Line). Some x.account) content.accounts (λ (x : Account). x.id)
-  pub message_account : LeadsTo content.messages (λ (x : Message). Some x.account) content.accounts (λ (x : Account). x.id)
-  pub transfer_contact : LeadsTo content.transfers (λ (x : Transfer). x.contact) content.contacts (λ (x : Contact). x.id)
-  pub transfer_domain : LeadsTo content.transfers (λ (x : Transfer). x.domain) content.domains (λ (x : Domain). x.id)
-  pub transfer_requester : LeadsTo content.transfers (λ (x : Transfer). Some x.requester) content.accounts (λ (x : Account). x.id)
-  pub transfer_losing : LeadsTo content.transfers (λ (x : Transfer). Some x.losing) content.accounts (λ (x : Account). x.id)
+  pub contact_sponsor : LeadsTo content.contacts (λ (x : ContactRow). Some x.sponsor) content.accounts (λ (x : AccountRow). x.id)
+  pub domain_sponsor : LeadsTo content.domains (λ (x : DomainRow). Some x.sponsor) content.accounts (λ (x : AccountRow). x.id)
+  pub domain_registrant : LeadsTo content.domains (λ (x : DomainRow). Some x.registrant) content.contacts (λ (x : ContactRow). x.id)
+  pub host_external_sponsor : LeadsTo content.hosts (λ (x : HostRow). x.external_sponsor) content.accounts (λ (x : AccountRow). x.id)
+  pub host_sponsor : LeadsTo content.hosts (λ (x : HostRow). x.sponsor) content.accounts (λ (x : AccountRow). x.id)
+  pub address_host : LeadsTo content.addresses (λ (x : AddressRow). Some x.host) content.hosts (λ (x : HostRow). x.id)
+  pub link_domain : LeadsTo content.links (λ (x : LinkRow). Some x.domain) content.domains (λ (x : DomainRow). x.id)
+  pub link_contact : LeadsTo content.links (λ (x : LinkRow). x.contact) content.contacts (λ (x : ContactRow). x.id)
+  pub link_host : LeadsTo content.links (λ (x : LinkRow). x.host) content.hosts (λ (x : HostRow). x.id)
+  pub line_account : LeadsTo content.lines (λ (x : LineRow). Some x.account) content.accounts (λ (x : AccountRow). x.id)
+  pub message_account : LeadsTo content.messages (λ (x : MessageRow). Some x.account) content.accounts (λ (x : AccountRow). x.id)
+  pub transfer_contact : LeadsTo content.transfers (λ (x : TransferRow). x.contact) content.contacts (λ (x : ContactRow). x.id)
+  pub transfer_domain : LeadsTo content.transfers (λ (x : TransferRow). x.domain) content.domains (λ (x : DomainRow). x.id)
+  pub transfer_requester : LeadsTo content.transfers (λ (x : TransferRow). Some x.requester) content.accounts (λ (x : AccountRow). x.id)
+  pub transfer_losing : LeadsTo content.transfers (λ (x : TransferRow). Some x.losing) content.accounts (λ (x : AccountRow). x.id)
 
 pub record IsConsistent (content : Content) : Type 0 where
   pub keyed : AreKeyed content

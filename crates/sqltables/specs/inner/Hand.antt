@@ -7,9 +7,9 @@ use Rattle.states.specs.States.{Reads, Remains, StateOf, Stays}
 use Rattle.states.specs.States as states
 use Rattle.states.specs.declared.readiness.Ready.TheVariants.{Used}
 use Rattle.states.specs.declared.fault.BookFault.{BookFault}
-use Rattle.sqltables.specs.Account.{Account, accounts}
-use Rattle.sqltables.specs.Meta.{Meta}
-use Rattle.sqltables.specs.Day.{Day}
+use Rattle.sqltables.specs.Account.{AccountRow, accounts}
+use Rattle.sqltables.specs.Meta.{MetaRow}
+use Rattle.sqltables.specs.Day.{DayRow}
 use Rattle.sqltables.specs.Content.{Content}
 use Rattle.sqltables.specs.inner.Content.{accounts_to}
 use Rattle.sqltables.specs.declared.hand.Hand.{Hand}
@@ -20,7 +20,7 @@ no_row = record { account = None; owed = false; meta = None; days = None }
 -- ---- what is seen
 
 -- the rows with the account's row that is at hand, where the database has it in an older form
-abbrev pub with_owed : Bool → Option Account → Content → Content
+abbrev pub with_owed : Bool → Option AccountRow → Content → Content
 with_owed false account xs = xs
 with_owed true None xs = xs
 with_owed true (Some row) xs = accounts_to (λ rows. insert_by accounts.key rows row) xs
@@ -52,8 +52,8 @@ AreNoted noted s =
 -- ---- what always holds
 
 -- a row of the database, or, where it's owed, one with the number and the name of a row of the database
-pub record IsThere (owed : Bool) (row : Account) (rows : List Account) : Type 0 where
-  pub old : Account
+pub record IsThere (owed : Bool) (row : AccountRow) (rows : List AccountRow) : Type 0 where
+  pub old : AccountRow
   pub has : Has rows old
   pub id : old.id ≡ row.id
   pub ident : old.ident ≡ row.ident
@@ -71,11 +71,11 @@ pub record IsAtHand (hand : Hand) (s : StateOf Content) : Type 0 where
 
 -- what depends on no account
 abbrev pub IsBlind : {A : Type 0} → (Content → A) → Type 0
-IsBlind f = (change : List Account → List Account) (xs : Content) → f (accounts_to change xs) ≡ f xs
+IsBlind f = (change : List AccountRow → List AccountRow) (xs : Content) → f (accounts_to change xs) ≡ f xs
 
 -- a change that depends on no account and changes none, nor what holds of the whole registry, nor its days
 pub record IsApart (f : Content → Content) : Type 0 where
-  pub accounts : (change : List Account → List Account) (xs : Content)
+  pub accounts : (change : List AccountRow → List AccountRow) (xs : Content)
       → f (accounts_to change xs) ≡ accounts_to change (f xs)
   pub metas : (xs : Content) → (f xs).metas ≡ xs.metas
   pub days : (xs : Content) → (f xs).days ≡ xs.days
@@ -87,7 +87,7 @@ abbrev pub after : {A : Type 0} → Result A BookFault → Hand → Hand
 after (Ok it) hand = hand
 after (Err fault) hand = no_row
 
-abbrev pub has_number : ℤ → Option Account → Bool
+abbrev pub has_number : ℤ → Option AccountRow → Bool
 has_number id None = false
 has_number id (Some row) = int_eq row.id id
 
@@ -96,36 +96,36 @@ rows_at None = []
 rows_at (Some row) = row ∷ []
 
 -- a row with the number and the name of this one is at hand
-abbrev pub IsSameRow : Account → Option Account → Type 0
+abbrev pub IsSameRow : AccountRow → Option AccountRow → Type 0
 IsSameRow row None = ⊥
 IsSameRow row (Some it) = (it.id ≡ row.id) × (it.ident ≡ row.ident)
 
 -- a row with the number of this one is at hand
-abbrev pub IsSameMeta : Meta → Option Meta → Type 0
+abbrev pub IsSameMeta : MetaRow → Option MetaRow → Type 0
 IsSameMeta row None = ⊥
 IsSameMeta row (Some it) = it.id ≡ row.id
 
 -- the one row that was found is kept, or none
-pub record KeepsAccount (rows : List Account) (old new : Hand) : Type 0 where
+pub record KeepsAccount (rows : List AccountRow) (old new : Hand) : Type 0 where
   pub account : IfSome new.account (λ row. rows ≡ row ∷ [])
   pub owed : new.owed ≡ old.owed
   pub meta : new.meta ≡ old.meta
   pub days : new.days ≡ old.days
 
-pub record KeepsMeta (rows : List Meta) (old new : Hand) : Type 0 where
+pub record KeepsMeta (rows : List MetaRow) (old new : Hand) : Type 0 where
   pub meta : IfSome new.meta (λ row. rows ≡ row ∷ [])
   pub account : new.account ≡ old.account
   pub owed : new.owed ≡ old.owed
   pub days : new.days ≡ old.days
 
-pub record RenewsMeta (is_only : Bool) (row : Meta) (old new : Hand) : Type 0 where
+pub record RenewsMeta (is_only : Bool) (row : MetaRow) (old new : Hand) : Type 0 where
   pub meta : IfSome new.meta (λ it. (it ≡ row) × (is_only ≡ true))
   pub account : new.account ≡ old.account
   pub owed : new.owed ≡ old.owed
   pub days : new.days ≡ old.days
 
 -- the rows that were found are kept, or none
-pub record KeepsDays (rows : List Day) (old new : Hand) : Type 0 where
+pub record KeepsDays (rows : List DayRow) (old new : Hand) : Type 0 where
   pub days : IfSome new.days (λ it. rows ≡ it)
   pub account : new.account ≡ old.account
   pub owed : new.owed ≡ old.owed

@@ -1,7 +1,7 @@
 -- What calls make of the rows.
 use Rattle.std.specs.Prelude.{◌≡◌, ℕ, [], map, Some}
 use Rattle.policy.specs.declared.terms.Terms.{Terms}
-use Rattle.sqltables.specs.Account.{Account}
+use Rattle.sqltables.specs.declared.account.AccountRow.{AccountRow}
 use Rattle.sqltables.specs.Content.{Content}
 use Rattle.sqltables.specs.Readiness.{may_be_numbered}
 use Rattle.sqlaccounts.specs.Accounts.{accounts_of, sums_are_right}
@@ -17,7 +17,7 @@ pub record IsClockSet (m : ℕ) (old new : Content) : Type 0 where
   pub others : record new { metas = old.metas } ≡ old
 
 -- what an account's row says besides who it is
-abbrev pub nameless : Account → Account
+abbrev pub nameless : AccountRow → AccountRow
 nameless row = record row { ident = [] }
 
 -- accounts have other idents, and nothing else is another

@@ -4,12 +4,12 @@ use Rattle.std.specs.Prelude.{◌≡◌, ℕ, pos, List, [], Option, Some, None}
 use Rattle.sqlcolumns.specs.Numbers.{moment_column}
 use Rattle.model.specs.Registry.{blank}
 use Rattle.policy.specs.declared.terms.Terms.{Terms}
-use Rattle.sqltables.specs.Meta.{Meta}
+use Rattle.sqltables.specs.declared.meta.MetaRow.{MetaRow}
 
 -- ---- written
 
 -- the row of a registry without terms, at the clock of one that was never opened
-abbrev pub new_meta : Meta
+abbrev pub new_meta : MetaRow
 new_meta = record {
   id = pos 1;
   version = pos 2;
@@ -30,21 +30,21 @@ new_meta = record {
   price_transfer = pos 0;
 }
 
-abbrev pub meta_or_new : Option Meta → Meta
+abbrev pub meta_or_new : Option MetaRow → MetaRow
 meta_or_new None = new_meta
 meta_or_new (Some row) = row
 
 -- the row says that it is this moment
-abbrev pub IsAt : ℕ → Option Meta → Type 0
+abbrev pub IsAt : ℕ → Option MetaRow → Type 0
 IsAt m None = ⊥
 IsAt m (Some row) = IsMoment m × (row.clock ≡ moment_column m)
 
-abbrev pub with_clock : ℕ → Meta → Meta
+abbrev pub with_clock : ℕ → MetaRow → MetaRow
 with_clock m row = record row { clock = moment_column m }
 
 -- the terms but for the registrars' ids and for the tables of later lengths, with the reserved labels as
 -- one text
-abbrev pub with_terms : Terms → List ℕ → Meta → Meta
+abbrev pub with_terms : Terms → List ℕ → MetaRow → MetaRow
 with_terms terms labels row = record row {
   zone = terms.zone;
   reserved = labels;

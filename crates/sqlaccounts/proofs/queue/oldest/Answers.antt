@@ -1,7 +1,7 @@
 use Rattle.std.proofs.Common.{pos, Some, None, sym, subst, ap, ◌∙◌}
 use Rattle.std.specs.Prelude.{slice_get}
 use Rattle.sqltables.specs.Content.{Content}
-use Rattle.sqltables.specs.inner.Message.{queue_of}
+use Rattle.sqltables.specs.Message.{queue_of}
 use Rattle.sqltables.specs.inner.Consistent.{IsConsistent}
 use Rattle.sqlaccounts.proofs.MessageLemmas.{first_found, none_found, oldest-found}
 use Rattle.sqlaccounts.proofs.queue.oldest.Goals as goal

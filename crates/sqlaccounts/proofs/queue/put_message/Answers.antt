@@ -3,7 +3,7 @@ use Rattle.sqlite_keyed.specs.Keyed.{insert_by}
 use Rattle.sqlrows.specs.inner.Layouts.{appended}
 use Rattle.sqltables.specs.Account.{accounts}
 use Rattle.sqltables.specs.inner.Content.{accounts_to, messages_to}
-use Rattle.sqltables.specs.inner.Message.{messages}
+use Rattle.sqltables.specs.Message.{messages}
 use Rattle.sqlrows.proofs.StateLemmas.{then-made}
 use Rattle.sqlaccounts.proofs.QueueCallLemmas.{became-same}
 use Rattle.sqlaccounts.proofs.MessageLemmas.{put_again, put_in}

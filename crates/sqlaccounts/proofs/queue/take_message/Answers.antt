@@ -3,7 +3,7 @@ use Rattle.sqlite_keyed.specs.Keyed.{insert_by}
 use Rattle.sqlite_keyed.specs.Lists.{delete_where}
 use Rattle.sqltables.specs.Account.{accounts}
 use Rattle.sqltables.specs.inner.Content.{accounts_to, messages_to}
-use Rattle.sqltables.specs.inner.Message.{message_with_id}
+use Rattle.sqltables.specs.Message.{message_with_id}
 use Rattle.sqltables.specs.inner.Consistent.{IsConsistent}
 use Rattle.sqlrows.specs.Read.{rows_of}
 use Rattle.sqlrows.proofs.StateLemmas.{then-made}

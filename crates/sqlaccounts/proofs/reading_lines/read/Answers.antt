@@ -1,10 +1,9 @@
-use Rattle.std.proofs.Common.{◌≡◌, ◌∙◌, ◌∷◌, ◌++◌, ◌+◌, [], ap, sym, take, Some}
+use Rattle.std.proofs.Common.{◌∙◌, ap, sym, take}
 use Rattle.std.proofs.lemmas.List.{take_more}
 use Rattle.std.specs.List.{filter_map}
 use Rattle.accounts.specs.Lines.{in_order}
 use Rattle.basis.specs.Bag.{add, bag_of}
 use Rattle.sqlcolumns.specs.Lines.{line_in}
-use Rattle.sqltables.specs.Line.{Line}
 use Rattle.sqlaccounts.proofs.LinesOnLemmas.{read-more}
 use Rattle.sqlaccounts.proofs.reading_lines.read.Goals as goal
 
@@ -16,7 +15,5 @@ pub loop-row-preserved : goal.loop-row-preserved
 loop-row-preserved c =
     let rows = c.args.rows.now in
     let i = c.loop-row.row-index in
-    let x = c.row-item.result in
-    let front : take (i + 1) rows ≡ take i rows ++ x ∷ [] = take_more rows i x c.loop-row-test.true ∙ ap (λ (y : Line). take i rows ++ y ∷ []) (sym c.row-item.is) in
-    let reads : line_in x ≡ Some c.in-Some.line = sym c.line_of_row.ensures.value ∙ c.in-Some.is in
-    c.in_ok-add.ensures.ok ∙ ap (add in_order c.in-Some.line) c.loop-row.invariant ∙ sym (read-more (take i rows) x c.in-Some.line reads) ∙ ap (λ rs. bag_of in_order (filter_map line_in rs)) (sym front)
+    let reads = sym c.line_of_row.ensures.value ∙ c.in-Some.is in
+    c.in_ok-add.ensures.ok ∙ ap (add in_order c.in-Some.line) c.loop-row.invariant ∙ sym (read-more (take i rows) _ c.in-Some.line reads) ∙ ap (λ rs. bag_of in_order (filter_map line_in rs)) (sym (take_more rows i _ c.loop-row-test.true))

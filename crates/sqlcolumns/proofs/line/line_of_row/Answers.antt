@@ -1,21 +1,19 @@
 use Rattle.std.proofs.Common.{rules, ◌≡◌, Some, FitsSigned, w64, to_z-of_z, sym, ap, ◌∙◌}
-use Rattle.sqltables.specs.Line as table
 use Rattle.sqlcolumns.specs.Codes.{kind_in}
-use Rattle.sqlcolumns.specs.Lines.{line_in, line_made}
+use Rattle.sqlcolumns.specs.Lines.{line_made}
 use Rattle.sqlcolumns.specs.inner.Lines.{line_row}
-use Rattle.sqlcolumns.specs.Numbers.{exact_in, maybe_moment_in, moment_in, years_in}
+use Rattle.sqlcolumns.specs.Numbers.{exact_in, moment_in, years_in}
 use Rattle.sqlcolumns.proofs.LineLemmas.{line_back, line_written}
 use Rattle.sqlcolumns.proofs.ReadLemmas.{all_read}
 use Rattle.sqlcolumns.proofs.line.line_of_row.Goals as goal
 
 pub returns-clause-value : goal.returns-clause-value
 returns-clause-value c =
-    let r = c.row.inside in
+    let r = c.args.row.now in
     let kind : FitsSigned w64 r.kind = search rules in
     let recorded : FitsSigned w64 r.recorded = search rules in
     let years : FitsSigned w64 r.years = search rules in
     let cents : FitsSigned w64 r.cents = search rules in
-    let start = c.start_of.ensures ∙ ap (λ (x : table.Line). maybe_moment_in x.grace.started) (sym c.row.view_is) in
     c.line_made.ensures
     ∙ (λ i. line_made
     ((c.of_column.ensures.value ∙ ap kind_in (to_z-of_z kind)) i)
@@ -23,9 +21,8 @@ returns-clause-value c =
     ((c.moment_of_column.ensures.value ∙ ap moment_in (to_z-of_z recorded)) i)
     ((c.years_of_column.ensures.value ∙ ap years_in (to_z-of_z years)) i)
     ((c.exact_of_column.ensures.value ∙ ap exact_in (to_z-of_z cents)) i)
-    (start i)
+    (c.start_of.ensures i)
     (c.maybe_moment_of_column.ensures.value i))
-    ∙ ap line_in c.row.view_is
 
 pub returns-clause-found : goal.returns-clause-found
 returns-clause-found c = all_read (λ line. line_row c.args.row.now.id c.args.row.now.account line c.args.row.now.grace.ends ≡ Some c.args.row.now) c.line_made.result (λ line is. line_written c.args.row.now line (sym (returns-clause-value c) ∙ is))

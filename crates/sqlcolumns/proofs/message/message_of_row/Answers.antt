@@ -1,7 +1,7 @@
 use Rattle.std.proofs.Common.{rules, ◌≡◌, Some, FitsSigned, w64, to_z, of_z, to_z-of_z, sym, ap, ◌∙◌}
 use Rattle.sqlcolumns.specs.declared.origin.OriginColumns.{OriginColumns}
 use Rattle.sqlcolumns.specs.Codes.{subject_in}
-use Rattle.sqlcolumns.specs.Messages.{message_in, message_made, message_row, origin_in}
+use Rattle.sqlcolumns.specs.Messages.{message_made, message_row, origin_in}
 use Rattle.sqlcolumns.specs.Numbers.{moment_in}
 use Rattle.sqlcolumns.proofs.MessageLemmas.{message_back, message_written}
 use Rattle.sqlcolumns.proofs.ReadLemmas.{all_read}
@@ -9,7 +9,7 @@ use Rattle.sqlcolumns.proofs.message.message_of_row.Goals as goal
 
 pub returns-clause-value : goal.returns-clause-value
 returns-clause-value c =
-    let r = c.row.inside in
+    let r = c.args.row in
     let moment : FitsSigned w64 r.moment = search rules in
     let class : FitsSigned w64 r.class = search rules in
     let number : FitsSigned w64 r.number = search rules in
@@ -21,8 +21,7 @@ returns-clause-value c =
     ((c.moment_of_column.ensures.value ∙ ap moment_in (to_z-of_z moment)) i)
     ((c.origin_of_columns.ensures.value ∙ ap origin_in same_origin) i)
     ((c.of_column.ensures.value ∙ ap subject_in (to_z-of_z subject)) i)
-    (c.from_string.ensures i))
-    ∙ ap message_in c.row.view_is
+    r.name)
 
 pub returns-clause-found : goal.returns-clause-found
 returns-clause-found c = all_read (λ m. message_row c.args.row.id c.args.row.account m ≡ Some c.args.row) c.message_made.result (λ m is. message_written c.args.row m (sym (returns-clause-value c) ∙ is))

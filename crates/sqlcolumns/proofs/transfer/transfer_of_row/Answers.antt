@@ -9,7 +9,7 @@ use Rattle.sqlcolumns.proofs.transfer.transfer_of_row.Goals as goal
 
 pub returns-clause-value : goal.returns-clause-value
 returns-clause-value c =
-    let r = c.row.inside in
+    let r = c.args.row.now in
     let requester : FitsSigned w64 r.requester = search rules in
     let losing : FitsSigned w64 r.losing = search rules in
     let requested : FitsSigned w64 r.requested = search rules in
@@ -23,7 +23,6 @@ returns-clause-value c =
     ((c.moment_of_column.ensures.value ∙ ap moment_in (to_z-of_z requested)) i)
     ((c.moment_of_column-2.ensures.value ∙ ap moment_in (to_z-of_z ac_date)) i)
     ((c.of_column.ensures.value ∙ ap state_in (to_z-of_z state)) i)))
-    ∙ ap transfer_in c.row.view_is
 
 pub returns-clause-found : goal.returns-clause-found
 returns-clause-found c = all_read (λ t. transfer_row c.args.row.now.id c.args.row.now.contact c.args.row.now.domain t ≡ c.args.row.now) c.with_due.result (λ t is. transfer_written c.args.row.now t (sym (returns-clause-value c) ∙ is))

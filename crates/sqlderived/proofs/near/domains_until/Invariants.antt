@@ -1,6 +1,6 @@
 use Rattle.std.proofs.Common.{◌≡◌, ◌++◌, filter}
 use Rattle.sqlcolumns.specs.Numbers.{moment_column}
-use Rattle.sqltables.specs.inner.Domain.{domain_within_due}
+use Rattle.sqltables.specs.Domain.{domain_within_due}
 use Rattle.sqlderived.proofs.near.domains_until.Given as goal
 
 -- with those of what is left that may be due, all that may

@@ -1,7 +1,7 @@
 use Rattle.std.proofs.Common.{◌≡◌, Some, ap, subst, ◌∙◌, filter, map}
 use Rattle.std.specs.FinMap.{empty}
 use Rattle.objects.specs.Hosts.{is_below}
-use Rattle.sqltables.specs.Host.{Host}
+use Rattle.sqltables.specs.declared.host.HostRow.{HostRow}
 use Rattle.sqlrows.proofs.StateLemmas.{reads-on}
 use Rattle.sqldomains.specs.inner.Names.{host_standing, with_read}
 use Rattle.sqldomains.proofs.BelowLemmas.{below-listed}
@@ -20,6 +20,6 @@ returns g c =
           c.in_ok-listed.ensures {u = tt}
           ∙ below-listed xs domain names
           (subst (λ found. with_read (host_standing xs) empty found ≡ Some names)
-          (c.in_ok-found.ensures {u = tt} ∙ ap (λ rows. filter (is_below domain) (map (λ (r : Host). r.name) rows)) (asked.1 before))
+          (c.in_ok-found.ensures {u = tt} ∙ ap (λ rows. filter (is_below domain) (map (λ (r : HostRow). r.name) rows)) (asked.1 before))
           (subst (λ ys. with_read (host_standing ys) empty c.in_ok-found.found ≡ Some names) (asked.0.content before) (told.1 e))),
     )

@@ -1,8 +1,8 @@
 use Rattle.std.proofs.Common.{◌≡◌, ◌++◌, filter, map}
 use Rattle.objects.specs.Hosts.{is_below}
-use Rattle.sqltables.specs.Host.{Host}
+use Rattle.sqltables.specs.declared.host.HostRow.{HostRow}
 use Rattle.sqldomains.proofs.below.names_below.Given as goal
 
 -- the names so far and those of the rows that are left
 abbrev pub invariant-loop-row : goal.invariant-loop-row
-invariant-loop-row l = l.names ++ filter (is_below l.domain) (map (λ (r : Host). r.name) l.row-iterator.rest.items) ≡ filter (is_below l.fn.domain) (map (λ (r : Host). r.name) l.fn.rows)
+invariant-loop-row l = l.names ++ filter (is_below l.domain) (map (λ (r : HostRow). r.name) l.row-iterator.rest.items) ≡ filter (is_below l.fn.domain) (map (λ (r : HostRow). r.name) l.fn.rows)

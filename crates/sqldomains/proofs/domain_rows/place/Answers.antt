@@ -1,5 +1,5 @@
 use Rattle.std.proofs.Common.{◌≡◌, Some, pos}
-use Rattle.sqltables.specs.Domain.{Domain}
+use Rattle.sqltables.specs.declared.domain.DomainRow.{DomainRow}
 use Rattle.sqltables.specs.inner.Consistent.{IsConsistent}
 use Rattle.sqlrows.specs.Read.{rows_of}
 use Rattle.sqlrows.proofs.StateLemmas.{reads-same}
@@ -20,4 +20,4 @@ returns g c =
     let row = c.in_ok-row.row in
     let made = written (pos 0) beside domain row c.in_ok-row.ensures in
     asked-brings c.place_row.result (IsPlacedAt domains found row) (λ row old new. IsConsistent old → rows_named domains domain.name old ≡ rows_of found → IsDomainPlaced domain beside row old new) old old new (reads-same old) c.place_row.ensures
-    (λ it clean step consistent there. placed-as domains (λ (r : Domain). row_beside r.id beside domain ≡ Some r) domain.name found row it old.content new.content made.name made.again there step consistent)
+    (λ it clean step consistent there. placed-as domains (λ (r : DomainRow). row_beside r.id beside domain ≡ Some r) domain.name found row it old.content new.content made.name made.again there step consistent)

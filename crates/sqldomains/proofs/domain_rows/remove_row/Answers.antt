@@ -2,7 +2,7 @@ use Rattle.std.proofs.Common.{subst}
 use Rattle.sqlite_keyed.specs.Lists.{delete_where}
 use Rattle.sqltables.specs.Content.{Content}
 use Rattle.sqltables.specs.inner.Content.{domains_to}
-use Rattle.sqltables.specs.inner.Domain.{domain_with_id}
+use Rattle.sqltables.specs.Domain.{domain_with_id}
 use Rattle.sqlrows.proofs.StateLemmas.{then-became}
 use Rattle.sqlobjects.proofs.StepLemmas.{became-made}
 use Rattle.sqlobjects.specs.declared.transfers.Transferable.{Transferable}

@@ -1,6 +1,6 @@
 use Rattle.std.proofs.Common.{ap, ◌∙◌}
 use Rattle.sqlrows.specs.Read.{rows_of}
-use Rattle.sqltables.specs.inner.Domain.{domain_with_id}
+use Rattle.sqltables.specs.Domain.{domain_with_id}
 use Rattle.sqldomains.proofs.AnswerLemmas.{one-has}
 use Rattle.sqldomains.proofs.linked.domain_at.Goals as goal
 

@@ -1,7 +1,7 @@
 use Rattle.std.proofs.Common.{ap, subst, ◌∙◌}
 use Rattle.sqlite_rules.specs.Lists.{Has}
 use Rattle.sqltables.specs.Content.{Content}
-use Rattle.sqltables.specs.inner.Domain.{domain_with_registrant}
+use Rattle.sqltables.specs.Domain.{domain_with_registrant}
 use Rattle.sqlrows.specs.Read.{rows_of}
 use Rattle.sqlrows.proofs.StateLemmas.{reads-on}
 use Rattle.sqldomains.proofs.AnswerLemmas.{first-in}

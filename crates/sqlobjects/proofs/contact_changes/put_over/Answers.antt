@@ -3,7 +3,7 @@ use Rattle.sqlrows.specs.Meanings.{HasChanged}
 use Rattle.sqlrows.specs.Read.{rows_of}
 use Rattle.sqlrows.proofs.StateLemmas.{reads-same}
 use Rattle.sqlcolumns.specs.inner.Contacts.{contact_row}
-use Rattle.sqltables.specs.Contact.{Contact}
+use Rattle.sqltables.specs.declared.contact.ContactRow.{ContactRow}
 use Rattle.sqltables.specs.Content.{Content}
 use Rattle.sqltables.specs.inner.Consistent.{IsConsistent}
 use Rattle.sqlobjects.specs.declared.transfers.Transferable.{Transferable}
@@ -35,5 +35,5 @@ returns g c =
     placed (subst (λ (it : Transferable). HasChanged (put it) middle new) c.of_contact.ensures (c.in_ok-put_last_transfer.ensures {u = tt})) c.show_consistent.ensures c.show_consistent-3.ensures
     (λ consistent after first second rows.
     let there = first.1 consistent rows in
-    let with = second (λ e. no-transfer (λ (it : Contact). contact_row it.id contact ≡ Some it) contact.name row old.content middle.content consistent first.0 there (rows ∙ none-found found is_new c.is_none-is_new.ensures e)) in
+    let with = second (λ e. no-transfer (λ (it : ContactRow). contact_row it.id contact ≡ Some it) contact.name row old.content middle.content consistent first.0 there (rows ∙ none-found found is_new c.is_none-is_new.ensures e)) in
     contact-put old.content middle.content new.content contact row consistent after (c.is_contact.ensures.0 c.if-not-is_contact.false) there with)

@@ -1,5 +1,5 @@
 use Rattle.std.proofs.Common.{◌≡◌, Some, pos}
-use Rattle.sqltables.specs.Contact.{Contact}
+use Rattle.sqltables.specs.declared.contact.ContactRow.{ContactRow}
 use Rattle.sqltables.specs.inner.Consistent.{IsConsistent}
 use Rattle.sqlcolumns.specs.inner.Contacts.{contact_row}
 use Rattle.sqlrows.specs.Read.{rows_of}
@@ -19,4 +19,4 @@ returns g c =
     let row = c.in_ok-row.row in
     let made = written (pos 0) contact row c.in_ok-row.ensures in
     asked-brings c.place_row.result (IsPlacedAt contacts found row) (λ row old new. IsConsistent old → rows_named contacts contact.name old ≡ rows_of found → IsContactPlaced contact row old new) old old new (reads-same old) c.place_row.ensures
-    (λ it clean step consistent there. placed-as contacts (λ (r : Contact). contact_row r.id contact ≡ Some r) contact.name found row it old.content new.content made.name made.again there step consistent)
+    (λ it clean step consistent there. placed-as contacts (λ (r : ContactRow). contact_row r.id contact ≡ Some r) contact.name found row it old.content new.content made.name made.again there step consistent)

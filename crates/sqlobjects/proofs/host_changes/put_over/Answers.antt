@@ -2,7 +2,7 @@ use Rattle.std.proofs.Common.{◌≡◌, true, [], Some, subst, ◌∙◌}
 use Rattle.sqlrows.specs.Meanings.{HasChanged}
 use Rattle.sqlrows.specs.Read.{rows_of}
 use Rattle.sqlrows.proofs.StateLemmas.{reads-same}
-use Rattle.sqltables.specs.Host.{Host}
+use Rattle.sqltables.specs.declared.host.HostRow.{HostRow}
 use Rattle.sqltables.specs.inner.Consistent.{IsConsistent}
 use Rattle.sqlobjects.specs.Objects.{addresses_of}
 use Rattle.sqlobjects.specs.inner.Changes.{IsHostPut}
@@ -31,5 +31,5 @@ returns g c =
     placed (subst (λ texts. HasChanged (λ m e. (is_new ≡ true → addresses_of m row.id ≡ []) → AreAddressesPut row.id texts m e) middle new) c.as_slice.ensures (c.in_ok-put_addresses.ensures {u = tt})) c.show_consistent.ensures c.show_consistent-3.ensures
     (λ consistent after first second was.
     let there = first.1 consistent was.rows in
-    let with = second (λ e. no-address (λ (it : Host). IsHostRow old.content it.id host it) host.name row old.content middle.content consistent first.0 there (was.rows ∙ none-found found is_new c.is_none-is_new.ensures e)) in
+    let with = second (λ e. no-address (λ (it : HostRow). IsHostRow old.content it.id host it) host.name row old.content middle.content consistent first.0 there (was.rows ∙ none-found found is_new c.is_none-is_new.ensures e)) in
     host-put old.content middle.content new.content host row consistent after (c.is_host.ensures.0 c.if-not-is_host.false) (found-right old.content host.name found was) there with)

@@ -1,10 +1,10 @@
 use Rattle.std.proofs.Common.{rules, FitsSigned, w64, to_z-of_z, ap, ◌∙◌}
-use Rattle.sqlterms.specs.Terms.{count_in, days_in, days_made}
+use Rattle.sqlterms.specs.Terms.{count_in, days_made}
 use Rattle.sqlterms.proofs.counts.days_of.Goals as goal
 
 pub returns : goal.returns
 returns c =
-    let r = c.row.inside in
+    let r = c.args.row.now in
     let add : FitsSigned w64 r.days_add = search rules in
     let auto_renew : FitsSigned w64 r.days_auto_renew = search rules in
     let renew : FitsSigned w64 r.days_renew = search rules in
@@ -25,4 +25,3 @@ returns c =
     ((c.count_of_column-7.ensures ∙ ap count_in (to_z-of_z pending_delete)) i)
     ((c.count_of_column-8.ensures ∙ ap count_in (to_z-of_z answer)) i)
     ((c.count_of_column-9.ensures ∙ ap count_in (to_z-of_z lock)) i))
-    ∙ ap days_in c.row.view_is

@@ -1,4 +1,4 @@
-use Rattle.std.proofs.Common.{string_bytes, sym, ap, ◌∙◌}
+use Rattle.std.proofs.Common.{sym, ap, ◌∙◌}
 use Rattle.sqlite_keyed.specs.Keyed.{insert_by}
 use Rattle.sqltables.specs.Content.{Content}
 use Rattle.sqltables.specs.inner.Content.{metas_to}
@@ -20,8 +20,8 @@ returns g c =
     let xs : Content = c.args.store.now.content in
     became-through ArePutBeside _ (λ xs. metas_to (λ rows. insert_by metas.key rows row) xs) c.args.store.now c.maybe_meta.new.store c.put_meta.new.self c.put_beside.new.store c.terms.new.store
     e.0 written beside read.0
-    (λ clean put. terms_are_set xs c.put_beside.new.store.content c.in_ok-meta.meta c.args.value.now (string_bytes c.in_ok-labels.labels) row first_moment
+    (λ clean put. terms_are_set xs c.put_beside.new.store.content c.in_ok-meta.meta c.args.value.now c.in_ok-labels.labels row first_moment
     (e.1 (written.clean (beside.clean (read.0.clean clean))))
-    (c.in_ok-row.ensures {u = tt} ∙ ap (with_terms c.args.value.now (string_bytes c.in_ok-labels.labels)) c.meta_or_new.ensures)
+    (c.in_ok-row.ensures {u = tt} ∙ ap (with_terms c.args.value.now c.in_ok-labels.labels) c.meta_or_new.ensures)
     put
     (sym (read.1 clean) ∙ c.are-same.ensures.0 c.if-not-same.false))
