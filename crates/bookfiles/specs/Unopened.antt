@@ -15,7 +15,7 @@ use Rattle.registry.specs.Calls.{IsRefused}
 use Rattle.registry.specs.declared.fault.OpenFault.{OpenFault}
 use Rattle.registry.specs.declared.fault.OpenFault.TheVariants as refusals
 use Rattle.runs.specs.Crashes.{Happened, Happens, crash, opening}
-use Rattle.runs.specs.CrashLaws.{refusal_of}
+use Rattle.runs.specs.CrashLaws.{refusal_event}
 use Rattle.books.specs.Book.{BookState, Stored, may_leave}
 use Rattle.sqltables.specs.Adoption.{IsAdopted, LeavesAsFound}
 use Rattle.sqltables.specs.Content.{Content}
@@ -129,4 +129,4 @@ RefusalsAreEvents {D} g =
     (files : Files D) (old : BookState) (image : Image) (p : PolicyRules) (fault : OpenFault) (new : BookState)
     → IsLeftIn g files old → old.is_honest ≡ true → outcomes g files.log files.db image
     → IsRefusedIn image p fault new → (left : Remains Stored) → may_leave new left
-    → Happened (crash ∷ refusal_of fault (opening p) ∷ []) old new
+    → Happened (crash ∷ refusal_event fault (opening p) ∷ []) old new

@@ -5,17 +5,17 @@ use Rattle.std.specs.Str.{is_utf8}
 use Rattle.std.proofs.lemmas.Str.{IsUtf8-from_is_utf8, is_utf8-from_IsUtf8}
 use Rattle.serde_json.specs.Data.{Data}
 use Rattle.serde_json.specs.Read.{read}
-use Rattle.eppcommands.specs.Command.{value_in}
+use Rattle.eppcommands.specs.Command.{payload_value}
 use Rattle.eppcommands.specs.Order.{order_in, order_of_data}
 
-pub well_read : (payload : List ℕ) (d : Data) → IsUtf8 payload → read payload ≡ Some d → value_in payload ≡ Some d
+pub well_read : (payload : List ℕ) (d : Data) → IsUtf8 payload → read payload ≡ Some d → payload_value payload ≡ Some d
 well_read payload d text found = ap (λ (b : Bool). cond b (read payload) None) (is_utf8-from_IsUtf8 payload text) ∙ found
 
 none_read : (payload : List ℕ) (b : Bool) → is_utf8 payload ≡ b → (IsUtf8 payload → read payload ≡ None) → cond b (read payload) None ≡ None
 none_read payload true e none = none (IsUtf8-from_is_utf8 payload e)
 none_read payload false e none = refl
 
-pub not_read : (payload : List ℕ) → (IsUtf8 payload → read payload ≡ None) → value_in payload ≡ None
+pub not_read : (payload : List ℕ) → (IsUtf8 payload → read payload ≡ None) → payload_value payload ≡ None
 not_read payload none = none_read payload (is_utf8 payload) refl none
 
 -- the same of the operator's

@@ -30,9 +30,9 @@ command_of_json None = Bad None SyntaxError
 command_of_json (Some d) = command_of_data d
 
 -- the JSON value that a payload is, if it is one
-abbrev pub value_in : List ℕ → Option Data
-value_in payload = if is_utf8 payload then read payload else None
+abbrev pub payload_value : List ℕ → Option Data
+payload_value payload = if is_utf8 payload then read payload else None
 
 -- which command a payload is
 abbrev pub command_in : List ℕ → Command
-command_in payload = command_of_json (value_in payload)
+command_in payload = command_of_json (payload_value payload)

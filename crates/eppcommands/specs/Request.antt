@@ -22,36 +22,36 @@ poll_ack d = do
   Ok (PollAck id)
 
 -- hello and login are nothing that a registry is asked
-abbrev pub request_of : CommandKind → Data → Result Request FormFault
-request_of kinds.Hello d = Err UseError
-request_of kinds.Login d = Err UseError
-request_of kinds.Logout d = Ok Logout
-request_of kinds.Balance d = Ok Balance
-request_of kinds.CheckContact d = check_contact d
-request_of kinds.CheckDomain d = check_domain d
-request_of kinds.CheckHost d = check_host d
-request_of kinds.InfoContact d = info_contact d
-request_of kinds.InfoDomain d = info_domain d
-request_of kinds.InfoHost d = info_host d
-request_of kinds.CreateContact d = create_contact d
-request_of kinds.CreateDomain d = create_domain d
-request_of kinds.CreateHost d = create_host d
-request_of kinds.DeleteContact d = delete_contact d
-request_of kinds.DeleteDomain d = delete_domain d
-request_of kinds.DeleteHost d = delete_host d
-request_of kinds.UpdateContact d = update_contact d
-request_of kinds.UpdateDomain d = update_domain d
-request_of kinds.UpdateHost d = update_host d
-request_of kinds.RenewDomain d = renew_domain d
-request_of kinds.RequestRestore d = request_restore d
-request_of kinds.ReportRestore d = report_restore d
-request_of (kinds.TransferContact op) d = transfer_contact op d
-request_of (kinds.TransferDomain op) d = transfer_domain op d
-request_of kinds.PollRequest d = Ok PollRequest
-request_of kinds.PollAck d = poll_ack d
+abbrev pub request_of_kind : CommandKind → Data → Result Request FormFault
+request_of_kind kinds.Hello d = Err UseError
+request_of_kind kinds.Login d = Err UseError
+request_of_kind kinds.Logout d = Ok Logout
+request_of_kind kinds.Balance d = Ok Balance
+request_of_kind kinds.CheckContact d = check_contact d
+request_of_kind kinds.CheckDomain d = check_domain d
+request_of_kind kinds.CheckHost d = check_host d
+request_of_kind kinds.InfoContact d = info_contact d
+request_of_kind kinds.InfoDomain d = info_domain d
+request_of_kind kinds.InfoHost d = info_host d
+request_of_kind kinds.CreateContact d = create_contact d
+request_of_kind kinds.CreateDomain d = create_domain d
+request_of_kind kinds.CreateHost d = create_host d
+request_of_kind kinds.DeleteContact d = delete_contact d
+request_of_kind kinds.DeleteDomain d = delete_domain d
+request_of_kind kinds.DeleteHost d = delete_host d
+request_of_kind kinds.UpdateContact d = update_contact d
+request_of_kind kinds.UpdateDomain d = update_domain d
+request_of_kind kinds.UpdateHost d = update_host d
+request_of_kind kinds.RenewDomain d = renew_domain d
+request_of_kind kinds.RequestRestore d = request_restore d
+request_of_kind kinds.ReportRestore d = report_restore d
+request_of_kind (kinds.TransferContact op) d = transfer_contact op d
+request_of_kind (kinds.TransferDomain op) d = transfer_domain op d
+request_of_kind kinds.PollRequest d = Ok PollRequest
+request_of_kind kinds.PollAck d = poll_ack d
 
 -- the request of a payload's JSON, or the first fault of its form
 unfoldable pub request_in : Data → Result Request FormFault
 request_in d = do
   command ← checked_command d
-  request_of command d
+  request_of_kind command d

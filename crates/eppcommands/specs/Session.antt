@@ -17,7 +17,7 @@ use Rattle.eppforms.specs.Form.{◌>>=◌, checked_command, refuse_unless}
 use Rattle.eppforms.specs.Kind.{some_and}
 use Rattle.eppforms.specs.Member.{word_at}
 use Rattle.eppforms.specs.Table.{verb_text}
-use Rattle.eppcommands.specs.Command.{cl_trid_in, command_of_data, value_in}
+use Rattle.eppcommands.specs.Command.{cl_trid_in, command_of_data, payload_value}
 use Rattle.eppcommands.specs.Reading.{text_at}
 
 -- `cmd` says this
@@ -43,7 +43,7 @@ in_session_of (Some d) = said_in_session d
 
 -- what a payload says in a session
 abbrev pub in_session : List ℕ → InSession
-in_session payload = in_session_of (value_in payload)
+in_session payload = in_session_of (payload_value payload)
 
 -- ---- before a registrar is logged in
 
@@ -74,4 +74,4 @@ before_login_of (Some d) = said_before_login d
 
 -- what a payload says before a registrar is logged in
 abbrev pub before_login : List ℕ → BeforeLogin
-before_login payload = before_login_of (value_in payload)
+before_login payload = before_login_of (payload_value payload)

@@ -26,7 +26,7 @@ pub fn command_of(alloc: Global, payload: &[u8]) -> Result<Command, AllocError>
 
 /// The JSON value that a payload is, if it is one.
 pub(crate) fn value_in(alloc: Global, payload: &[u8]) -> Result<Option<Value>, AllocError>
-    ensures { IfOk result (λ value. option_map view value ≡ spec.value_in payload.now) }
+    ensures { IfOk result (λ value. option_map view value ≡ spec.payload_value payload.now) }
 {
     match Value::from_slice(alloc, payload) {
         Ok(value) => Ok(Some(value)),

@@ -14,7 +14,7 @@ use Rattle.eppforms.specs.declared.table.Choice.{Choice}
 use Rattle.eppforms.specs.declared.table.CommandKind.{CommandKind}
 use Rattle.eppforms.specs.declared.table.Field.{Field}
 use Rattle.eppforms.specs.Kind.{some_and, of_items, has_type, in_range, has_shape}
-use Rattle.eppforms.specs.Member.{text_of, is_section, word_at, part_at, value_of}
+use Rattle.eppforms.specs.Member.{member_text, is_section, word_at, part_at, value_of}
 use Rattle.eppforms.specs.declared.table.Op.{Op}
 use Rattle.eppforms.specs.Table.{CommandForm, command_forms, verb_text, op_text, is_update}
 use Rattle.protocol.specs.Texts.{object_text}
@@ -39,9 +39,9 @@ abbrev pub takes_object : {M : Type 0} → List (Choice × M) → List ℕ → B
 takes_object forms cmd = list_any (λ form. bytes_eq (verb_text form.0.cmd) cmd && is_some form.0.object) forms
 
 -- `obj` says the kind of object, where there has to be one
-abbrev pub is_on : Option ObjectKind → Option (List ℕ) → Bool
-is_on None obj = true
-is_on (Some object) obj = some_and (bytes_eq (object_text object)) obj
+abbrev pub says_object : Option ObjectKind → Option (List ℕ) → Bool
+says_object None obj = true
+says_object (Some object) obj = some_and (bytes_eq (object_text object)) obj
 
 -- `op` says the operation, where the form has one
 abbrev pub is_for : Option Op → Option (List ℕ) → Bool
@@ -50,7 +50,7 @@ is_for (Some the_op) op = some_and (bytes_eq (op_text the_op)) op
 
 -- `cmd`, `obj` and `op` say the form
 abbrev pub is_chosen : Choice → List ℕ → Option (List ℕ) → Option (List ℕ) → Bool
-is_chosen choice cmd obj op = bytes_eq (verb_text choice.cmd) cmd && (is_on choice.object obj && is_for choice.op op)
+is_chosen choice cmd obj op = bytes_eq (verb_text choice.cmd) cmd && (says_object choice.object obj && is_for choice.op op)
 
 -- the first of which that is so
 abbrev pub chosen : {M : Type 0} → List (Choice × M) → List ℕ → Option (List ℕ) → Option (List ℕ) → Option (Choice × M)
@@ -76,7 +76,8 @@ members_in (Some ms) = members_list ms
 
 -- a member is a field of the section, and has its JSON type
 unfoldable pub is_field : List Field → Section → List ℕ → Data → Bool
-is_field fields section name d = list_any (λ f. is_section f.section section && (bytes_eq (text_of f.member) name && has_type f.kind d)) fields
+is_field fields section name d =
+    list_any (λ f. is_section f.section section && (bytes_eq (member_text f.member) name && has_type f.kind d)) fields
 
 -- each member of the part is such a field
 unfoldable pub knows : List Field → Section → Data → Bool
@@ -91,11 +92,11 @@ abbrev pub has_only : List Field → Data → Bool
 has_only fields d = list_all (λ section. none_or (knows fields section) (part_at section d)) (Top ∷ Postal ∷ Add ∷ Rem ∷ Chg ∷ ChgPostal ∷ [])
 
 -- a required field is there, where its section is
-abbrev pub is_there : Field → Data → Bool
-is_there f d = not f.required || (is_none (part_at f.section d) || is_some (value_of f d))
+abbrev pub is_field_there : Field → Data → Bool
+is_field_there f d = not f.required || (is_none (part_at f.section d) || is_some (value_of f d))
 
 abbrev pub has_all : List Field → Data → Bool
-has_all fields d = list_all (λ f. is_there f d) fields
+has_all fields d = list_all (λ f. is_field_there f d) fields
 
 abbrev pub is_empty_list : Data → Bool
 is_empty_list d = of_items (λ ds. length ds == 0) d

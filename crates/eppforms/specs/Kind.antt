@@ -42,12 +42,12 @@ is_digit b = nat_le 48 b && nat_le b 57
 abbrev pub is_number : ℕ → List ℕ → Bool
 is_number most text = within (record { least = 1; most = most }) (length text) && list_all is_digit text
 
-abbrev pub is_dot : ℕ → Bool
-is_dot b = b == 46
+abbrev pub is_separator : ℕ → Bool
+is_separator b = b == 46
 
 -- what comes before the first dot is a country's number, what follows it a subscriber's
 abbrev pub is_dialled : List ℕ → Bool
-is_dialled text = some_and (λ dot. is_number 3 (take dot text) && is_number 14 (drop (suc dot) text)) (position is_dot text)
+is_dialled text = some_and (λ dot. is_number 3 (take dot text) && is_number 14 (drop (suc dot) text)) (position is_separator text)
 
 -- a telephone number: plus, up to three digits, a dot, up to fourteen digits (RFC 5733, 2.5)
 abbrev pub is_voice : List ℕ → Bool
@@ -59,8 +59,8 @@ text_fits Country text = is_country text
 text_fits Voice text = is_voice text
 text_fits shape text = list_all (byte_fits shape) text
 
-abbrev pub is_text : Data → Bool
-is_text d = is_some (as_str d)
+abbrev pub is_string : Data → Bool
+is_string d = is_some (as_str d)
 
 abbrev pub text_within : Limits → Data → Bool
 text_within len d = some_and (λ t. within len (length t)) (as_str d)
@@ -79,8 +79,8 @@ of_items test d = some_and (λ ds. test (items_list ds)) (as_array d)
 
 -- the JSON type
 abbrev pub has_type : Kind → Data → Bool
-has_type (Text len shape) d = is_text d
-has_type (Texts count len shape) d = of_items (list_all is_text) d
+has_type (Text len shape) d = is_string d
+has_type (Texts count len shape) d = of_items (list_all is_string) d
 has_type (Whole limits) d = some_and (λ n. not (is_float n)) (as_number d)
 has_type Parts d = is_some (as_object d)
 

@@ -96,7 +96,7 @@ fn is_chosen(choice: Choice, cmd: &str, obj: Option<&str>, op: Option<&str>) -> 
 
 /// Whether `obj` says the kind of object, where there has to be one.
 fn is_on(object: Option<ObjectKind>, obj: Option<&str>) -> bool
-    ensures { result ≡ spec.is_on object (option_map (λ s. s.now) obj.entry) }
+    ensures { result ≡ spec.says_object object (option_map (λ s. s.now) obj.entry) }
 {
     match (object, obj) {
         (None, _) => true,
@@ -230,7 +230,7 @@ pub fn has_all(fields: &[Field], value: &Value) -> bool
 }
 
 fn is_there(field: Field, value: &Value) -> bool
-    ensures { result ≡ spec.is_there field (view value.now) }
+    ensures { result ≡ spec.is_field_there field (view value.now) }
 {
     !field.required || part(value, field.section).is_none() || found(value, field).is_some()
 }

@@ -96,7 +96,7 @@ fn is_dialled(text: &[u8]) -> bool
 }
 
 fn first_dot(text: &[u8]) -> Option<usize>
-    ensures first { result ≡ position spec.is_dot text.now }
+    ensures first { result ≡ position spec.is_separator text.now }
     ensures within { IfSome result (λ dot. dot < length text.now) }
 {
     text.iter().position(|byte| *byte == b'.')
@@ -183,7 +183,7 @@ impl Kind {
 }
 
 fn all_texts(items: &[Value]) -> bool
-    ensures { result ≡ list_all (λ v. spec.is_text (view v)) items.now }
+    ensures { result ≡ list_all (λ v. spec.is_string (view v)) items.now }
 {
     items.iter().all(|item| item.is_string())
 }

@@ -50,7 +50,7 @@ pub enum Member {
 impl Member {
     /// The member's name in the object.
     pub fn text(self) -> &'static str
-        ensures { result.now ≡ spec.text_of self }
+        ensures { result.now ≡ spec.member_text self }
     {
         match self {
             Member::Cmd => "cmd",

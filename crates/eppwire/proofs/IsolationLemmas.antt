@@ -13,7 +13,7 @@ use Rattle.protocol.specs.declared.session.InSession.TheVariants.{Hello, Ordinar
 use Rattle.decisions.specs.Steps.{answer}
 use Rattle.frames.specs.Outcomes.{Outcome, replied, ended, framed, has_frame, sent}
 use Rattle.books.specs.Book.{BookState}
-use Rattle.eppwire.specs.Answers.{AnswersSaid, Tells, greeting_outcome, is_last, reply_outcome}
+use Rattle.eppwire.specs.Answers.{AnswersSaid, IsSentOrLost, greeting_outcome, is_last, reply_outcome}
 use Rattle.eppwire.specs.Isolation.{FramesAreIsolated, IsFixed, text_sent, view_saying}
 
 framed_is : (text : List ℕ) (fits : Bool) → IsFixed (cond fits text closing_text) ⊎ (cond fits text closing_text ≡ text)
@@ -21,7 +21,7 @@ framed_is text true = inr refl
 framed_is text false = inl (inr refl)
 
 -- what is sent where a text was to be sent
-sent-text : (wanted outcome : Outcome) (text : List ℕ) → Tells wanted outcome → sent wanted ≡ framed text → IsFixed (sent outcome) ⊎ (sent outcome ≡ text)
+sent-text : (wanted outcome : Outcome) (text : List ℕ) → IsSentOrLost wanted outcome → sent wanted ≡ framed text → IsFixed (sent outcome) ⊎ (sent outcome ≡ text)
 sent-text wanted outcome text (inl e) s = rw (e, s) (framed_is text (has_frame text))
 sent-text wanted outcome text (inr e) s = inl (inr (ap sent e))
 

@@ -12,7 +12,7 @@ use Rattle.registry.specs.declared.fault.Fault.{Fault}
 use Rattle.registry.specs.declared.fault.Fault.TheVariants as faults
 use Rattle.frames.specs.Outcomes.{Outcome, sent}
 use Rattle.books.specs.Book.{BookState}
-use Rattle.eppwire.specs.Answers.{AnswersSaid, GivesUp}
+use Rattle.eppwire.specs.Answers.{AnswersSaid, FailsToAnswer}
 use Rattle.eppwire.specs.Late.{LateFramesFail}
 
 by_test : (late : Bool) (moment : ℕ) → nat_lt last_call moment ≡ late → (last_call < moment → ⊥) → moment ≤ last_call
@@ -33,7 +33,7 @@ answered_in_time (Err fault) moment late = tt
 abbrev IsRefused : BookState → Outcome → BookState → Type 0
 IsRefused old outcome new = (sent outcome ≡ failed_text) × IsUnchanged old new
 
-refused : (old new : BookState) (outcome : Outcome) → GivesUp old outcome new → IsRefused old outcome new
+refused : (old new : BookState) (outcome : Outcome) → FailsToAnswer old outcome new → IsRefused old outcome new
 refused old new outcome gives = (ap sent gives.0, gives.1)
 
 never : (moment : ℕ) → moment ≤ last_call → last_call < moment → ⊥

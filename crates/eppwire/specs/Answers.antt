@@ -26,8 +26,8 @@ use Rattle.books.specs.Book.{BookState, Follows}
 -- ---- replies
 
 -- an answer's text is sent, unless it finds no memory
-abbrev pub Tells : Outcome → Outcome → Type 0
-Tells wanted outcome = (outcome ≡ wanted) ⊎ (outcome ≡ lost)
+abbrev pub IsSentOrLost : Outcome → Outcome → Type 0
+IsSentOrLost wanted outcome = (outcome ≡ wanted) ⊎ (outcome ≡ lost)
 
 -- the session ends with it (RFC 5730, 3: 1500)
 abbrev pub is_last : Code → Bool
@@ -61,15 +61,15 @@ pub record IsServed (p : PolicyRules) (r : ℕ) (c : Command) (moment : ℕ) (ol
   pub isolation : Isolates p r c moment reply old new
   pub bytes : SameBytes p r c moment reply old new
   pub follows : Follows old new
-  pub answer_is : Tells (reply_outcome reply) outcome
+  pub answer_is : IsSentOrLost (reply_outcome reply) outcome
 
 -- or it can't be carried out, and then nothing is changed
-abbrev pub GivesUp : BookState → Outcome → BookState → Type 0
-GivesUp old outcome new = (outcome ≡ failed) × IsUnchanged old new × Follows old new
+abbrev pub FailsToAnswer : BookState → Outcome → BookState → Type 0
+FailsToAnswer old outcome new = (outcome ≡ failed) × IsUnchanged old new × Follows old new
 
 abbrev pub AnswersCommand : PolicyRules → ℕ → Command → ℕ → BookState → Outcome → BookState → Type 0
 AnswersCommand p r c moment old outcome new =
-    GivesUp old outcome new ⊎ IsServed p r c moment old outcome new
+    FailsToAnswer old outcome new ⊎ IsServed p r c moment old outcome new
 
 -- hello is answered with the registry's clock
 pub record IsGreeted (p : PolicyRules) (moment : ℕ) (old : BookState) (outcome : Outcome) (new : BookState) : Type 0 where
@@ -77,10 +77,10 @@ pub record IsGreeted (p : PolicyRules) (moment : ℕ) (old : BookState) (outcome
   pub early : moment ≤ last_call
   pub step : Greets p moment date old new
   pub follows : Follows old new
-  pub answer_is : Tells (greeting_outcome date) outcome
+  pub answer_is : IsSentOrLost (greeting_outcome date) outcome
 
 abbrev pub AnswersHello : PolicyRules → ℕ → BookState → Outcome → BookState → Type 0
-AnswersHello p moment old outcome new = GivesUp old outcome new ⊎ IsGreeted p moment old outcome new
+AnswersHello p moment old outcome new = FailsToAnswer old outcome new ⊎ IsGreeted p moment old outcome new
 
 abbrev pub AnswersSaid : PolicyRules → ℕ → InSession → ℕ → BookState → Outcome → BookState → Type 0
 AnswersSaid p r within.Hello moment old outcome new = AnswersHello p moment old outcome new
@@ -90,7 +90,7 @@ AnswersSaid p r (within.Ordinary c) moment old outcome new =
 abbrev pub AnswersRegistrar : PolicyRules → ℕ → List ℕ → ℕ → BookState → Outcome → BookState
     → Type 0
 AnswersRegistrar p r payload moment old outcome new =
-    GivesUp old outcome new ⊎ AnswersSaid p r (in_session payload) moment old outcome new
+    FailsToAnswer old outcome new ⊎ AnswersSaid p r (in_session payload) moment old outcome new
 
 -- ---- before a registrar is logged in
 
@@ -113,7 +113,7 @@ login_code p passwords c =
     else UnimplementedVersion
 
 pub record AnswersLogin (p : PolicyRules) (passwords : List (List ℕ)) (cl_trid : Option (List ℕ)) (c : Credentials) (outcome : Outcome) (caller : Option ℕ) : Type 0 where
-  pub answer_is : Tells (anonymous_outcome cl_trid (login_code p passwords c)) outcome
+  pub answer_is : IsSentOrLost (anonymous_outcome cl_trid (login_code p passwords c)) outcome
   pub logged_in : caller ≡ caller_of p passwords c
 
 -- what comes before a login is no step of the registry, but for hello
@@ -124,12 +124,12 @@ AnswersSaidBeforeLogin p passwords before.Hello moment old outcome new caller =
 AnswersSaidBeforeLogin p passwords (before.Login cl_trid c) moment old outcome new caller =
     AnswersLogin p passwords cl_trid c outcome caller × (new ≡ old)
 AnswersSaidBeforeLogin p passwords (before.Refused cl_trid fault) moment old outcome new caller =
-    Tells (anonymous_outcome cl_trid (code_of_form fault)) outcome × (new ≡ old) × (caller ≡ None)
+    IsSentOrLost (anonymous_outcome cl_trid (code_of_form fault)) outcome × (new ≡ old) × (caller ≡ None)
 
 abbrev pub AnswersBeforeLogin : PolicyRules → List (List ℕ) → List ℕ → ℕ → BookState → Outcome
     → BookState → Option ℕ → Type 0
 AnswersBeforeLogin p passwords payload moment old outcome new caller =
-    (GivesUp old outcome new × (caller ≡ None))
+    (FailsToAnswer old outcome new × (caller ≡ None))
     ⊎ AnswersSaidBeforeLogin p passwords (before_login payload) moment old outcome new caller
 
 -- ---- a connection

@@ -8,7 +8,7 @@ use Rattle.model.specs.Lapse.{lapsed}
 use Rattle.model.specs.Registry.{Registry}
 use Rattle.model.specs.View.{View, view, view_for}
 use Rattle.policy.specs.Rules.{PolicyRules, password_at, place_of}
-use Rattle.isolation.specs.Alike.{Pair, AreAlike, firsts, seconds}
+use Rattle.isolation.specs.Alike.{Pair, AreAlikeInTurn, firsts, seconds}
 use Rattle.isolation.specs.Laws.{none}
 use Rattle.isolation.specs.Runs.{Answer, code, dated, inspected, reply, shown, answers_to}
 use Rattle.protocol.specs.declared.session.Credentials.{Credentials}
@@ -61,16 +61,16 @@ LoginsAreIsolated =
 -- ---- over whole runs
 
 -- what is sent of an answer to what a registrar may have asked
-abbrev pub text_of : Answer → List ℕ
-text_of (reply it) = reply_text it
-text_of (code it) = []
-text_of (dated moment) = greeting_text moment
-text_of (shown part) = []
-text_of (inspected s) = []
+abbrev pub sent_text : Answer → List ℕ
+sent_text (reply it) = reply_text it
+sent_text (code it) = []
+sent_text (dated moment) = greeting_text moment
+sent_text (shown part) = []
+sent_text (inspected s) = []
 
 -- Two lists of calls that differ in nothing but what others than the registrar hide tell it the same texts,
 -- byte for byte, one after another.
 abbrev pub AlikeListsSendTheSame : Type 0
 AlikeListsSendTheSame =
-    (p : PolicyRules) (r : ℕ) (pairs : List (ℕ × Pair)) (s : Registry) → AreAlike p r none pairs s s
-    → map text_of (answers_to p r (firsts pairs) s) ≡ map text_of (answers_to p r (seconds pairs) s)
+    (p : PolicyRules) (r : ℕ) (pairs : List (ℕ × Pair)) (s : Registry) → AreAlikeInTurn p r none pairs s s
+    → map sent_text (answers_to p r (firsts pairs) s) ≡ map sent_text (answers_to p r (seconds pairs) s)

@@ -72,7 +72,7 @@ fn answer_command<B: Book + Drop>(
 
 /// The reply to a command, which may be the last of its session.
 fn reply_answer(alloc: Global, reply: &Reply) -> Answer
-    ensures { spec.Tells (spec.reply_outcome reply.now) (outcome_of result) }
+    ensures { spec.IsSentOrLost (spec.reply_outcome reply.now) (outcome_of result) }
 {
     match reply_bytes(alloc, reply) {
         Ok(text) if is_last(reply.code) => Answer::LastReply(text),
@@ -101,7 +101,7 @@ fn answer_hello<B: Book + Drop>(alloc: Global, registry: &mut Registry<B>, momen
 }
 
 fn greeting(alloc: Global, date: Moment) -> Answer
-    ensures { spec.Tells (spec.greeting_outcome date) (outcome_of result) }
+    ensures { spec.IsSentOrLost (spec.greeting_outcome date) (outcome_of result) }
 {
     match greeting_bytes(alloc, date) {
         Ok(text) => Answer::Reply(text),
@@ -179,7 +179,7 @@ fn is_our_version(version: &Text) -> bool
 
 /// A reply for which no command is counted.
 fn anonymous_answer(alloc: Global, cl_trid: &Option<Text>, code: Code) -> Answer
-    ensures { spec.Tells (spec.anonymous_outcome cl_trid.now code) (outcome_of result) }
+    ensures { spec.IsSentOrLost (spec.anonymous_outcome cl_trid.now code) (outcome_of result) }
 {
     match anonymous_reply_bytes(alloc, cl_trid, code) {
         Ok(text) => Answer::Reply(text),

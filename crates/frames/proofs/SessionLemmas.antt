@@ -7,7 +7,7 @@ use Rattle.frames.specs.Frames.{frame, Takes, Ending, Splits, bad_length}
 use Rattle.frames.specs.Texts.{closing_text}
 use Rattle.frames.proofs.SplitLemmas.{begins}
 use Rattle.frames.specs.Outcomes.{Outcome, replied, ended, failed, lost, has_frame, sent, end_with}
-use Rattle.frames.specs.Sessions.{SessionState, Turn, IsTurn, Run, frames, Rests, IsAt, Ends, Session, Writes}
+use Rattle.frames.specs.Sessions.{SessionState, Turn, IsTurn, Run, frames, Rests, IsAtEnding, EndsSession, Session, WritesFrames}
 use Rattle.streams.specs.Moves.{AppendsLess}
 use Rattle.frames.specs.declared.session.SessionEnd.{SessionEnd}
 use Rattle.frames.specs.declared.session.SessionEnd.TheVariants.{Logout, WriteFault, Lost}
@@ -42,15 +42,15 @@ module _ {S : Type 0} (answers : S → ℕ → List ℕ → Outcome → S → Ty
   Run-more (t ∷ ts) turn before middle after run is on = (run.0, run.1, run.2, Run-more ts turn run.1 middle after run.3 is on)
 
   pub Ends-turn : (end : SessionEnd) (turns : List Turn) (turn : Turn) (before after : SessionState S) → IsTurn answers turn before after → end_with turn.outcome ≡ Some end
-      → Ends answers end turns before (frame (sent turn.outcome)) after
+      → EndsSession answers end turns before (frame (sent turn.outcome)) after
   Ends-turn end turns turn before after is e = by_end (last_end turn.outcome end e)
     where
-      by_end : IsLastEnd end → Ends answers end turns before (frame (sent turn.outcome)) after
+      by_end : IsLastEnd end → EndsSession answers end turns before (frame (sent turn.outcome)) after
       by_end (inl l) = rw l (turn, is, rw l at e, refl)
       by_end (inr l) = rw l (inl (turn, is, rw l at e, refl))
 
   pub ends_session : (end : SessionEnd) (turns : List Turn) (before middle after : SessionState S) (last : List ℕ) (a b c : Option (List ℕ)) → Run answers turns before middle
-      → Ends answers end turns middle last after → Appends a b (frames turns) → Appends b c last → Writes a c (λ (w : List ℕ). Session answers before w after end)
+      → EndsSession answers end turns middle last after → Appends a b (frames turns) → Appends b c last → WritesFrames a c (λ (w : List ℕ). Session answers before w after end)
   ends_session end turns before middle after last a b c run ends p q = (
     frames turns ++ last,
     Appends-trans a b c (frames turns) last p q,
@@ -58,14 +58,14 @@ module _ {S : Type 0} (answers : S → ℕ → List ℕ → Outcome → S → Ty
   )
 
   -- a write of the closing text fails
-  pub breaks_closing : (turns : List Turn) (before middle after : SessionState S) (a b c : Option (List ℕ)) → Run answers turns before middle → (IsAt bad_length middle ⊎ (turns ≡ [])) → Rests middle after
-      → Appends a b (frames turns) → AppendsLess b c (frame closing_text) → Writes a c (λ (w : List ℕ). Session answers before w after WriteFault)
+  pub breaks_closing : (turns : List Turn) (before middle after : SessionState S) (a b c : Option (List ℕ)) → Run answers turns before middle → (IsAtEnding bad_length middle ⊎ (turns ≡ [])) → Rests middle after
+      → Appends a b (frames turns) → AppendsLess b c (frame closing_text) → WritesFrames a c (λ (w : List ℕ). Session answers before w after WriteFault)
   breaks_closing turns before middle after a b c run why rests p (n, less, q) =
       ends_session WriteFault turns before middle after (take n (frame closing_text)) a b c run (inr (why, rests, (n, less, refl))) p q
 
   -- a write of a reply fails
   pub breaks_turn : (turns : List Turn) (turn : Turn) (before middle after : SessionState S) (a b c : Option (List ℕ)) → Run answers turns before middle → IsTurn answers turn middle after
-      → Appends a b (frames turns) → AppendsLess b c (frame (sent turn.outcome)) → Writes a c (λ (w : List ℕ). Session answers before w after WriteFault)
+      → Appends a b (frames turns) → AppendsLess b c (frame (sent turn.outcome)) → WritesFrames a c (λ (w : List ℕ). Session answers before w after WriteFault)
   breaks_turn turns turn before middle after a b c run is p (n, less, q) =
       ends_session WriteFault turns before middle after (take n (frame (sent turn.outcome))) a b c run (inl (turn, is, (n, less, refl))) p q
 

@@ -47,25 +47,26 @@ pub record Rests {S : Type 0} (before after : SessionState S) : Type 0 where
   pub peer : after.peer ≡ before.peer
 
 -- what is left of the input is such an ending
-abbrev pub IsAt : {S : Type 0} → Ending → SessionState S → Type 0
-IsAt ending state = IfSome state.input (λ input. front input ≡ over ending)
+abbrev pub IsAtEnding : {S : Type 0} → Ending → SessionState S → Type 0
+IsAtEnding ending state = IfSome state.input (λ input. front input ≡ over ending)
 
 -- What a session writes last, and its state then, after a run of these turns.
-abbrev pub Ends : {S : Type 0} → (S → ℕ → List ℕ → Outcome → S → Type 0) → SessionEnd → List Turn → SessionState S → List ℕ → SessionState S → Type 0
-Ends answers End turns before last after = IsAt closed before × (last ≡ []) × Rests before after
-Ends answers Cut turns before last after = IsAt cut before × (last ≡ []) × Rests before after
-Ends answers Length turns before last after = IsAt bad_length before × (last ≡ frame closing_text) × Rests before after
-Ends answers Logout turns before last after =
+abbrev pub EndsSession : {S : Type 0} → (S → ℕ → List ℕ → Outcome → S → Type 0) → SessionEnd → List Turn
+    → SessionState S → List ℕ → SessionState S → Type 0
+EndsSession answers End turns before last after = IsAtEnding closed before × (last ≡ []) × Rests before after
+EndsSession answers Cut turns before last after = IsAtEnding cut before × (last ≡ []) × Rests before after
+EndsSession answers Length turns before last after = IsAtEnding bad_length before × (last ≡ frame closing_text) × Rests before after
+EndsSession answers Logout turns before last after =
     (turn : Turn) × IsTurn answers turn before after × (end_with turn.outcome ≡ Some Logout) × (last ≡ frame (sent turn.outcome))
 -- a turn found no memory, or there was none for the first frame
-Ends answers Lost turns before last after =
+EndsSession answers Lost turns before last after =
     ((turn : Turn) × IsTurn answers turn before after × (end_with turn.outcome ≡ Some Lost) × (last ≡ frame (sent turn.outcome)))
     ⊎ ((turns ≡ []) × (last ≡ frame closing_text) × Rests before after)
-Ends answers ReadFault turns before last after = (last ≡ []) × Rests before after
+EndsSession answers ReadFault turns before last after = (last ≡ []) × Rests before after
 -- a beginning was written, and not all: of a turn's reply, or of the closing text
-Ends answers WriteFault turns before last after =
+EndsSession answers WriteFault turns before last after =
     ((turn : Turn) × IsTurn answers turn before after × IsLess last (frame (sent turn.outcome)))
-    ⊎ ((IsAt bad_length before ⊎ (turns ≡ [])) × Rests before after × IsLess last (frame closing_text))
+    ⊎ ((IsAtEnding bad_length before ⊎ (turns ≡ [])) × Rests before after × IsLess last (frame closing_text))
 
 -- A session: a run, and an end.
 pub record Session {S : Type 0} (answers : S → ℕ → List ℕ → Outcome → S → Type 0) (before : SessionState S) (written : List ℕ) (after : SessionState S) (end : SessionEnd) : Type 0 where
@@ -73,12 +74,12 @@ pub record Session {S : Type 0} (answers : S → ℕ → List ℕ → Outcome �
   pub reached : SessionState S
   pub last : List ℕ
   pub run : Run answers turns before reached
-  pub ends : Ends answers end turns reached last after
+  pub ends : EndsSession answers end turns reached last after
   pub bytes : written ≡ frames turns ++ last
 
 -- the known bytes grew by some that P holds of
-abbrev pub Writes : Option (List ℕ) → Option (List ℕ) → (List ℕ → Type 0) → Type 0
-Writes before after P = (written : List ℕ) × Appends before after written × P written
+abbrev pub WritesFrames : Option (List ℕ) → Option (List ℕ) → (List ℕ → Type 0) → Type 0
+WritesFrames before after P = (written : List ℕ) × Appends before after written × P written
 
 -- ---- which frames are taken
 

@@ -4,7 +4,7 @@ ghost use Rattle.std.specs.Io.KnownBytes.{Appends};
 ghost use Rattle.frames.specs.Frames.{frame};
 ghost use Rattle.frames.specs.Outcomes as spec;
 ghost use Rattle.frames.specs.Outcomes.{end_with, outcome_of, sent};
-ghost use Rattle.frames.specs.Sessions.{Session, Writes};
+ghost use Rattle.frames.specs.Sessions.{Session, WritesFrames};
 ghost use Rattle.streams.specs.Moves.{AppendsLess};
 
 use crate::peer::{Answer, Peer};
@@ -44,7 +44,7 @@ pub fn serve_session<R: Read, W: Write, C: Clock, P: Peer>(
     clock: &mut C,
     peer: &mut P,
 ) -> SessionEnd
-    ensures { Writes (W.contents writer.old) (W.contents writer.new) (λ written. Session P.answers
+    ensures { WritesFrames (W.contents writer.old) (W.contents writer.new) (λ written. Session P.answers
         (record { input = R.remaining reader.old; clock = C.moments clock.old; peer = peer.old }) written
         (record { input = R.remaining reader.new; clock = C.moments clock.new; peer = peer.new }) result) }
 {
@@ -62,10 +62,10 @@ fn serve_frames<R: Read, W: Write, C: Clock, P: Peer>(
     clock: &mut C,
     peer: &mut P,
 ) -> Result<SessionEnd, WriteFault>
-    ensures ended { IfOk result (λ end. Writes (W.contents writer.old) (W.contents writer.new) (λ written. Session P.answers
+    ensures ended { IfOk result (λ end. WritesFrames (W.contents writer.old) (W.contents writer.new) (λ written. Session P.answers
         (record { input = R.remaining reader.old; clock = C.moments clock.old; peer = peer.old }) written
         (record { input = R.remaining reader.new; clock = C.moments clock.new; peer = peer.new }) end)) }
-    ensures broken { OnErr result (Writes (W.contents writer.old) (W.contents writer.new) (λ written. Session P.answers
+    ensures broken { OnErr result (WritesFrames (W.contents writer.old) (W.contents writer.new) (λ written. Session P.answers
         (record { input = R.remaining reader.old; clock = C.moments clock.old; peer = peer.old }) written
         (record { input = R.remaining reader.new; clock = C.moments clock.new; peer = peer.new }) SessionEnd.WriteFault)) }
 {

@@ -4,10 +4,10 @@ use Rattle.model.specs.Lapse.{lapse, lapsed, now}
 use Rattle.model.specs.Registry.{Registry}
 use Rattle.model.proofs.LapseLaws.{lapses-on}
 use Rattle.policy.specs.Rules.{PolicyRules}
-use Rattle.isolation.specs.Alike.{AreAlike, Pair, deposits, first, firsts, hidden, same, second, seconds, touched_by}
+use Rattle.isolation.specs.Alike.{AreAlikeInTurn, Pair, deposits, first, firsts, hidden, same, second, seconds, touched_by}
 use Rattle.isolation.specs.Laws.{AlikeListsShowTheSame, AlikeListsTellTheSame, CallsAreStepsOfTwo, none}
 use Rattle.isolation.specs.Redaction.{Objects, AreOne, redacted}
-use Rattle.isolation.specs.Runs.{Answer, Question, answer_to, effect_of, is_asked_by, left_after, left_by, answers_to}
+use Rattle.isolation.specs.Runs.{Answer, Question, answer_to, effect_of, is_asked_by, left_after, left_by_question, answers_to}
 use Rattle.isolation.proofs.OwnLemmas.{same-public}
 use Rattle.isolation.proofs.StepLemmas.{pairs-step}
 use Rattle.isolation.proofs.RedactionLemmas.{same-clock}
@@ -22,25 +22,25 @@ told-by : (b : Bool) (x y : Answer) (xs ys : List Answer) → (b ≡ true → x 
 told-by true x y xs ys answered more = ap₂ (λ (a : Answer) (rest : List Answer). a ∷ rest) (answered refl) more
 told-by false x y xs ys answered more = more
 
-lists-tell : (p : PolicyRules) (r : ℕ) (touched : Objects) (pairs : List (ℕ × Pair)) (s t : Registry) → AreOne r touched s t → AreAlike p r touched pairs s t → answers_to p r (firsts pairs) s ≡ answers_to p r (seconds pairs) t
+lists-tell : (p : PolicyRules) (r : ℕ) (touched : Objects) (pairs : List (ℕ × Pair)) (s t : Registry) → AreOne r touched s t → AreAlikeInTurn p r touched pairs s t → answers_to p r (firsts pairs) s ≡ answers_to p r (seconds pairs) t
 lists-tell p r touched [] s t one alike = refl
 lists-tell p r touched (pair ∷ pairs) s t one alike =
     let found : AreOne r touched (lapsed p pair.0 s) (lapsed p pair.0 t) = lapsed-alike p r touched pair.0 s t one in
     let step = pairs-step p r touched pair.1 (lapsed p pair.0 s) (lapsed p pair.0 t) found alike.0 in
     told-by (is_asked_by r (first pair.1)) _ _ _ _ step.1
-    (lists-tell p r (touched_by p pair.1 (lapsed p pair.0 s) touched) pairs (left_by p (pair.0, first pair.1) s) (left_by p (pair.0, second pair.1) t) step.0 alike.1)
-    ∙ ap (λ (b : Bool). cond b (answer_to p (second pair.1) (lapsed p pair.0 t) ∷ answers_to p r (seconds pairs) (left_by p (pair.0, second pair.1) t)) (answers_to p r (seconds pairs) (left_by p (pair.0, second pair.1) t))) (same-asker r pair.1)
+    (lists-tell p r (touched_by p pair.1 (lapsed p pair.0 s) touched) pairs (left_by_question p (pair.0, first pair.1) s) (left_by_question p (pair.0, second pair.1) t) step.0 alike.1)
+    ∙ ap (λ (b : Bool). cond b (answer_to p (second pair.1) (lapsed p pair.0 t) ∷ answers_to p r (seconds pairs) (left_by_question p (pair.0, second pair.1) t)) (answers_to p r (seconds pairs) (left_by_question p (pair.0, second pair.1) t))) (same-asker r pair.1)
 
 pub alike-lists-tell-the-same : AlikeListsTellTheSame
 alike-lists-tell-the-same p s r pairs alike = lists-tell p r none pairs s s refl alike
 
 -- what they leave is one but for what was touched
-lists-leave : (p : PolicyRules) (r : ℕ) (touched : Objects) (pairs : List (ℕ × Pair)) (s t : Registry) → AreOne r touched s t → AreAlike p r touched pairs s t
+lists-leave : (p : PolicyRules) (r : ℕ) (touched : Objects) (pairs : List (ℕ × Pair)) (s t : Registry) → AreOne r touched s t → AreAlikeInTurn p r touched pairs s t
     → (more : Objects) × AreOne r more (left_after p (firsts pairs) s) (left_after p (seconds pairs) t)
 lists-leave p r touched [] s t one alike = (touched, one)
 lists-leave p r touched (pair ∷ pairs) s t one alike =
     let step = pairs-step p r touched pair.1 (lapsed p pair.0 s) (lapsed p pair.0 t) (lapsed-alike p r touched pair.0 s t one) alike.0 in
-    lists-leave p r (touched_by p pair.1 (lapsed p pair.0 s) touched) pairs (left_by p (pair.0, first pair.1) s) (left_by p (pair.0, second pair.1) t) step.0 alike.1
+    lists-leave p r (touched_by p pair.1 (lapsed p pair.0 s) touched) pairs (left_by_question p (pair.0, first pair.1) s) (left_by_question p (pair.0, second pair.1) t) step.0 alike.1
 
 pub alike-lists-show-the-same : AlikeListsShowTheSame
 alike-lists-show-the-same p r pairs s moment alike =

@@ -23,7 +23,7 @@ use Rattle.decisions.specs.declared.change.Change.TheVariants.{MoveClock, OpenAc
 use Rattle.decisions.specs.Decisions.{or_old}
 use Rattle.decisions.specs.Steps.{decision}
 use Rattle.isolation.specs.Redaction.{Objects}
-use Rattle.isolation.specs.Runs.{Answer, Question, answer_to, code, command, date, dated, inspected, inspection, is_asked_by, left_by, look_up, order, reply, shown}
+use Rattle.isolation.specs.Runs.{Answer, Question, answer_to, code, command, date, dated, inspected, inspection, is_asked_by, left_by_question, look_up, order, reply, shown}
 
 -- ---- hidden arguments
 
@@ -151,8 +151,9 @@ pub record IsAlike (p : PolicyRules) (r : ℕ) (touched : Objects) (pair : Pair)
   pub presents_too : PresentsNoneFor r touched (second pair) t
 
 -- so it is of all, one after another
-abbrev pub AreAlike : PolicyRules → ℕ → Objects → List (ℕ × Pair) → Registry → Registry → Type 0
-AreAlike p r touched [] s t = Unit {0}
-AreAlike p r touched (pair ∷ pairs) s t =
+abbrev pub AreAlikeInTurn : PolicyRules → ℕ → Objects → List (ℕ × Pair) → Registry → Registry → Type 0
+AreAlikeInTurn p r touched [] s t = Unit {0}
+AreAlikeInTurn p r touched (pair ∷ pairs) s t =
     IsAlike p r touched pair.1 (lapsed p pair.0 s) (lapsed p pair.0 t)
-    × AreAlike p r (touched_by p pair.1 (lapsed p pair.0 s) touched) pairs (left_by p (pair.0, first pair.1) s) (left_by p (pair.0, second pair.1) t)
+    × AreAlikeInTurn p r (touched_by p pair.1 (lapsed p pair.0 s) touched) pairs
+    (left_by_question p (pair.0, first pair.1) s) (left_by_question p (pair.0, second pair.1) t)

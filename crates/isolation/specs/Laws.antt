@@ -4,16 +4,17 @@ use Rattle.model.specs.Lapse.{lapsed, now}
 use Rattle.model.specs.Registry.{Registry}
 use Rattle.policy.specs.Rules.{PolicyRules}
 use Rattle.isolation.specs.Public.{public_part}
-use Rattle.isolation.specs.Alike.{Pair, AreAlike, IsAlike, first, firsts, second, seconds, touched_by}
+use Rattle.isolation.specs.Alike.{Pair, AreAlikeInTurn, IsAlike, first, firsts, second, seconds, touched_by}
 use Rattle.isolation.specs.Redaction.{Objects, AreOne}
-use Rattle.isolation.specs.Runs.{Answer, Question, answer_to, effect_of, is_asked_by, left_after, left_by, answers_to}
+use Rattle.isolation.specs.Runs.{Answer, Question, answer_to, effect_of, is_asked_by, left_after, left_by_question, answers_to}
 
 -- ---- one call
 
 -- The registrar is answered alike in another registry, by another question, and what both leave is one but
 -- for what is touched then.
 pub record GoOnAlike (p : PolicyRules) (r : ℕ) (touched : Objects) (moment : ℕ) (pair : Pair) (before after : Registry) (a : Answer) (other : Registry) : Type 0 where
-  pub left : AreOne r (touched_by p pair (lapsed p moment before) touched) (now p after) (now p (left_by p (moment, second pair) other))
+  pub left : AreOne r (touched_by p pair (lapsed p moment before) touched) (now p after)
+      (now p (left_by_question p (moment, second pair) other))
   pub answer_is : is_asked_by r (first pair) ≡ true
       → a ≡ answer_to p (second pair) (lapsed p moment other)
 
@@ -35,7 +36,7 @@ none roid = false
 -- From this registry on, alike lists tell each registrar the same.
 abbrev pub TellsAlike : PolicyRules → Registry → Type 0
 TellsAlike p s =
-    (r : ℕ) (pairs : List (ℕ × Pair)) → AreAlike p r none pairs s s
+    (r : ℕ) (pairs : List (ℕ × Pair)) → AreAlikeInTurn p r none pairs s s
     → answers_to p r (firsts pairs) s ≡ answers_to p r (seconds pairs) s
 
 -- ---- the laws
@@ -55,6 +56,6 @@ AlikeListsTellTheSame = (p : PolicyRules) (s : Registry) → TellsAlike p s
 abbrev pub AlikeListsShowTheSame : Type 0
 AlikeListsShowTheSame =
     (p : PolicyRules) (r : ℕ) (pairs : List (ℕ × Pair)) (s : Registry) (moment : ℕ)
-    → AreAlike p r none pairs s s
+    → AreAlikeInTurn p r none pairs s s
     → public_part p (lapsed p moment (left_after p (firsts pairs) s))
     ≡ public_part p (lapsed p moment (left_after p (seconds pairs) s))

@@ -63,17 +63,17 @@ is_asked_by r look_up = true
 is_asked_by r inspection = false
 
 -- what a question at a moment leaves
-abbrev pub left_by : PolicyRules → ℕ × Question → Registry → Registry
-left_by p x s = effect_of p x.1 (lapsed p x.0 s)
+abbrev pub left_by_question : PolicyRules → ℕ × Question → Registry → Registry
+left_by_question p x s = effect_of p x.1 (lapsed p x.0 s)
 
 -- and one after another
 abbrev pub left_after : PolicyRules → List (ℕ × Question) → Registry → Registry
 left_after p [] s = s
-left_after p (x ∷ xs) s = left_after p xs (left_by p x s)
+left_after p (x ∷ xs) s = left_after p xs (left_by_question p x s)
 
 -- what a registrar is answered, in a run from a registry on
 abbrev pub answers_to : PolicyRules → ℕ → List (ℕ × Question) → Registry → List Answer
 answers_to p r [] s = []
 answers_to p r (x ∷ xs) s =
-    let more : List Answer = answers_to p r xs (left_by p x s) in
+    let more : List Answer = answers_to p r xs (left_by_question p x s) in
     if is_asked_by r x.1 then answer_to p x.1 (lapsed p x.0 s) ∷ more else more

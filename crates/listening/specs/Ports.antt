@@ -15,22 +15,22 @@ pub data PortTurn : Type 0 where
 
 -- What a connection leaves: what a session's steps or a look-up do, or what a request does that was made with these
 -- credentials. What is taken wrongly in it isn't forgotten.
-abbrev pub Leaves : PolicyRules → List (List ℕ) → List ℕ → PortTurn → BookState → BookState → Type 0
-Leaves p passwords credentials (public end) old new =
+abbrev pub ConnectionLeaves : PolicyRules → List (List ℕ) → List ℕ → PortTurn → BookState → BookState → Type 0
+ConnectionLeaves p passwords credentials (public end) old new =
     Serves p passwords None None old None None None new end
-Leaves p passwords credentials (office end) old new =
+ConnectionLeaves p passwords credentials (office end) old new =
     Operates p credentials None None old None None None new end × Follows old new
 
 abbrev pub LeavesOne : PolicyRules → List (List ℕ) → List ℕ → BookState → BookState → Type 0
 LeavesOne p passwords credentials old new =
-    (turn : PortTurn) × Leaves p passwords credentials turn old new
+    (turn : PortTurn) × ConnectionLeaves p passwords credentials turn old new
 
 -- connections, the last one first: each begins with what the one before it left
 abbrev pub Turns : PolicyRules → List (List ℕ) → List ℕ → List PortTurn → BookState → BookState → Type 0
 Turns p passwords credentials [] old new = new ≡ old
 Turns p passwords credentials (turn ∷ earlier) old new =
     (between : BookState) × Turns p passwords credentials earlier old between
-    × Leaves p passwords credentials turn between new
+    × ConnectionLeaves p passwords credentials turn between new
 
 abbrev pub ServesPorts : PolicyRules → List (List ℕ) → List ℕ → BookState → BookState → Type 0
 ServesPorts p passwords credentials old new =

@@ -8,7 +8,7 @@ use Rattle.model.specs.Registry.{Registry}
 use Rattle.registry.specs.Opening.{opened}
 use Rattle.script.specs.declared.exit.Exit.{Exit}
 use Rattle.script.specs.declared.exit.Exit.TheVariants as exits
-use Rattle.script.specs.Runs.{Ends}
+use Rattle.script.specs.Runs.{EndsRun}
 use Rattle.books.specs.Book.{nothing}
 
 -- a registry that was never used, opened under a policy
@@ -18,7 +18,7 @@ start p = (opened p nothing).registry
 -- how a run under a policy ends; a book in memory that can't be opened ends it with nothing printed
 abbrev pub EndsUnder : PolicyRules → List ℕ → Option (List ℕ) → Option (List ℕ) → Exit → Type 0
 EndsUnder p input old new (exits.Open fault) = Keeps old new
-EndsUnder p input old new exit = Ends p (start p) input old new exit
+EndsUnder p input old new exit = EndsRun p (start p) input old new exit
 
 -- how a run under a policy file ends; the file's first fault ends it with nothing printed
 abbrev pub EndsByFile : List ℕ → List ℕ → Option (List ℕ) → Option (List ℕ) → Exit → Type 0

@@ -1,6 +1,6 @@
 //! A script, answered over a registry in memory that was never used.
 ghost use Rattle.std.specs.Prelude.{◌≡◌, IfSome};
-ghost use Rattle.script.specs.Runs.{Ends, kept};
+ghost use Rattle.script.specs.Runs.{EndsRun, kept};
 ghost use Rattle.memory.specs.Runs.{EndsByFile, EndsUnder};
 
 use crate::registry_in_memory::{open, show_clean};
@@ -53,7 +53,7 @@ fn run_over<R: Read + Drop, W: Write>(
     writer: &mut W,
 ) -> Exit
     ensures { IfSome (R.remaining reader)
-        (λ input. Ends registry.policy (kept (⟦<MemoryBook as Book>⟧.state registry.book)) input
+        (λ input. EndsRun registry.policy (kept (⟦<MemoryBook as Book>⟧.state registry.book)) input
         (W.contents writer.old) (W.contents writer.new) result) }
 {
     let mut registry = registry;

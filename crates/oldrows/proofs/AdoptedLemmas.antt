@@ -31,7 +31,7 @@ use Rattle.sqltables.proofs.SoundLemmas.{after_key, holds}
 use Rattle.sqltables.proofs.StandingLemmas.{honest}
 use Rattle.oldrows.specs.inner.Adoption.{IsSeen}
 use Rattle.oldrows.specs.inner.Lines.{first_line_in, first_lines, without_end}
-use Rattle.oldrows.specs.inner.Stored.{Covers, Fits, Guards, IsLeftAs, IsOld, IsOldContent, IsSameOld, IsSeenAs, IsShapedAs, leaves_of, left_in, old_contents, readiness_of, rows_in, as_found}
+use Rattle.oldrows.specs.inner.Stored.{CoversOld, FitsOld, Guards, IsLeftAsOld, IsOld, IsOldContent, IsSameOld, IsSeenAs, IsShapedAsOld, old_leaves, old_remains, old_contents, old_readiness, old_rows, as_found}
 use Rattle.oldrows.specs.Stored.{IsRead, OldState}
 use Rattle.sqltables.specs.Content.{Content}
 use Rattle.states.specs.States.{Has, Remains}
@@ -65,43 +65,43 @@ old_of_sound db sound is in_order =
       days = refl;
     }
 
-pub fits_found : (s : State) → IsFound s → (is_there : Bool) → (is_there ≡ true → s.now.schema ≡ first_registry) → Fits is_there s
+pub fits_found : (s : State) → IsFound s → (is_there : Bool) → (is_there ≡ true → s.now.schema ≡ first_registry) → FitsOld is_there s
 fits_found s found is_there is clean opened there =
     let it = found clean in
     record { mode = it.0.autocommit; holds = old_of_sound s.now it.1 (is there) it.2; settled = it.0.clean }
 
-seen : (is_there : Bool) (db trees : Trees) → db ≡ trees → IsSeenAs (readiness_of is_there) trees (rows_in is_there db)
+seen : (is_there : Bool) (db trees : Trees) → db ≡ trees → IsSeenAs (old_readiness is_there) trees (old_rows is_there db)
 seen true db trees e = ap old_contents e
 seen false db trees e = refl
 
-shaped : (is_there : Bool) (db : Database) (trees : Trees) → db.trees ≡ trees → IsSound db.schema db.trees → (is_there ≡ true → db.schema ≡ first_registry) → (is_there ≡ false → db.schema ≢ first_registry) → IsShapedAs (readiness_of is_there) trees
+shaped : (is_there : Bool) (db : Database) (trees : Trees) → db.trees ≡ trees → IsSound db.schema db.trees → (is_there ≡ true → db.schema ≡ first_registry) → (is_there ≡ false → db.schema ≢ first_registry) → IsShapedAsOld (old_readiness is_there) trees
 shaped true db trees e sound is not = subst (IsSound first_registry) e (subst (λ (s : Schema). IsSound s db.trees) (is refl) sound)
 shaped false db trees e sound is not = λ ours. not refl (schema_once trees db.schema first_registry (subst (IsSound db.schema) e sound) ours)
 
 left-as : (s : State) → IsFound s → (is_there : Bool) → (is_there ≡ true → s.now.schema ≡ first_registry) → (is_there ≡ false → s.now.schema ≢ first_registry)
-    → (trees : Trees) → HasCleanDisk s → s.now.trees ≡ trees → IsLeftAs (left_in is_there s) trees
+    → (trees : Trees) → HasCleanDisk s → s.now.trees ≡ trees → IsLeftAsOld (old_remains is_there s) trees
 left-as s found is_there is not trees clean e = (shaped is_there s.now trees e (found clean).1 is not, seen is_there s.now.trees trees e)
 
 -- what is found may be left, and nothing else
 pub guards_found : (s : State) → IsFound s → (is_there : Bool) → (is_there ≡ true → s.now.schema ≡ first_registry) → (is_there ≡ false → s.now.schema ≢ first_registry)
-    → ((db : Trees) → IsTrue s.is_open → s.may_leave db → db ≡ s.committed.trees) → Guards s (left_in is_there s ∷ [])
+    → ((db : Trees) → IsTrue s.is_open → s.may_leave db → db ≡ s.committed.trees) → Guards s (old_remains is_there s ∷ [])
 guards_found s found is_there is not settled clean db may =
     let it = (found clean).0 in
     let same : s.now.trees ≡ db = ap (λ (d : Database). d.trees) it.clean ∙ sym (settled db it.is_open may) in
-    (left_in is_there s, inl refl, left-as s found is_there is not db clean same)
+    (old_remains is_there s, inl refl, left-as s found is_there is not db clean same)
 
-pub seen-alone : {C : Type 0} (state-of : C → State) (none notes : List (C × Bool)) (conn : C) (is_there : Bool) → none ≡ [] → notes ≡ none ++ (conn, is_there) ∷ [] → leaves_of state-of notes ≡ left_in is_there (state-of conn) ∷ []
-seen-alone state-of none notes conn is_there empty is = ap (leaves_of state-of) (is ∙ ap (λ l. l ++ (conn, is_there) ∷ []) empty)
+pub seen-alone : {C : Type 0} (state-of : C → State) (none notes : List (C × Bool)) (conn : C) (is_there : Bool) → none ≡ [] → notes ≡ none ++ (conn, is_there) ∷ [] → old_leaves state-of notes ≡ old_remains is_there (state-of conn) ∷ []
+seen-alone state-of none notes conn is_there empty is = ap (old_leaves state-of) (is ∙ ap (λ l. l ++ (conn, is_there) ∷ []) empty)
 
 -- what was given back after a fault
-pub left-alone : (trees : Trees) (was now : OldState) → IsSeen trees was → IsRead was now → now.is_honest ≡ true → (may_leave : Trees → Type 0) → Covers now.crash_leaves may_leave
+pub left-alone : (trees : Trees) (was now : OldState) → IsSeen trees was → IsRead was now → now.is_honest ≡ true → (may_leave : Trees → Type 0) → CoversOld now.crash_leaves may_leave
     → (db : Trees) → may_leave db → IsSameOld trees db
 left-alone trees was now seen-as reads honest-now may_leave covers db may =
     let it = covers db may in
     (it.0, seen-as.leaves (seen-as.answers (reads.honest honest-now)) it.0 (subst (λ (l : List (Remains Content)). Has l it.0) reads.leaves it.1), it.2)
 
 pub shown : (s : State) → IsFound s → (is_there : Bool) → (is_there ≡ true → s.now.schema ≡ first_registry) → (is_there ≡ false → s.now.schema ≢ first_registry)
-    → (trees : Trees) → (HasCleanDisk s → s.now.trees ≡ trees) → IsSeen trees (as_found is_there s (left_in is_there s ∷ []))
+    → (trees : Trees) → (HasCleanDisk s → s.now.trees ≡ trees) → IsSeen trees (as_found is_there s (old_remains is_there s ∷ []))
 shown s found is_there is not trees same = record {
   content = λ e. seen is_there s.now.trees trees (same (honest s (and_parts s.is_clean s.is_open e).0));
   shaped = λ e.
@@ -110,11 +110,11 @@ shown s found is_there is not trees same = record {
   answers = λ e. ap (λ (b : Bool). b && s.is_open) e ∙ (found (honest s e)).0.is_open;
   leaves = λ e left h.
       let clean = honest s (and_parts s.is_clean s.is_open e).0 in
-      subst (λ (l : Remains Content). IsLeftAs l trees) (sym (has-alone (left_in is_there s) left h)) (left-as s found is_there is not trees clean (same clean));
+      subst (λ (l : Remains Content). IsLeftAsOld l trees) (sym (has-alone (old_remains is_there s) left h)) (left-as s found is_there is not trees clean (same clean));
 }
 
 -- what always holds of the rows
-pub consistent_of : (s : State) (is_there : Bool) → Fits is_there s → (s.is_clean && s.is_open) ≡ true → IsOldContent (rows_in is_there s.now.trees)
+pub consistent_of : (s : State) (is_there : Bool) → FitsOld is_there s → (s.is_clean && s.is_open) ≡ true → IsOldContent (old_rows is_there s.now.trees)
 consistent_of s true fits e =
     let p = and_parts s.is_clean s.is_open e in
     let it = fits (honest s p.0) p.1 refl in

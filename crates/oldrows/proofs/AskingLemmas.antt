@@ -21,7 +21,7 @@ use Rattle.sqltables.specs.inner.FirstTables.{first_registry}
 use Rattle.sqltables.proofs.StandingLemmas.{clean-of, honest, leaves-no-more, was-honest}
 use Rattle.states.specs.declared.fault.BookFault.{BookFault}
 use Rattle.states.specs.States.{Remains}
-use Rattle.oldrows.specs.inner.Stored.{Agrees, Asks, Finds, Fits, Guards, IsOld, old_contents, rows_in, as_found}
+use Rattle.oldrows.specs.inner.Stored.{Agrees, Asks, FindsOld, FitsOld, Guards, IsOld, old_contents, old_rows, as_found}
 use Rattle.oldrows.specs.Stored.{Answers, IsRead, OldState}
 use Rattle.oldrows.proofs.CopyLemmas.{read-on}
 
@@ -51,19 +51,19 @@ agrees-same old new it same = record {
 }
 
 -- the same rows are seen, if the tables are there
-same-rows : (is_there : Bool) (old new : State) → (is_there ≡ true → new.now ≡ old.now) → rows_in is_there new.now.trees ≡ rows_in is_there old.now.trees
+same-rows : (is_there : Bool) (old new : State) → (is_there ≡ true → new.now ≡ old.now) → old_rows is_there new.now.trees ≡ old_rows is_there old.now.trees
 same-rows true old new same = ap (λ (db : Database). old_contents db.trees) (same refl)
 same-rows false old new same = refl
 
 -- ---- a text is made ready
 
-module _ (is_there : Bool) (old new : State) (survives : Survives old new (λ _. ⊥)) (fits : Fits is_there old) (stood : HasCleanDisk new → StaysOrUndoes old new) where
+module _ (is_there : Bool) (old new : State) (survives : Survives old new (λ _. ⊥)) (fits : FitsOld is_there old) (stood : HasCleanDisk new → StaysOrUndoes old new) where
   looked : HasCleanDisk new → IsTrue new.is_open → is_there ≡ true → Agrees old × IsSame old new
   looked clean opened there =
       let it = fits (was-honest old new (λ _. ⊥) survives clean) (was_open old new (stood clean) opened) there in
       (it, same-after old new it opened (stood clean))
 
-  pub fits-looked : Fits is_there new
+  pub fits-looked : FitsOld is_there new
   fits-looked clean opened there = let it = looked clean opened there in agrees-same old new it.0 it.1
 
   pub guards-looked : (leaves : List (Remains Content)) → Guards old leaves → Guards new leaves
@@ -82,7 +82,7 @@ module _ (is_there : Bool) (old new : State) (survives : Survives old new (λ _.
 
 -- ---- a query
 
-module _ (sql : List ℕ) (params : Row) (is_there : Bool) (old new : State) (P : Trees → Type 0) (survives : Survives old new P) (fits : Fits is_there old) (there : is_there ≡ true) (plain : IsPlain (understood first_registry sql)) where
+module _ (sql : List ℕ) (params : Row) (is_there : Bool) (old new : State) (P : Trees → Type 0) (survives : Survives old new P) (fits : FitsOld is_there old) (there : is_there ≡ true) (plain : IsPlain (understood first_registry sql)) where
   plain-in : Agrees old → IsPlain (understood old.now.schema sql)
   plain-in h = subst (λ (s : Schema). IsPlain (understood s sql)) (sym h.holds.schema) plain
 
@@ -93,7 +93,7 @@ module _ (sql : List ℕ) (params : Row) (is_there : Bool) (old new : State) (P 
   same-if found clean seen = same_if_shown sql params old new found (plain-in (agreed found clean seen)) seen
 
   -- after an answer
-  pub fits-shown : (found : List Row) → (HasCleanDisk new → Shown sql params old new found) → Fits is_there new
+  pub fits-shown : (found : List Row) → (HasCleanDisk new → Shown sql params old new found) → FitsOld is_there new
   fits-shown found seen clean opened _ =
       let it = agreed found clean (seen clean) in
       agrees-same old new it (same-after old new it opened (inl (same-if found clean (seen clean))))
@@ -104,7 +104,7 @@ module _ (sql : List ℕ) (params : Row) (is_there : Bool) (old new : State) (P 
     leaves = refl;
     clean = λ e. let clean = honest new (and_parts new.is_clean new.is_open e).0 in
         ap (λ (b : Bool). b && old.is_open) (clean-of old (was-honest old new P survives clean)) ∙ (same-if found clean (seen clean)).0.was_open;
-    content = λ e. ap (λ (db : Database). rows_in is_there db.trees) (same-if found (honest new (and_parts new.is_clean new.is_open e).0) (seen (honest new (and_parts new.is_clean new.is_open e).0))).0.now_is;
+    content = λ e. ap (λ (db : Database). old_rows is_there db.trees) (same-if found (honest new (and_parts new.is_clean new.is_open e).0) (seen (honest new (and_parts new.is_clean new.is_open e).0))).0.now_is;
     ready = refl;
   }
 
@@ -127,7 +127,7 @@ module _ (sql : List ℕ) (params : Row) (is_there : Bool) (old new : State) (P 
       let left = stands_if_not_shown sql params old new e (plain-in it) (fails clean) in
       (it, same-after old new it opened left, was_open old new left opened)
 
-  pub fits-left : (e : Error) → (HasCleanDisk new → FailsToQuery sql params old new e) → Fits is_there new
+  pub fits-left : (e : Error) → (HasCleanDisk new → FailsToQuery sql params old new e) → FitsOld is_there new
   fits-left e fails clean opened _ = let it = left-by e fails clean opened in agrees-same old new it.0 it.1
 
   pub reads-left : (leaves : List (Remains Content)) (e : Error) → (HasCleanDisk new → FailsToQuery sql params old new e) → IsRead (as_found is_there old leaves) (as_found is_there new leaves)
@@ -137,7 +137,7 @@ module _ (sql : List ℕ) (params : Row) (is_there : Bool) (old new : State) (P 
     clean = λ c. let parts = and_parts new.is_clean new.is_open c in let clean = honest new parts.0 in
         ap (λ (b : Bool). b && old.is_open) (clean-of old (was-honest old new P survives clean)) ∙ (left-by e fails clean parts.1).2;
     content = λ c. let parts = and_parts new.is_clean new.is_open c in
-        ap (λ (db : Database). rows_in is_there db.trees) (left-by e fails (honest new parts.0) parts.1).1.db;
+        ap (λ (db : Database). old_rows is_there db.trees) (left-by e fails (honest new parts.0) parts.1).1.db;
     ready = refl;
   }
 
@@ -148,25 +148,25 @@ answered shown sql f a old new h found seen =
     let read = reads_as sql [] old new first_registry h.schema (Select (record { lets = []; body = a.query }) a.is.names) (same_command (understood first_registry sql) ∙ a.is.command) a.is.plain a.is.unlisted found seen in
     a.means old.now.trees (old_contents old.now.trees) found (subst (λ (s : Schema). IsOld (old_contents old.now.trees) (record { schema = s; trees = old.now.trees })) h.schema h) (read.answer Null)
 
-finds-by : {A : Type 0} (result : Result A BookFault) (v : A) (old new : OldState) → IsRead old new → Answers new → (new.is_clean ≡ true → IfOk result (λ it. it ≡ v)) → Finds result v old new
+finds-by : {A : Type 0} (result : Result A BookFault) (v : A) (old new : OldState) → IsRead old new → Answers new → (new.is_clean ≡ true → IfOk result (λ it. it ≡ v)) → FindsOld result v old new
 finds-by (Ok it) v old new reads answers same = (record { reads = reads; answers = λ was. answers }, same)
 finds-by (Err fault) v old new reads answers same = reads
 
-pub asked : {R : Type 0} (shown : R → Row) (sql : List ℕ) (is_there : Bool) (old new : State) (P : Trees → Type 0) (leaves : List (Remains Content)) → Survives old new P → Fits is_there old → is_there ≡ true
+pub asked : {R : Type 0} (shown : R → Row) (sql : List ℕ) (is_there : Bool) (old new : State) (P : Trees → Type 0) (leaves : List (Remains Content)) → Survives old new P → FitsOld is_there old → is_there ≡ true
     → (f : Content → List R) → Asks shown sql f → (found : List Row) → (HasCleanDisk new → Shown sql [] old new found) → (result : Result (List R) BookFault)
-    → ((xs : List R) → found ≡ map shown xs → IfOk result (λ out. out ≡ xs)) → Finds result (f (rows_in is_there old.now.trees)) (as_found is_there old leaves) (as_found is_there new leaves)
+    → ((xs : List R) → found ≡ map shown xs → IfOk result (λ out. out ≡ xs)) → FindsOld result (f (old_rows is_there old.now.trees)) (as_found is_there old leaves) (as_found is_there new leaves)
 asked shown sql is_there old new P leaves survives fits there f asks found seen result read =
     let plain = asks.is.plain in
-    finds-by result (f (rows_in is_there old.now.trees)) (as_found is_there old leaves) (as_found is_there new leaves)
+    finds-by result (f (old_rows is_there old.now.trees)) (as_found is_there old leaves) (as_found is_there new leaves)
     (reads-shown sql [] is_there old new P survives fits there plain leaves found seen)
     (answers-shown sql [] is_there old new P survives fits there plain leaves found seen)
     (λ e. let clean = honest new (and_parts new.is_clean new.is_open e).0 in
-    read (f (rows_in is_there old.now.trees))
+    read (f (old_rows is_there old.now.trees))
     (answered shown sql f asks old new (agreed sql [] is_there old new P survives fits there plain found clean (seen clean)).holds found (seen clean)
-    ∙ ap (λ (b : Bool). map shown (f (rows_in b old.now.trees))) (sym there)))
+    ∙ ap (λ (b : Bool). map shown (f (old_rows b old.now.trees))) (sym there)))
 
 -- a question behind a look at the database that found it answering
-pub asked-behind : {A : Type 0} (r : Result A BookFault) (s m t : OldState) (f : Content → A) → IsRead s m → Answers m → Finds r (f m.content) m t → Finds r (f s.content) s t
+pub asked-behind : {A : Type 0} (r : Result A BookFault) (s m t : OldState) (f : Content → A) → IsRead s m → Answers m → FindsOld r (f m.content) m t → FindsOld r (f s.content) s t
 asked-behind (Ok it) s m t f reads answers found = (
   record { reads = read-on s m t reads found.0.reads; answers = λ was. found.0.answers answers },
   λ e. found.1 e ∙ ap f (reads.content (found.0.reads.clean e)),

@@ -13,7 +13,7 @@ use Rattle.states.specs.States.{Makes, StateOf, Writes}
 use Rattle.states.proofs.LeavingLemmas.{leaves-on}
 use Rattle.sqltables.specs.Content.{Content}
 use Rattle.oldrows.specs.Stored.{IsAsked, IsRead, OldState}
-use Rattle.oldrows.specs.inner.Copies.{Copies, IsLeft, IsOnItsWay, put_all}
+use Rattle.oldrows.specs.inner.Copies.{Copies, IsLeft, IsOnItsWay, put_rows}
 
 -- ---- rows in the order of their numbers
 
@@ -25,10 +25,10 @@ module _ {X : Type 0} (key : X → ℤ) where
       ap (λ (o : Ordering). match_ordering o (x ∷ insert_by key xs new) (new ∷ xs) (new ∷ x ∷ xs)) (Less-from_lt (key x) (key new) low.0)
       ∙ ap (λ rest. x ∷ rest) (put-behind xs new low.1)
 
-  put-rising : (xs ys : List X) → IsKeyedBy key ys → AllByRecursion (λ y. AllByRecursion (λ x. key x <ℤ key y) xs) ys → put_all key ys xs ≡ xs ++ ys
+  put-rising : (xs ys : List X) → IsKeyedBy key ys → AllByRecursion (λ y. AllByRecursion (λ x. key x <ℤ key y) xs) ys → put_rows key ys xs ≡ xs ++ ys
   put-rising xs [] up low = sym (append-nil xs)
   put-rising xs (y ∷ ys) up low =
-      ap (put_all key ys) (put-behind xs y low.0)
+      ap (put_rows key ys) (put-behind xs y low.0)
       ∙ put-rising (xs ++ y ∷ []) ys up.1
       (all_both (λ z. AllByRecursion (λ x. key x <ℤ key z) xs) (λ z. key y <ℤ key z) (λ z. AllByRecursion (λ x. key x <ℤ key z) (xs ++ y ∷ [])) (λ z p q. all-append (λ x. key x <ℤ key z) xs (y ∷ []) p (q, tt)) ys low.1 up.0)
       ∙ append_assoc xs (y ∷ []) ys
@@ -37,7 +37,7 @@ module _ {X : Type 0} (key : X → ℤ) where
   nothing-below [] = tt
   nothing-below (y ∷ ys) = (tt, nothing-below ys)
 
-  pub put-keyed : (ys : List X) → IsKeyedBy key ys → put_all key ys [] ≡ ys
+  pub put-keyed : (ys : List X) → IsKeyedBy key ys → put_rows key ys [] ≡ ys
   put-keyed ys up = put-rising [] ys up (nothing-below ys)
 
 there : {X : Type 0} (xs : List X) (i : ℕ) (x : X) → slice_get xs i ≡ Some x → drop i xs ≡ x ∷ drop 1 (drop i xs)
@@ -78,8 +78,8 @@ copied-so (Err fault) put rows of from read store written asked same makes = rec
 
 -- one more row
 pub put-more : {X : Type 0} (key : X → ℤ) (to : (List X → List X) → Content → Content) → ((f g : List X → List X) (c : Content) → to g (to f c) ≡ to (λ xs. g (f xs)) c)
-    → (all rest : List X) (row : X) (a b c : StateOf Content) → HasChanged (λ was is. to (put_all key (row ∷ rest)) is ≡ to (put_all key all) was) a b → Writes (to (λ xs. insert_by key xs row) b.content) b c
-    → HasChanged (λ was is. to (put_all key rest) is ≡ to (put_all key all) was) a c
+    → (all rest : List X) (row : X) (a b c : StateOf Content) → HasChanged (λ was is. to (put_rows key (row ∷ rest)) is ≡ to (put_rows key all) was) a b → Writes (to (λ xs. insert_by key xs row) b.content) b c
+    → HasChanged (λ was is. to (put_rows key rest) is ≡ to (put_rows key all) was) a c
 put-more key to together all rest row a b c on wrote = record {
   clean = λ e. on.clean (wrote.clean e);
   before = λ e. wrote.before e ∙ on.before (wrote.clean e);
@@ -87,14 +87,14 @@ put-more key to together all rest row a b c on wrote = record {
   answers = λ was. wrote.answers (on.answers was);
   leaves = leaves-on a b c on.leaves wrote.leaves;
   content = λ e.
-      ap (to (put_all key rest)) (wrote.content e)
-      ∙ together (λ xs. insert_by key xs row) (put_all key rest) b.content
+      ap (to (put_rows key rest)) (wrote.content e)
+      ∙ together (λ xs. insert_by key xs row) (put_rows key rest) b.content
       ∙ on.content (wrote.clean e);
 }
 
 -- after the last one
 pub all-put : {X : Type 0} (key : X → ℤ) (to : (List X → List X) → Content → Content) → ((c : Content) → to (λ xs. xs) c ≡ c)
-    → (all : List X) (a b : StateOf Content) → HasChanged (λ was is. to (put_all key []) is ≡ to (put_all key all) was) a b → Writes (to (put_all key all) a.content) a b
+    → (all : List X) (a b : StateOf Content) → HasChanged (λ was is. to (put_rows key []) is ≡ to (put_rows key all) was) a b → Writes (to (put_rows key all) a.content) a b
 all-put key to none all a b on = record {
   clean = on.clean;
   before = on.before;

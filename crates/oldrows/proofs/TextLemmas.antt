@@ -25,7 +25,7 @@ use Rattle.sqltables.specs.Message.{message_shown, messages}
 use Rattle.sqltables.specs.Transfer.{transfer_shown, transfers}
 use Rattle.oldrows.specs.inner.Stored.{Asks, IsOld}
 use Rattle.oldrows.specs.inner.Lines.{first_lines, without_end}
-use Rattle.oldrows.specs.inner.Texts.{meta_all, account_all, contact_all, domain_all, host_all, address_all, link_all, line_all, message_all, transfer_all}
+use Rattle.oldrows.specs.inner.Texts.{meta_query, account_query, contact_query, domain_query, host_query, address_query, link_query, line_query, message_query, transfer_query}
 
 -- so many columns of a table, from one on; and all of them, the key first, whose own column is NULL
 abbrev columns_from : ℕ → ℕ → List Term
@@ -47,46 +47,46 @@ of-all L columns shown sql f shows held is = record {
       ∙ ap (map shown) (filter_all (λ _. true) (f xs) (all_of _ (λ x. refl) (f xs)));
 }
 
-pub meta_asks : Asks meta_shown meta_all (λ c. c.metas)
+pub meta_asks : Asks meta_shown meta_query (λ c. c.metas)
 unfolding understood everything
 meta_asks =
-    of-all metas (key_and 16) meta_shown meta_all (λ c. c.metas) (λ x. refl) (λ xs db h. h.metas)
+    of-all metas (key_and 16) meta_shown meta_query (λ c. c.metas) (λ x. refl) (λ xs db h. h.metas)
     (record { names = _; command = refl; plain = (refl, refl); unlisted = refl })
 
-pub account_asks : Asks account_shown account_all (λ c. c.accounts)
+pub account_asks : Asks account_shown account_query (λ c. c.accounts)
 unfolding understood everything
 account_asks =
-    of-all accounts (key_and 7) account_shown account_all (λ c. c.accounts) (λ x. refl) (λ xs db h. h.accounts)
+    of-all accounts (key_and 7) account_shown account_query (λ c. c.accounts) (λ x. refl) (λ xs db h. h.accounts)
     (record { names = _; command = refl; plain = (refl, refl); unlisted = refl })
 
-pub contact_asks : Asks contact_shown contact_all (λ c. c.contacts)
+pub contact_asks : Asks contact_shown contact_query (λ c. c.contacts)
 unfolding understood everything
 contact_asks =
-    of-all contacts (key_and 19) contact_shown contact_all (λ c. c.contacts) (λ x. refl) (λ xs db h. h.contacts)
+    of-all contacts (key_and 19) contact_shown contact_query (λ c. c.contacts) (λ x. refl) (λ xs db h. h.contacts)
     (record { names = _; command = refl; plain = (refl, refl); unlisted = refl })
 
-pub domain_asks : Asks domain_shown domain_all (λ c. c.domains)
+pub domain_asks : Asks domain_shown domain_query (λ c. c.domains)
 unfolding understood everything
 domain_asks =
-    of-all domains (key_and 14) domain_shown domain_all (λ c. c.domains) (λ x. refl) (λ xs db h. h.domains)
+    of-all domains (key_and 14) domain_shown domain_query (λ c. c.domains) (λ x. refl) (λ xs db h. h.domains)
     (record { names = _; command = refl; plain = (refl, refl); unlisted = refl })
 
-pub host_asks : Asks host_shown host_all (λ c. c.hosts)
+pub host_asks : Asks host_shown host_query (λ c. c.hosts)
 unfolding understood everything
 host_asks =
-    of-all hosts (key_and 9) host_shown host_all (λ c. c.hosts) (λ x. refl) (λ xs db h. h.hosts)
+    of-all hosts (key_and 9) host_shown host_query (λ c. c.hosts) (λ x. refl) (λ xs db h. h.hosts)
     (record { names = _; command = refl; plain = (refl, refl); unlisted = refl })
 
-pub address_asks : Asks address_shown address_all (λ c. c.addresses)
+pub address_asks : Asks address_shown address_query (λ c. c.addresses)
 unfolding understood everything
 address_asks =
-    of-all addresses (key_and 2) address_shown address_all (λ c. c.addresses) (λ x. refl) (λ xs db h. h.addresses)
+    of-all addresses (key_and 2) address_shown address_query (λ c. c.addresses) (λ x. refl) (λ xs db h. h.addresses)
     (record { names = _; command = refl; plain = (refl, refl); unlisted = refl })
 
-pub link_asks : Asks link_shown link_all (λ c. c.links)
+pub link_asks : Asks link_shown link_query (λ c. c.links)
 unfolding understood everything
 link_asks =
-    of-all links (key_and 5) link_shown link_all (λ c. c.links) (λ x. refl) (λ xs db h. h.links)
+    of-all links (key_and 5) link_shown link_query (λ c. c.links) (λ x. refl) (λ xs db h. h.links)
     (record { names = _; command = refl; plain = (refl, refl); unlisted = refl })
 
 -- a line that shows no end of its grace
@@ -100,27 +100,27 @@ shown-endless (x ∷ xs) = ap (λ rows. endless_shown x ∷ rows) (shown-endless
 abbrev line_columns : List Term
 line_columns = col 1 0 ∷ col 1 2 ∷ col 1 3 ∷ col 1 4 ∷ col 1 5 ∷ col 1 6 ∷ col 1 7 ∷ col 1 8 ∷ lit Null ∷ col 1 9 ∷ col 1 10 ∷ []
 
-line_asked : Asks endless_shown line_all (λ c. c.lines)
+line_asked : Asks endless_shown line_query (λ c. c.lines)
 unfolding understood everything
 line_asked =
-    of-all first_lines line_columns endless_shown line_all (λ c. c.lines) (λ x. refl) (λ xs db h. h.lines)
+    of-all first_lines line_columns endless_shown line_query (λ c. c.lines) (λ x. refl) (λ xs db h. h.lines)
     (record { names = _; command = refl; plain = (refl, refl); unlisted = refl })
 
-pub line_asks : Asks line_shown line_all (λ c. c.lines)
+pub line_asks : Asks line_shown line_query (λ c. c.lines)
 line_asks = record {
   query = line_asked.query;
   is = line_asked.is;
   means = λ db xs rows h answer. line_asked.means db xs rows h answer ∙ shown-endless xs.lines ∙ ap (map line_shown) h.endless;
 }
 
-pub message_asks : Asks message_shown message_all (λ c. c.messages)
+pub message_asks : Asks message_shown message_query (λ c. c.messages)
 unfolding understood everything
 message_asks =
-    of-all messages (key_and 7) message_shown message_all (λ c. c.messages) (λ x. refl) (λ xs db h. h.messages)
+    of-all messages (key_and 7) message_shown message_query (λ c. c.messages) (λ x. refl) (λ xs db h. h.messages)
     (record { names = _; command = refl; plain = (refl, refl); unlisted = refl })
 
-pub transfer_asks : Asks transfer_shown transfer_all (λ c. c.transfers)
+pub transfer_asks : Asks transfer_shown transfer_query (λ c. c.transfers)
 unfolding understood everything
 transfer_asks =
-    of-all transfers (key_and 8) transfer_shown transfer_all (λ c. c.transfers) (λ x. refl) (λ xs db h. h.transfers)
+    of-all transfers (key_and 8) transfer_shown transfer_query (λ c. c.transfers) (λ x. refl) (λ xs db h. h.transfers)
     (record { names = _; command = refl; plain = (refl, refl); unlisted = refl })

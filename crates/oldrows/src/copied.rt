@@ -1,7 +1,7 @@
 //! The rows of each table, as they are copied.
 ghost use Rattle.std.specs.Prelude.{◌≡◌, true, map, IfOk};
 ghost use Rattle.sqlite_keyed.specs.Keyed.{insert_by};
-ghost use Rattle.oldrows.specs.inner.Stored.{Finds};
+ghost use Rattle.oldrows.specs.inner.Stored.{FindsOld};
 ghost use Rattle.oldrows.specs.inner.Tables.{Table};
 ghost use Rattle.states.specs.States.{Makes};
 ghost use Rattle.oldrows.specs.Copies.{renumbered};
@@ -48,7 +48,7 @@ pub trait Copied: Record {
 
     /// All rows of the table, by their numbers. A line has no end of its grace.
     fn all<S: Alter>(from: &mut OldRows<S>) -> Result<Seq<Self>, BookFault>
-        ensures { Finds result (table.rows_of from.old.content) from.old from.new };
+        ensures { FindsOld result (table.rows_of from.old.content) from.old from.new };
 
     /// Puts the row in the place of the one with its number, or after all others.
     fn put<S: Alter>(&self, store: &mut RowStore<S>) -> Result<(), BookFault>

@@ -1,6 +1,6 @@
 //! Rows, copied into the same tables of today.
 ghost use Rattle.std.specs.Prelude.{◌≡◌, true};
-ghost use Rattle.oldrows.specs.inner.Copies.{Copies, put_all, put_from, put_of, put_of_all};
+ghost use Rattle.oldrows.specs.inner.Copies.{Copies, put_from, put_of, put_of_all, put_rows};
 ghost use Rattle.states.specs.States.{Makes};
 
 use crate::copied::Copied;
@@ -42,7 +42,7 @@ fn copy<R: Copied, S: Alter, T: Alter>(
 /// Puts rows, each in the place of the one with its number, or after all others.
 pub fn put_all<R: Copied, T: Alter>(to: &mut RowStore<T>, rows: &[R]) -> Result<(), BookFault>
     requires { to.old.is_open ≡ true }
-    ensures { Makes result (R.table.rows_to (put_all R.table.key rows.now) to.old.content) to.old
+    ensures { Makes result (R.table.rows_to (put_rows R.table.key rows.now) to.old.content) to.old
         to.new }
 {
     for row in rows {

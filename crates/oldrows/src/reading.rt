@@ -32,14 +32,15 @@ pub struct OldRows<S: Alter> {
 
 impl<S: Alter> Model for OldRows<S> {
     ghost use Rattle.sqlite.specs.Held.{state};
-    ghost use Rattle.oldrows.specs.inner.Stored.{Fits, Guards, leaves_of, as_found};
+    ghost use Rattle.oldrows.specs.inner.Stored.{FitsOld, Guards, old_leaves, as_found};
     ghost use Rattle.oldrows.specs.Stored.{OldState};
 
     ghost Value = { OldState };
 
-    ghost view = { λ r. as_found r.is_there (state S.Store r.conn) (leaves_of (state S.Store) r.seen.items) };
+    ghost view = { λ r. as_found r.is_there (state S.Store r.conn) (old_leaves (state S.Store) r.seen.items) };
 
-    ghost invariant = { λ r. Fits r.is_there (state S.Store r.conn) × Guards (state S.Store r.conn) (leaves_of (state S.Store) r.seen.items) };
+    ghost invariant = { λ r. FitsOld r.is_there (state S.Store r.conn)
+        × Guards (state S.Store r.conn) (old_leaves (state S.Store) r.seen.items) };
 }
 
 /// The schema that the texts make, read off a database in memory.
@@ -78,13 +79,13 @@ impl<S: Alter> OldRows<S> {
     ghost use Rattle.sqlite.specs.State.{HasCleanDisk};
     ghost use Rattle.sqltables.specs.Content.{Content};
     ghost use Rattle.oldrows.specs.Stored.{Answers, IsRead};
-    ghost use Rattle.oldrows.specs.inner.Stored.{Asks, Covers, Finds, IsOldContent};
+    ghost use Rattle.oldrows.specs.inner.Stored.{Asks, CoversOld, FindsOld, IsOldContent};
 
     /// The records that the rows of a query show.
     pub(crate) fn select<R: Record>(&mut self, sql: &str) -> Result<Seq<R>, BookFault>
         requires { IsPlain (understood first_registry sql.now) }
         ensures { (f : Content → List R) → Asks R.shown sql.now f
-            → Finds result (f self.old.content) self.old self.new }
+            → FindsOld result (f self.old.content) self.old self.new }
     {
         self.look(sql)?;
         self.ask(sql)
@@ -106,7 +107,7 @@ impl<S: Alter> OldRows<S> {
         requires plain { IsPlain (understood first_registry sql.now) }
         requires answers { Answers self.old }
         ensures { (f : Content → List R) → Asks R.shown sql.now f
-            → Finds result (f self.old.content) self.old self.new }
+            → FindsOld result (f self.old.content) self.old self.new }
     {
         if !self.is_there {
             return Err(BookFault::Store);
@@ -120,7 +121,7 @@ impl<S: Alter> OldRows<S> {
 
     /// The rows of `meta`.
     pub fn metas(&mut self) -> Result<Seq<MetaRow>, BookFault>
-        ensures { Finds result self.old.content.metas self.old self.new }
+        ensures { FindsOld result self.old.content.metas self.old self.new }
     {
         self.select(METAS)
     }
@@ -153,7 +154,7 @@ impl<S: Alter> OldRows<S> {
     pub fn into_connection(self) -> Connection<S>
         ensures honest { (state S.Store result).is_clean ≡ self.is_honest }
         ensures covers { HasCleanDisk (state S.Store result)
-            → Covers self.crash_leaves (state S.Store result).may_leave }
+            → CoversOld self.crash_leaves (state S.Store result).may_leave }
     {
         self.conn
     }
@@ -166,13 +167,13 @@ impl<S: Alter + Drop> OldRows<S> {
     ghost use Rattle.sqlite_trees.specs.View.{IsClean};
     ghost use Rattle.std.specs.Prelude.{IsTrue};
     ghost use Rattle.sqltables.specs.Adoption.{IsFound};
-    ghost use Rattle.oldrows.specs.inner.Stored.{Covers, LeavesAlone};
+    ghost use Rattle.oldrows.specs.inner.Stored.{CoversOld, LeavesAlone};
     ghost use Rattle.oldrows.specs.inner.Adoption.{IsAdopted, IsSeen};
 
     /// Gives back what the connection is over.
     fn into_store(self) -> S
         ensures { IsClean (S.Store.view result) → (self.is_honest ≡ true)
-            × Covers self.crash_leaves (S.Store.recovers result) }
+            × CoversOld self.crash_leaves (S.Store.recovers result) }
     {
         self.into_connection().into_store()
     }

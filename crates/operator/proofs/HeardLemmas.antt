@@ -5,7 +5,7 @@ use Rattle.std.specs.Io.KnownBytes.{Consumes}
 use Rattle.httparse.specs.Grammar.{print_request}
 use Rattle.operator.specs.declared.request.Asked.{Asked}
 use Rattle.operator.specs.Heard.{IsBodyOf, IsHeard, most_head}
-use Rattle.operator.specs.Requests.{HasHead}
+use Rattle.operator.specs.Requests.{HasHeadAsking}
 use Rattle.policy.specs.Rules.{PolicyRules}
 
 -- what was read begins with a head, and so the input does, with what follows
@@ -18,7 +18,7 @@ split front part rest body printed bytes len joined (Some more) taken begins beh
     (more, taken ∙ head ∙ ap (λ (l : List ℕ). printed ++ (l ++ rest)) (sym behind) ∙ ap (λ (l : List ℕ). printed ++ l) all)
 
 -- a head that the input begins with, and the body behind it
-pub heard_in : (p : PolicyRules) (credentials front part : List ℕ) (asked : Asked) (len : ℕ) (input rest joined left : Option (List ℕ)) (body : List ℕ) → Consumes input rest front → length front ≤ most_head → HasHead p credentials front asked len
+pub heard_in : (p : PolicyRules) (credentials front part : List ℕ) (asked : Asked) (len : ℕ) (input rest joined left : Option (List ℕ)) (body : List ℕ) → Consumes input rest front → length front ≤ most_head → HasHeadAsking p credentials front asked len
     → part ≡ drop len front → joined ≡ option_append (Some part) rest → Consumes joined left body → IsBodyOf asked body → IsHeard p credentials input asked body
 heard_in p credentials front part asked len None rest joined left body taken short has behind chained read is = record {
   head = has.0;

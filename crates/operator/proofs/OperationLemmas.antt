@@ -1,7 +1,7 @@
 -- What a look at what waits, a look-up, and an order that is given up leave.
 use Rattle.std.proofs.Common.{◌⊎◌, ℕ, List, Option, inl, inr, ap, refl}
 use Rattle.std.specs.Prelude.{Result, Ok, Err, IfErr, IfOk}
-use Rattle.operator.specs.Operations.{IsFailedOrder, IsNoOrder, outcome_of_exit}
+use Rattle.operator.specs.Operations.{IsFailedOrder, IsMalformedOrder, outcome_of_exit}
 use Rattle.policy.specs.Rules.{PolicyRules}
 use Rattle.protocol.specs.declared.code.Code.{Code}
 use Rattle.protocol.specs.declared.order.OperatorRequest.{OperatorRequest}
@@ -54,7 +54,7 @@ carried p request moment old new before after (code, lapsed, by, began) = (code,
 
 -- an order that isn't answered is no order, or failed
 pub unanswered : (p : PolicyRules) (body : List ℕ) (moment : ℕ) (old new : BookState) (before after : Option (List ℕ)) (exit : Exit) → EndsUnanswered p body moment old new before after exit
-    → IsNoOrder body (outcome_of_exit exit) old new ⊎ IsFailedOrder p body moment (outcome_of_exit exit) old new
+    → IsMalformedOrder body (outcome_of_exit exit) old new ⊎ IsFailedOrder p body moment (outcome_of_exit exit) old new
 unanswered p body moment old new before after (exits.Script n) (inl (one, none, same, kept)) = inl (refl, none, same)
 unanswered p body moment old new before after (exits.Script n) (inr (request, is, ends)) = absurd ends
 unanswered p body moment old new before after exits.Memory (inl (same, kept)) = inr (refl, inl same)

@@ -49,30 +49,30 @@ joined [] = []
 joined (piece ∷ pieces) = piece ++ joined pieces
 
 -- the status line, the fields and an empty line, for a body of that length
-abbrev pub head : Outcome → Kind → ℕ → List ℕ
-head outcome kind len = joined (
+abbrev pub head_of_kind : Outcome → Kind → ℕ → List ℕ
+head_of_kind outcome kind len = joined (
     codes "HTTP/1.1 " ∷ status_of outcome
     ∷ codes "\r\nContent-Type: " ∷ type_of kind ∷ codes "\r\nContent-Length: " ∷ decimal len
     ∷ codes "\r\n" ∷ field_of outcome ∷ codes "Connection: close\r\n\r\n" ∷ []
     )
 
-abbrev pub response : Outcome → Kind → List ℕ → List ℕ
-response outcome kind body = head outcome kind (length body) ++ body
+abbrev pub response_of_kind : Outcome → Kind → List ℕ → List ℕ
+response_of_kind outcome kind body = head_of_kind outcome kind (length body) ++ body
 
 -- ---- refusals
 
 -- what is answered where nothing is done: the outcome, and the same words as the body
 abbrev pub refusal : Outcome → List ℕ
-refusal outcome = response outcome Plain (status_of outcome)
+refusal outcome = response_of_kind outcome Plain (status_of outcome)
 
-abbrev pub outcome_of : Refusal → Outcome
-outcome_of refusals.Token = Unauthorized
-outcome_of refusals.Target = NotFound
-outcome_of refusals.Query = Malformed
-outcome_of refusals.OnlyGet = OnlyGet
-outcome_of refusals.OnlyPost = OnlyPost
-outcome_of refusals.Length = LengthRequired
-outcome_of refusals.Size = TooLarge
+abbrev pub refusal_outcome : Refusal → Outcome
+refusal_outcome refusals.Token = Unauthorized
+refusal_outcome refusals.Target = NotFound
+refusal_outcome refusals.Query = Malformed
+refusal_outcome refusals.OnlyGet = OnlyGet
+refusal_outcome refusals.OnlyPost = OnlyPost
+refusal_outcome refusals.Length = LengthRequired
+refusal_outcome refusals.Size = TooLarge
 
 -- ---- figures
 

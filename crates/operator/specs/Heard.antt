@@ -6,7 +6,7 @@ use Rattle.operator.specs.declared.request.Asked.TheVariants.{Order, Zone, Metri
 use Rattle.operator.specs.declared.hearing.TheConstants.{MOST_HEAD}
 use Rattle.operator.specs.declared.hearing.Unheard.{Unheard}
 use Rattle.operator.specs.declared.hearing.Unheard.TheVariants.{Headless, Lost}
-use Rattle.operator.specs.Requests.{IsAskedBy, most_fields}
+use Rattle.operator.specs.Requests.{IsAskedBy, most_head_fields}
 use Rattle.policy.specs.Rules.{PolicyRules}
 
 -- the most bytes of a head, with the empty line at its end
@@ -15,7 +15,7 @@ most_head = MOST_HEAD
 
 -- as long as a head may be, and with as many fields
 abbrev pub KeepsLimits : RequestHead → Type 0
-KeepsLimits h = (length (print_request h) ≤ most_head) × (length h.fields ≤ most_fields)
+KeepsLimits h = (length (print_request h) ≤ most_head) × (length h.fields ≤ most_head_fields)
 
 -- an order has a body of the length that was given, and nothing else has one
 abbrev pub IsBodyOf : Asked → List ℕ → Type 0
@@ -46,8 +46,8 @@ IsUnheard input Lost = ⊤
 -- ---- how much is read
 
 -- if the bytes begin with no such head, they never will, whatever follows
-abbrev pub IsDecided : List ℕ → Type 0
-IsDecided bytes = IsHeadless bytes → (more : List ℕ) → IsHeadless (bytes ++ more)
+abbrev pub StaysHeadless : List ℕ → Type 0
+StaysHeadless bytes = IsHeadless bytes → (more : List ℕ) → IsHeadless (bytes ++ more)
 
 -- they begin with no whole head yet, and may become one
 abbrev pub IsOpen : List ℕ → Type 0

@@ -6,7 +6,7 @@ use Rattle.frames.specs.Clocks.{Tells}
 use Rattle.accounts.specs.declared.line.Line.{Line}
 use Rattle.model.specs.Lapse.{lapsed}
 use Rattle.model.specs.Registry.{account_of}
-use Rattle.operator.specs.Answers.{outcome_of, refusal, registry_figures, response}
+use Rattle.operator.specs.Answers.{refusal, refusal_outcome, registry_figures, response_of_kind}
 use Rattle.operator.specs.Heard.{IsHeard, IsUnheard}
 use Rattle.operator.specs.declared.answer.Kind.TheVariants as kinds
 use Rattle.operator.specs.declared.answer.Outcome.{Outcome}
@@ -51,8 +51,8 @@ IsAnsweredOrder p body moment outcome text old new =
     IsOrdered body (λ request. (code : Code) × (outcome ≡ outcome_of_code code) × PrintsAnswer p request moment code old new (Some []) (Some text))
 
 -- the body is no order, and nothing is changed
-abbrev pub IsNoOrder : List ℕ → Outcome → BookState → BookState → Type 0
-IsNoOrder body outcome old new =
+abbrev pub IsMalformedOrder : List ℕ → Outcome → BookState → BookState → Type 0
+IsMalformedOrder body outcome old new =
     (outcome ≡ outcomes.Malformed) × (order_in body ≡ None) × IsUnchanged old new
 
 -- the registry gave up, or there was no memory: nothing is changed, or the order took its step
@@ -66,7 +66,7 @@ IsFailedOrder p body moment outcome old new =
 abbrev pub Orders : PolicyRules → List ℕ → ℕ → Outcome → List ℕ → BookState → BookState → Type 0
 Orders p body moment outcome text old new =
     IsAnsweredOrder p body moment outcome text old new
-    ⊎ (IsNoOrder body outcome old new ⊎ IsFailedOrder p body moment outcome old new)
+    ⊎ (IsMalformedOrder body outcome old new ⊎ IsFailedOrder p body moment outcome old new)
 
 -- ---- what is sent
 
@@ -84,7 +84,7 @@ abbrev pub DoesOrder : PolicyRules → List ℕ → (clock later : Option (List 
 DoesOrder p body clock later old new before after end =
     (moment : ℕ) × Tells clock later moment
     × (outcome : Outcome) × (text : List ℕ) × Orders p body moment outcome text old new
-    × IsSent (response outcome kinds.Json text) before after end
+    × IsSent (response_of_kind outcome kinds.Json text) before after end
 
 -- the text of the zone at a moment, if nothing wrong was taken from what keeps the book
 abbrev pub IsZone : PolicyRules → ℕ → (old new : BookState) → List ℕ → Type 0
@@ -96,7 +96,7 @@ abbrev pub DoesZone : PolicyRules → (clock later : Option (List ℕ)) → (old
     → (before after : Option (List ℕ)) → RequestEnd → Type 0
 DoesZone p clock later old new before after end =
     (moment : ℕ) × Tells clock later moment × Passes p moment old new
-    × (((text : List ℕ) × IsZone p moment old new text × IsSent (response outcomes.Done kinds.Dns text) before after end)
+    × (((text : List ℕ) × IsZone p moment old new text × IsSent (response_of_kind outcomes.Done kinds.Dns text) before after end)
     ⊎ IsSent (refusal outcomes.Failed) before after end)
 
 -- ---- statements
@@ -116,7 +116,7 @@ abbrev pub DoesStatement : PolicyRules → Extract → (clock later : Option (Li
     → (before after : Option (List ℕ)) → RequestEnd → Type 0
 DoesStatement p x clock later old new before after end =
     (moment : ℕ) × Tells clock later moment × Passes p moment old new
-    × (((text : List ℕ) × IsStatement p x moment old new text × IsSent (response outcomes.Done kinds.Csv text) before after end)
+    × (((text : List ℕ) × IsStatement p x moment old new text × IsSent (response_of_kind outcomes.Done kinds.Csv text) before after end)
     ⊎ IsSent (refusal outcomes.Failed) before after end)
 
 -- ---- figures
@@ -124,7 +124,7 @@ DoesStatement p x clock later old new before after end =
 -- some figures, with those of a registry at their end
 abbrev pub IsFigures : Backlog → (before after : Option (List ℕ)) → RequestEnd → Type 0
 IsFigures backlog before after end =
-    ((text : List ℕ) × IsSent (response outcomes.Done kinds.Prometheus (text ++ registry_figures backlog)) before after end)
+    ((text : List ℕ) × IsSent (response_of_kind outcomes.Done kinds.Prometheus (text ++ registry_figures backlog)) before after end)
     ⊎ IsSent (refusal outcomes.Failed) before after end
 
 -- figures with those of the registry at one moment, or that there are none; the registry stays as it is
@@ -138,14 +138,14 @@ DoesMetrics p clock later old new before after end =
 -- ---- all that is asked
 
 -- What is done for what is asked; what is refused does nothing.
-abbrev pub Does : PolicyRules → Asked → List ℕ → (clock later : Option (List ℕ)) → (old new : BookState)
+abbrev pub DoesAsked : PolicyRules → Asked → List ℕ → (clock later : Option (List ℕ)) → (old new : BookState)
     → (before after : Option (List ℕ)) → RequestEnd → Type 0
-Does p (Order n) body clock later old new before after end = DoesOrder p body clock later old new before after end
-Does p Zone body clock later old new before after end = DoesZone p clock later old new before after end
-Does p Metrics body clock later old new before after end = DoesMetrics p clock later old new before after end
-Does p (Statement extract) body clock later old new before after end = DoesStatement p extract clock later old new before after end
-Does p (Refused why) body clock later old new before after end =
-    (later ≡ clock) × (new ≡ old) × IsSent (refusal (outcome_of why)) before after end
+DoesAsked p (Order n) body clock later old new before after end = DoesOrder p body clock later old new before after end
+DoesAsked p Zone body clock later old new before after end = DoesZone p clock later old new before after end
+DoesAsked p Metrics body clock later old new before after end = DoesMetrics p clock later old new before after end
+DoesAsked p (Statement extract) body clock later old new before after end = DoesStatement p extract clock later old new before after end
+DoesAsked p (Refused why) body clock later old new before after end =
+    (later ≡ clock) × (new ≡ old) × IsSent (refusal (refusal_outcome why)) before after end
 
 -- what is answered where none is heard
 abbrev pub AnswersUnheard : Unheard → (before after : Option (List ℕ)) → RequestEnd → Type 0
@@ -157,4 +157,5 @@ abbrev pub Operates : PolicyRules → List ℕ → (input clock : Option (List �
     → (before after later : Option (List ℕ)) → BookState → RequestEnd → Type 0
 Operates p credentials input clock old before after later new end =
     ((later ≡ clock) × (new ≡ old) × (why : Unheard) × IsUnheard input why × AnswersUnheard why before after end)
-    ⊎ ((asked : Asked) × (body : List ℕ) × IsHeard p credentials input asked body × Does p asked body clock later old new before after end)
+    ⊎ ((asked : Asked) × (body : List ℕ) × IsHeard p credentials input asked body
+    × DoesAsked p asked body clock later old new before after end)

@@ -43,26 +43,26 @@ abbrev pub credentials_of : List ℕ → List ℕ
 credentials_of token = codes "Bearer " ++ token
 
 -- whether each byte is a letter, a digit or a sign
-abbrev pub is_visible : List ℕ → Bool
-is_visible token = list_all is_ascii_graphic token
+abbrev pub is_visible_token : List ℕ → Bool
+is_visible_token token = list_all is_ascii_graphic token
 
 -- a token that may open the port
 abbrev pub IsFit : List ℕ → Type 0
-IsFit token = (least_token ≤ length token) × (is_visible token ≡ true)
+IsFit token = (least_token ≤ length token) × (is_visible_token token ≡ true)
 
 -- why one may not
 abbrev pub IsUnfit : List ℕ → TokenFault → Type 0
 IsUnfit token Short = length token < least_token
-IsUnfit token Byte = (least_token ≤ length token) × (is_visible token ≡ false)
+IsUnfit token Byte = (least_token ≤ length token) × (is_visible_token token ≡ false)
 IsUnfit token Memory = ⊤
 
 -- whether the only field Authorization says so, whole
-abbrev pub is_right : List ℕ → Option (List ℕ) → Bool
-is_right credentials None = false
-is_right credentials (Some value) = bytes_eq value credentials
+abbrev pub says_credentials : List ℕ → Option (List ℕ) → Bool
+says_credentials credentials None = false
+says_credentials credentials (Some value) = bytes_eq value credentials
 
 abbrev pub bears : List ℕ → List (List ℕ × List ℕ) → Bool
-bears credentials fields = is_right credentials (only_value (codes "Authorization") fields)
+bears credentials fields = says_credentials credentials (only_value (codes "Authorization") fields)
 
 -- ---- the length of the body
 
@@ -86,9 +86,9 @@ IsLength fields length = IsNumberIn (only_value (codes "Content-Length") fields)
 -- ---- what is asked
 
 -- a body of that length comes; without a length there is none (RFC 9110, 15.5.12 and 15.5.14)
-abbrev pub ordered : Option ℕ → Asked
-ordered None = Refused refusals.Length
-ordered (Some n) = if nat_le n most_body then Order n else Refused refusals.Size
+abbrev pub order_of_length : Option ℕ → Asked
+order_of_length None = Refused refusals.Length
+order_of_length (Some n) = if nat_le n most_body then Order n else Refused refusals.Size
 
 abbrev pub got : List ℕ → Asked → Asked
 got method asked = if bytes_eq method (codes "GET") then asked else Refused refusals.OnlyGet
@@ -111,7 +111,7 @@ elsewhere p (Some text) method = of_registrar (account_asked p text) (bounds_ask
 -- of who has the token, by method and target (RFC 9110, 15.5.5 and 15.5.6)
 abbrev pub routed : PolicyRules → List ℕ → List ℕ → Option ℕ → Asked
 routed p method target length =
-    if bytes_eq target (codes "/orders") then (if bytes_eq method (codes "POST") then ordered length else Refused refusals.OnlyPost)
+    if bytes_eq target (codes "/orders") then (if bytes_eq method (codes "POST") then order_of_length length else Refused refusals.OnlyPost)
     else (if bytes_eq target (codes "/zone") then got method Zone
     else (if bytes_eq target (codes "/metrics") then got method Metrics
     else elsewhere p (after (codes "/statement/") target) method))
@@ -128,15 +128,15 @@ pub record IsAskedBy (p : PolicyRules) (credentials : List ℕ) (h : RequestHead
   pub is : asked ≡ asked_by p (bears credentials (map name_and_value h.fields)) h.method h.target length
 
 -- the most fields of a head
-abbrev pub most_fields : ℕ
-most_fields = MOST_FIELDS
+abbrev pub most_head_fields : ℕ
+most_head_fields = MOST_FIELDS
 
 -- the bytes begin with a head by which this is asked, and which is so many of them
-abbrev pub HasHead : PolicyRules → List ℕ → List ℕ → Asked → ℕ → Type 0
-HasHead p credentials bytes asked len =
+abbrev pub HasHeadAsking : PolicyRules → List ℕ → List ℕ → Asked → ℕ → Type 0
+HasHeadAsking p credentials bytes asked len =
     (h : RequestHead) × ReadsRequest bytes h (drop len bytes) × (len ≡ length (print_request h)) × (len ≤ length bytes)
-    × (length h.fields ≤ most_fields) × IsAskedBy p credentials h asked
+    × (length h.fields ≤ most_head_fields) × IsAskedBy p credentials h asked
 
 -- they begin with no head of so few fields
 abbrev pub HasNoHead : List ℕ → Type 0
-HasNoHead bytes = (h : RequestHead) (rest : List ℕ) → ReadsRequest bytes h rest → most_fields < length h.fields
+HasNoHead bytes = (h : RequestHead) (rest : List ℕ) → ReadsRequest bytes h rest → most_head_fields < length h.fields

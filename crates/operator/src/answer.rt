@@ -81,7 +81,7 @@ impl Kind {
 
 /// How a refused request is answered.
 pub fn outcome_of(refusal: Refusal) -> Outcome
-    ensures { result ≡ spec.outcome_of refusal }
+    ensures { result ≡ spec.refusal_outcome refusal }
 {
     match refusal {
         Refusal::Token => Outcome::Unauthorized,
@@ -101,7 +101,7 @@ pub fn response(
     kind: Kind,
     body: &[u8],
 ) -> Result<Vec<u8>, AllocError>
-    ensures { IfOk result (λ text. text.items ≡ spec.response outcome kind body.now) }
+    ensures { IfOk result (λ text. text.items ≡ spec.response_of_kind outcome kind body.now) }
 {
     let head = head(alloc, outcome, kind, body.len())?;
     let mut text = Vec::from_slice(alloc, head.as_bytes())?;
@@ -110,7 +110,7 @@ pub fn response(
 }
 
 fn head(alloc: Global, outcome: Outcome, kind: Kind, length: usize) -> Result<String, AllocError>
-    ensures { IfOk result (λ text. string_bytes text ≡ spec.head outcome kind length) }
+    ensures { IfOk result (λ text. string_bytes text ≡ spec.head_of_kind outcome kind length) }
 {
     let (status, field, name) = (outcome.status(), outcome.field(), kind.name());
     format!(in alloc;

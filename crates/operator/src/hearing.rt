@@ -1,7 +1,7 @@
 //! Requests of the operator's, as a connection gives them.
 ghost use Rattle.std.specs.Prelude.{◌≡◌, ◌≤◌, ◌⊎◌, true, false, drop, take, length, vec_len, IfOk, IfSome, MatchResult};
 ghost use Rattle.std.specs.Io.KnownBytes.{Consumes, IsAtEnd};
-ghost use Rattle.operator.specs.Heard.{IsBodyOf, IsDecided, IsHeard, IsOpen, IsUnheard, most_head};
+ghost use Rattle.operator.specs.Heard.{IsBodyOf, IsHeard, IsOpen, IsUnheard, StaysHeadless, most_head};
 
 use crate::request::{Asked, MOST_FIELDS, read_head};
 use httparse::Status;
@@ -130,7 +130,7 @@ fn read_to_head<R: Read>(reader: &mut R, buffer: &mut [u8]) -> Result<usize, Rea
     ensures bound { IfOk result (λ n. n ≤ length buffer.new) }
     ensures bytes { IfOk result (λ n. Consumes (R.remaining reader.old) (R.remaining reader.new)
         (take n buffer.new)) }
-    ensures enough { IfOk result (λ n. IsDecided (take n buffer.new) ⊎ IsAtEnd (R.remaining reader.new)) }
+    ensures enough { IfOk result (λ n. StaysHeadless (take n buffer.new) ⊎ IsAtEnd (R.remaining reader.new)) }
 {
     let mut count = 0;
     'reads: for _ in 0..u64::MAX {
@@ -149,7 +149,7 @@ fn read_to_head<R: Read>(reader: &mut R, buffer: &mut [u8]) -> Result<usize, Rea
 
 /// Whether more bytes can't bring a head where there is none.
 fn is_decided(bytes: &[u8]) -> bool
-    ensures decided { result ≡ true → IsDecided bytes.now }
+    ensures decided { result ≡ true → StaysHeadless bytes.now }
     ensures cut { result ≡ false → IsOpen bytes.now }
 {
     if bytes.len() >= MOST_HEAD {

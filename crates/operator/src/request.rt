@@ -3,7 +3,7 @@ ghost use Rattle.std.specs.Prelude.{◌≡◌, length, map, All, Some, MatchOpti
 ghost use Rattle.std.specs.List.{list_any};
 ghost use Rattle.httparse.specs.Spans.{IsHeaderWithin, header_bytes};
 ghost use Rattle.operator.specs.Requests as spec;
-ghost use Rattle.operator.specs.Requests.{HasHead, HasNoHead, IsLength, IsNumber};
+ghost use Rattle.operator.specs.Requests.{HasHeadAsking, HasNoHead, IsLength, IsNumber};
 
 use crate::token::is_same;
 use basis::registrar::RegistrarNo;
@@ -54,7 +54,7 @@ pub enum Refusal {
 
 /// What the head asks for that bytes begin with, and how long it is. None where they begin with none.
 pub fn read_head(policy: &Policy, credentials: &[u8], bytes: &[u8]) -> Option<(Asked, usize)>
-    ensures { MatchOption result (HasNoHead bytes.now) (λ read. HasHead policy.now credentials.now bytes.now
+    ensures { MatchOption result (HasNoHead bytes.now) (λ read. HasHeadAsking policy.now credentials.now bytes.now
         read.0 read.1) }
 {
     let mut headers = [EMPTY_HEADER_SPAN; MOST_FIELDS];
@@ -151,7 +151,7 @@ fn got(method: &[u8], asked: Asked) -> Asked
 }
 
 fn ordered(length: Option<usize>) -> Asked
-    ensures { result ≡ spec.ordered length }
+    ensures { result ≡ spec.order_of_length length }
 {
     match length {
         Some(length) if length <= MOST_BODY => Asked::Order(length),

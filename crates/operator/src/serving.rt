@@ -1,7 +1,7 @@
 //! A connection of the operator's: one request.
 ghost use Rattle.std.specs.Prelude.{◌≡◌, ◌≤◌, true, string_bytes, IfSome, OnOk};
-ghost use Rattle.operator.specs.Answers.{refusal, response};
-ghost use Rattle.operator.specs.Operations.{AnswersUnheard, Does, IsSent, Operates};
+ghost use Rattle.operator.specs.Answers.{refusal, response_of_kind};
+ghost use Rattle.operator.specs.Operations.{AnswersUnheard, DoesAsked, IsSent, Operates};
 ghost use Rattle.operator.specs.Operations as spec;
 ghost use Rattle.server.specs.Http.{Passes};
 ghost use Rattle.registry.specs.Execution.{IsUnchanged, ShowsBacklog};
@@ -81,7 +81,7 @@ fn answer<W: Write, C: Clock, F: Figures, B: Book + Drop>(
     clock: &mut C,
     registry: &mut Registry<B>,
 ) -> RequestEnd
-    ensures does { Does registry.old.policy asked body.now (C.moments clock.old)
+    ensures does { DoesAsked registry.old.policy asked body.now (C.moments clock.old)
         (C.moments clock.new) (B.state registry.old.book) (B.state registry.new.book)
         (W.contents writer.old) (W.contents writer.new) result }
     ensures follows { Follows (B.state registry.old.book) (B.state registry.new.book) }
@@ -281,7 +281,7 @@ fn send<W: Write>(
     body: &[u8],
     writer: &mut W,
 ) -> RequestEnd
-    ensures { IsSent (response outcome kind body.now) (W.contents writer.old) (W.contents writer.new)
+    ensures { IsSent (response_of_kind outcome kind body.now) (W.contents writer.old) (W.contents writer.new)
         result }
 {
     let Ok(answer) = response(alloc, outcome, kind, body) else {

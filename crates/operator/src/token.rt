@@ -58,7 +58,7 @@ fn token_in(file: &[u8]) -> &[u8]
 
 /// Whether each byte is a letter, a digit or a sign.
 fn is_visible(token: &[u8]) -> bool
-    ensures { result ≡ spec.is_visible token.now }
+    ensures { result ≡ spec.is_visible_token token.now }
 {
     token.iter().all(|byte| byte.is_ascii_graphic())
 }

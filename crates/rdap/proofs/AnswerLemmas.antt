@@ -2,14 +2,14 @@
 use Rattle.std.proofs.Common.{ℕ, List, ◌++◌, ap, sym, ◌∙◌, inl, inr}
 use Rattle.httparse.specs.Grammar.{RequestHead}
 use Rattle.rdap.proofs.HeadLemmas.{one_head, stays}
-use Rattle.rdap.specs.Answering.{AnswersAgree, Faces, IsAnswer, answer_text}
+use Rattle.rdap.specs.Answering.{AnswersAgree, Faces, IsAnswer, request_answer}
 use Rattle.rdap.specs.Heads.{IsDecided}
 use Rattle.policy.specs.Rules.{PolicyRules}
 use Rattle.rdap.specs.Requests.{request_of}
 
 pub one_answer : AnswersAgree
 one_answer p faces head one other (inl (h, has, is)) (inl (k, has_too, is_too)) =
-    is ∙ ap (λ (l : RequestHead). answer_text p faces (request_of l.method l.target)) (one_head head h k has has_too) ∙ sym is_too
+    is ∙ ap (λ (l : RequestHead). request_answer p faces (request_of l.method l.target)) (one_head head h k has has_too) ∙ sym is_too
 one_answer p faces head one other (inl (h, has, is)) (inr (none, is_too)) = absurd (none h has)
 one_answer p faces head one other (inr (none, is)) (inl (k, has_too, is_too)) = absurd (none k has_too)
 one_answer p faces head one other (inr (none, is)) (inr (none_too, is_too)) = is ∙ sym is_too

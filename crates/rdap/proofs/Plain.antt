@@ -16,7 +16,7 @@ use Rattle.objects.specs.Graces.{states_of}
 use Rattle.policy.specs.Rules.{PolicyRules, id_at}
 use Rattle.rdap.specs.declared.domain.Role.{Role}
 use Rattle.rdap.specs.declared.domain.Role.TheVariants.{Registrar}
-use Rattle.rdap.specs.Bodies.{address_members, addresses_value, contact_members, contact_value, dated, events_value, nameserver_members, nameserver_value, of_version_4, of_version_6, shown, some_texts, contact_entity, contacts_of, domain_members, domain_value, entities, host_members, host_value, registrar_entity, role_members, role_text, role_value, roles_of}
+use Rattle.rdap.specs.Bodies.{address_members, addresses_value, members_of_entity, entity_object, event_if_dated, events_value, nameserver_members, nameserver_value, of_version_4, of_version_6, shown, some_texts, contact_entity, contact_names, members_of_domain, domain_object, entities, members_of_host, host_object, registrar_entity, role_members, role_text, role_value, roles_of}
 use Rattle.rdap.specs.StatusWords.{status_words}
 
 or_first : (a b : Bool) → (a || b) ≡ false → a ≡ false
@@ -37,18 +37,18 @@ pub append_plain : (xs ys : List Data) → ArePlainItems xs → ArePlainItems ys
 append_plain [] ys p q = q
 append_plain (x ∷ xs) ys p q = neither _ _ (or_first _ _ p) (append_plain xs ys (or_second (has_float x) _ p) q)
 
-dated_plain : (action : List ℕ) (date : Option ℕ) → ArePlainItems (dated action date)
+dated_plain : (action : List ℕ) (date : Option ℕ) → ArePlainItems (event_if_dated action date)
 dated_plain action None = refl
 dated_plain action (Some date) = refl
 
 pub events_plain : (created : ℕ) (expires updated transferred : Option ℕ) → IsPlain (events_value created expires updated transferred)
 events_plain created expires updated transferred =
-    let first : List Data = dated (codes "registration") (Some created) in
-    let second : List Data = dated (codes "expiration") expires in
-    let third : List Data = dated (codes "last changed") updated in
+    let first : List Data = event_if_dated (codes "registration") (Some created) in
+    let second : List Data = event_if_dated (codes "expiration") expires in
+    let third : List Data = event_if_dated (codes "last changed") updated in
     let two = append_plain first second (dated_plain (codes "registration") (Some created)) (dated_plain (codes "expiration") expires) in
     let three = append_plain (first ++ second) third two (dated_plain (codes "last changed") updated) in
-    append_plain ((first ++ second) ++ third) (dated (codes "transfer") transferred) three (dated_plain (codes "transfer") transferred)
+    append_plain ((first ++ second) ++ third) (event_if_dated (codes "transfer") transferred) three (dated_plain (codes "transfer") transferred)
 
 pub shown_plain : (read : Result (List ℕ) NameFault) → IfSome (shown read) IsPlain
 shown_plain (Ok text) = refl
@@ -68,8 +68,8 @@ nameserver_plain name h = members_plain (nameserver_members name h) (
   (refl, (addresses_plain h.addresses, (refl, (refl, (refl, (texts (status_words h.statuses []), (shown_plain (or_syntax (unicode_of name)), tt))))))),
 )
 
-pub contact_plain : (c : ContactFace) → IsPlain (contact_value c)
-contact_plain c = members_plain (contact_members c) (events_plain c.created None c.updated c.transferred, (refl, (refl, (refl, (texts (status_words c.statuses []), tt)))))
+pub contact_plain : (c : ContactFace) → IsPlain (entity_object c)
+contact_plain c = members_plain (members_of_entity c) (events_plain c.created None c.updated c.transferred, (refl, (refl, (refl, (texts (status_words c.statuses []), tt)))))
 
 role_plain : (handle : List ℕ) (roles : List Role) → IsPlain (role_value handle roles)
 role_plain handle roles = members_plain (role_members handle roles) (refl, (refl, (texts (map role_text roles), tt)))
@@ -80,17 +80,17 @@ registrar_plain (Some id) = neither _ _ (role_plain id (Registrar ∷ [])) refl
 
 entities_plain : (sponsor : Option (List ℕ)) (links : Links) → ArePlainItems (entities sponsor links)
 entities_plain sponsor links =
-    append_plain (map (contact_entity links) (contacts_of links)) (registrar_entity sponsor)
-    (items_plain (contact_entity links) (contacts_of links) (λ name. role_plain name (roles_of links name))) (registrar_plain sponsor)
+    append_plain (map (contact_entity links) (contact_names links)) (registrar_entity sponsor)
+    (items_plain (contact_entity links) (contact_names links) (λ name. role_plain name (roles_of links name))) (registrar_plain sponsor)
 
-host_plain : (name : List ℕ) → IsPlain (host_value name)
-host_plain name = members_plain (host_members name) (refl, (refl, tt))
+host_plain : (name : List ℕ) → IsPlain (host_object name)
+host_plain name = members_plain (members_of_host name) (refl, (refl, tt))
 
-pub domain_plain : (p : PolicyRules) (name : List ℕ) (d : DomainFace) → IsPlain (domain_value p name d)
-domain_plain p name d = members_plain (domain_members p name d) (
+pub domain_plain : (p : PolicyRules) (name : List ℕ) (d : DomainFace) → IsPlain (domain_object p name d)
+domain_plain p name d = members_plain (members_of_domain p name d) (
   entities_plain (id_at p d.sponsor) d.links,
   (
     events_plain d.created (Some d.expires) d.updated d.transferred,
-    (refl, (refl, (items_plain host_value d.links.hosts host_plain, (refl, (refl, (texts (status_words d.statuses (states_of d.standing)), (shown_plain (or_syntax (unicode_of name)), tt))))))),
+    (refl, (refl, (items_plain host_object d.links.hosts host_plain, (refl, (refl, (texts (status_words d.statuses (states_of d.standing)), (shown_plain (or_syntax (unicode_of name)), tt))))))),
   ),
 )

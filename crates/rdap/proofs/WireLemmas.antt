@@ -2,12 +2,12 @@
 use Rattle.std.proofs.Common.{◌≡◌, refl}
 use Rattle.std.specs.Fmt.{digits}
 use Rattle.http.specs.StatusCode.{status_text}
-use Rattle.rdap.specs.Answers.{code_of, status_of}
+use Rattle.rdap.specs.Answers.{code_and_reason, status_code}
 use Rattle.rdap.specs.declared.wire.Outcome.{Outcome}
 use Rattle.rdap.specs.declared.wire.Outcome.TheVariants.{Found, BadRequest, NotFound, MethodNotAllowed}
 
 -- what is written of a code is the code and its reason
-pub code_written : (outcome : Outcome) → status_text (code_of outcome) ≡ status_of outcome
+pub code_written : (outcome : Outcome) → status_text (status_code outcome) ≡ code_and_reason outcome
 unfolding digits
 code_written Found = refl
 code_written BadRequest = refl

@@ -33,31 +33,31 @@ object_answer None = without_object NotFound
 object_answer (Some body) = response Found body
 
 -- a name that breaks the rule of names is a bad request; one that the zone doesn't keep isn't there
-abbrev pub outcome_of : NameFault → Outcome
-outcome_of Syntax = BadRequest
-outcome_of Policy = NotFound
-outcome_of Memory = NotFound
+abbrev pub name_fault_outcome : NameFault → Outcome
+name_fault_outcome Syntax = BadRequest
+name_fault_outcome Policy = NotFound
+name_fault_outcome Memory = NotFound
 
 abbrev pub domain_answer : PolicyRules → Faces → Result (List ℕ) NameFault → List ℕ
 domain_answer p faces (Ok name) = object_answer (option_map (domain_text p name) (faces.domain name))
-domain_answer p faces (Err fault) = without_object (outcome_of fault)
+domain_answer p faces (Err fault) = without_object (name_fault_outcome fault)
 
 abbrev pub nameserver_answer : Faces → Result (List ℕ) NameFault → List ℕ
 nameserver_answer faces (Ok name) = object_answer (option_map (nameserver_text name) (faces.host name))
-nameserver_answer faces (Err fault) = without_object (outcome_of fault)
+nameserver_answer faces (Err fault) = without_object (name_fault_outcome fault)
 
-abbrev pub answer_text : PolicyRules → Faces → Request → List ℕ
-answer_text p faces (Domain name) = domain_answer p faces (domain_of p.zone name)
-answer_text p faces (Nameserver name) = nameserver_answer faces (host_of p.zone name)
-answer_text p faces (Entity handle) = object_answer (option_map contact_text (faces.contact handle))
-answer_text p faces Help = without_object Found
-answer_text p faces (Refused outcome) = without_object outcome
+abbrev pub request_answer : PolicyRules → Faces → Request → List ℕ
+request_answer p faces (Domain name) = domain_answer p faces (domain_of p.zone name)
+request_answer p faces (Nameserver name) = nameserver_answer faces (host_of p.zone name)
+request_answer p faces (Entity handle) = object_answer (option_map contact_text (faces.contact handle))
+request_answer p faces Help = without_object Found
+request_answer p faces (Refused outcome) = without_object outcome
 
 -- the bytes answer the head that the bytes of a connection begin with, or are a bad request's where
 -- they begin with none
 abbrev pub IsAnswer : PolicyRules → Faces → List ℕ → List ℕ → Type 0
 IsAnswer p faces head bytes =
-    ((h : RequestHead) × HasHead head h × (bytes ≡ answer_text p faces (request_of h.method h.target)))
+    ((h : RequestHead) × HasHead head h × (bytes ≡ request_answer p faces (request_of h.method h.target)))
     ⊎ (((h : RequestHead) → ¬ (HasHead head h)) × (bytes ≡ without_object BadRequest))
 
 -- equal heads, policies and faces have equal answers: nothing else can be in one

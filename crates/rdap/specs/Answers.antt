@@ -9,18 +9,18 @@ joined [] = []
 joined (piece ∷ pieces) = piece ++ joined pieces
 
 -- codes (RFC 9110, 15)
-abbrev pub code_of : Outcome → ℕ
-code_of Found = 200
-code_of BadRequest = 400
-code_of NotFound = 404
-code_of MethodNotAllowed = 405
+abbrev pub status_code : Outcome → ℕ
+status_code Found = 200
+status_code BadRequest = 400
+status_code NotFound = 404
+status_code MethodNotAllowed = 405
 
 -- code and reason (RFC 9110, 15)
-abbrev pub status_of : Outcome → List ℕ
-status_of Found = codes "200 OK"
-status_of BadRequest = codes "400 Bad Request"
-status_of NotFound = codes "404 Not Found"
-status_of MethodNotAllowed = codes "405 Method Not Allowed"
+abbrev pub code_and_reason : Outcome → List ℕ
+code_and_reason Found = codes "200 OK"
+code_and_reason BadRequest = codes "400 Bad Request"
+code_and_reason NotFound = codes "404 Not Found"
+code_and_reason MethodNotAllowed = codes "405 Method Not Allowed"
 
 -- the methods that there are, where another was asked (RFC 9110, 15.5.6)
 abbrev pub allow_field_of : Outcome → List ℕ
@@ -32,7 +32,7 @@ allow_field_of NotFound = []
 -- the status line, the fields and an empty line, for a body of that length
 abbrev pub head : Outcome → ℕ → List ℕ
 head outcome len = joined (
-    codes "HTTP/1.1 " ∷ status_of outcome
+    codes "HTTP/1.1 " ∷ code_and_reason outcome
     ∷ codes "\r\nContent-Type: application/rdap+json\r\nContent-Length: " ∷ decimal len
     ∷ codes "\r\n" ∷ allow_field_of outcome ∷ codes "Connection: close\r\n\r\n" ∷ []
     )

@@ -37,16 +37,16 @@ event_members action date = (codes "eventAction", Some (string action)) ∷ (cod
 abbrev pub event_value : List ℕ → ℕ → Data
 event_value action date = object (members_with (event_members action date))
 
-abbrev pub dated : List ℕ → Option ℕ → List Data
-dated action None = []
-dated action (Some date) = event_value action date ∷ []
+abbrev pub event_if_dated : List ℕ → Option ℕ → List Data
+event_if_dated action None = []
+event_if_dated action (Some date) = event_value action date ∷ []
 
 abbrev pub events : ℕ → Option ℕ → Option ℕ → Option ℕ → List Data
 events created expires updated transferred =
-    ((dated (codes "registration") (Some created)
-    ++ dated (codes "expiration") expires)
-    ++ dated (codes "last changed") updated)
-    ++ dated (codes "transfer") transferred
+    ((event_if_dated (codes "registration") (Some created)
+    ++ event_if_dated (codes "expiration") expires)
+    ++ event_if_dated (codes "last changed") updated)
+    ++ event_if_dated (codes "transfer") transferred
 
 abbrev pub events_value : ℕ → Option ℕ → Option ℕ → Option ℕ → Data
 events_value created expires updated transferred =
@@ -108,19 +108,19 @@ nameserver_text name h = compact_text (nameserver_value name h)
 -- ---- entities (RFC 9083, 5.1)
 
 -- a contact, by its name
-abbrev pub contact_members : ContactFace → List (List ℕ × Option Data)
-contact_members c =
+abbrev pub members_of_entity : ContactFace → List (List ℕ × Option Data)
+members_of_entity c =
     (codes "events", Some (events_value c.created None c.updated c.transferred))
     ∷ (codes "handle", Some (string c.name))
     ∷ (codes "objectClassName", Some (string (codes "entity")))
     ∷ (codes "rdapConformance", Some conformance)
     ∷ (codes "status", Some (texts_value (status_words c.statuses []))) ∷ []
 
-abbrev pub contact_value : ContactFace → Data
-contact_value c = object (members_with (contact_members c))
+abbrev pub entity_object : ContactFace → Data
+entity_object c = object (members_with (members_of_entity c))
 
 abbrev pub contact_text : ContactFace → List ℕ
-contact_text c = compact_text (contact_value c)
+contact_text c = compact_text (entity_object c)
 
 -- ---- domains (RFC 9083, 5.3), by their names
 
@@ -153,8 +153,8 @@ abbrev pub role_value : List ℕ → List Role → Data
 role_value handle roles = object (members_with (role_members handle roles))
 
 -- the contacts by name, each once
-abbrev pub contacts_of : Links → List (List ℕ)
-contacts_of links = dedup bytes_eq (in_order ((links.registrant ∷ links.admin) ++ links.tech))
+abbrev pub contact_names : Links → List (List ℕ)
+contact_names links = dedup bytes_eq (in_order ((links.registrant ∷ links.admin) ++ links.tech))
 
 abbrev pub contact_entity : Links → List ℕ → Data
 contact_entity links name = role_value name (roles_of links name)
@@ -165,31 +165,31 @@ registrar_entity None = []
 registrar_entity (Some id) = role_value id (Registrar ∷ []) ∷ []
 
 abbrev pub entities : Option (List ℕ) → Links → List Data
-entities sponsor links = map (contact_entity links) (contacts_of links) ++ registrar_entity sponsor
+entities sponsor links = map (contact_entity links) (contact_names links) ++ registrar_entity sponsor
 
-abbrev pub host_members : List ℕ → List (List ℕ × Option Data)
-host_members name = (codes "ldhName", Some (string name)) ∷ (codes "objectClassName", Some (string (codes "nameserver"))) ∷ []
+abbrev pub members_of_host : List ℕ → List (List ℕ × Option Data)
+members_of_host name = (codes "ldhName", Some (string name)) ∷ (codes "objectClassName", Some (string (codes "nameserver"))) ∷ []
 
-abbrev pub host_value : List ℕ → Data
-host_value name = object (members_with (host_members name))
+abbrev pub host_object : List ℕ → Data
+host_object name = object (members_with (members_of_host name))
 
 abbrev pub standing_value : List Status → Standing → Data
 standing_value statuses standing = texts_value (status_words statuses (states_of standing))
 
-abbrev pub domain_members : PolicyRules → List ℕ → DomainFace → List (List ℕ × Option Data)
-domain_members p name d =
+abbrev pub members_of_domain : PolicyRules → List ℕ → DomainFace → List (List ℕ × Option Data)
+members_of_domain p name d =
     (codes "entities", Some (array (items_of (entities (id_at p d.sponsor) d.links))))
     ∷ (codes "events", Some (events_value d.created (Some d.expires) d.updated d.transferred))
     ∷ (codes "handle", Some (string (roid_text d.roid)))
     ∷ (codes "ldhName", Some (string name))
-    ∷ (codes "nameservers", Some (array (items_of (map host_value d.links.hosts))))
+    ∷ (codes "nameservers", Some (array (items_of (map host_object d.links.hosts))))
     ∷ (codes "objectClassName", Some (string (codes "domain")))
     ∷ (codes "rdapConformance", Some conformance)
     ∷ (codes "status", Some (standing_value d.statuses d.standing))
     ∷ (codes "unicodeName", unicode_value name) ∷ []
 
-abbrev pub domain_value : PolicyRules → List ℕ → DomainFace → Data
-domain_value p name d = object (members_with (domain_members p name d))
+abbrev pub domain_object : PolicyRules → List ℕ → DomainFace → Data
+domain_object p name d = object (members_with (members_of_domain p name d))
 
 abbrev pub domain_text : PolicyRules → List ℕ → DomainFace → List ℕ
-domain_text p name d = compact_text (domain_value p name d)
+domain_text p name d = compact_text (domain_object p name d)

@@ -11,21 +11,21 @@ use Rattle.rdap.specs.declared.request.Request.TheVariants.{Domain, Nameserver, 
 abbrev pub query_start : List ℕ → Option ℕ
 query_start target = position (λ b. b == 63) target
 
-abbrev pub up_to : Option ℕ → List ℕ → List ℕ
-up_to None target = target
-up_to (Some end) target = take end target
+abbrev pub target_up_to : Option ℕ → List ℕ → List ℕ
+target_up_to None target = target
+target_up_to (Some end) target = take end target
 
 -- the part before the query (RFC 3986, 3.3)
 abbrev pub path_of : List ℕ → List ℕ
-path_of target = up_to (query_start target) target
+path_of target = target_up_to (query_start target) target
 
 -- a byte of a path that is read as it is: none above 126, no number sign and no percent sign
 abbrev pub is_plain_byte : ℕ → Bool
 is_plain_byte b = nat_lt b 127 && not (b == 35) && not (b == 37)
 
 -- no escapes and no other letters than those of ASCII
-abbrev pub is_plain : List ℕ → Bool
-is_plain path = list_all is_plain_byte path
+abbrev pub is_plain_path : List ℕ → Bool
+is_plain_path path = list_all is_plain_byte path
 
 -- what follows the front, of a text that begins with it
 abbrev pub after : List ℕ → List ℕ → Option (List ℕ)
@@ -43,16 +43,16 @@ segment None = None
 segment (Some name) = if is_segment name then Some name else None
 
 -- the last segment of a path below a folder
-abbrev pub name_in : List ℕ → List ℕ → Option (List ℕ)
-name_in folder path = segment (after folder path)
+abbrev pub name_below : List ℕ → List ℕ → Option (List ℕ)
+name_below folder path = segment (after folder path)
 
 -- letters, digits and hyphens, as the names of contacts have
 abbrev pub is_handle : List ℕ → Bool
 is_handle handle = list_all (λ b. is_ascii_alphanumeric b || b == 45) handle
 
-abbrev pub contact_at : Option (List ℕ) → Request
-contact_at None = Refused NotFound
-contact_at (Some handle) = if is_handle handle then Entity handle else Refused BadRequest
+abbrev pub entity_at : Option (List ℕ) → Request
+entity_at None = Refused NotFound
+entity_at (Some handle) = if is_handle handle then Entity handle else Refused BadRequest
 
 abbrev pub nameserver_at : Option (List ℕ) → Request → Request
 nameserver_at None other = other
@@ -66,13 +66,13 @@ domain_at (Some name) other = Domain name
 abbrev pub request_at : List ℕ → Request
 request_at path =
     if bytes_eq path (codes "/help") then Help
-    else domain_at (name_in (codes "/domain/") path)
-    (nameserver_at (name_in (codes "/nameserver/") path)
-    (contact_at (name_in (codes "/entity/") path)))
+    else domain_at (name_below (codes "/domain/") path)
+    (nameserver_at (name_below (codes "/nameserver/") path)
+    (entity_at (name_below (codes "/entity/") path)))
 
 -- another method than GET is refused first, then a path that isn't plain
 unfoldable pub request_of : List ℕ → List ℕ → Request
 request_of method target =
     if not (bytes_eq method (codes "GET")) then Refused MethodNotAllowed
-    else if not (is_plain (path_of target)) then Refused BadRequest
+    else if not (is_plain_path (path_of target)) then Refused BadRequest
     else request_at (path_of target)

@@ -3,7 +3,7 @@ use Rattle.std.specs.Prelude.{ℕ, ◌+◌, List, [], ◌∷◌, ◌++◌, Some,
 use Rattle.matchit.specs.Params.{named, walk}
 use Rattle.matchit.specs.Router.{RouteOf}
 use Rattle.matchit.specs.Rows.{RowsOf, param_token}
-use Rattle.rdap.specs.Requests.{contact_at}
+use Rattle.rdap.specs.Requests.{entity_at}
 use Rattle.rdap.specs.declared.request.Request.{Request}
 use Rattle.rdap.specs.declared.request.Request.TheVariants as requests
 use Rattle.rdap.specs.declared.routes.Kind.{Kind}
@@ -37,7 +37,7 @@ routes =
 abbrev pub request_for : Kind → List ℕ → Request
 request_for Domain name = requests.Domain name
 request_for Nameserver name = requests.Nameserver name
-request_for Entity name = contact_at (Some name)
+request_for Entity name = entity_at (Some name)
 request_for Help name = requests.Help
 
 -- the segment of a path that a route calls `name`

@@ -1,6 +1,6 @@
 //! Answers to heads of requests (RFC 7480, 5).
 ghost use Rattle.std.specs.Prelude.{◌≡◌, IfOk, option_map};
-ghost use Rattle.rdap.specs.Answering.{Faces, IsAnswer, MayLeave, answer_text, domain_answer, nameserver_answer, object_answer, without_object};
+ghost use Rattle.rdap.specs.Answering.{Faces, IsAnswer, MayLeave, domain_answer, nameserver_answer, object_answer, request_answer, without_object};
 ghost use Rattle.rdap.specs.Bodies.{contact_text, domain_text, nameserver_text};
 ghost use Rattle.names.specs.Names.{domain_of, host_of};
 
@@ -45,7 +45,7 @@ fn answer_request<F: FaceSource>(
     source: &mut F,
 ) -> Result<Vec<u8>, F::Fault>
     ensures answer { IfOk result (λ bytes. (faces : Faces) → F.shows source.new faces
-        → bytes.items ≡ answer_text (F.rules source.old) faces request) }
+        → bytes.items ≡ request_answer (F.rules source.old) faces request) }
     ensures left { MayLeave F.leaves source.old source.new }
 {
     match request {

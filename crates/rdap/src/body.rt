@@ -70,7 +70,7 @@ fn add_event(
     events: &mut Vec<Value>,
 ) -> Result<(), AllocError>
     ensures { OnOk result (map view events.new.items ≡ map view events.old.items
-        ++ spec.dated action.now date) }
+        ++ spec.event_if_dated action.now date) }
 {
     let Some(date) = date else {
         return Ok(());

@@ -61,7 +61,7 @@ fn domain_value(
     name: &DomainName,
     face: &DomainFace,
 ) -> Result<Value, AllocError>
-    ensures { IfOk result (λ v. view v ≡ spec.domain_value policy.now name.now face.now) }
+    ensures { IfOk result (λ v. view v ≡ spec.domain_object policy.now name.now face.now) }
 {
     let dates = Dates {
         created: face.created,
@@ -144,7 +144,7 @@ fn contact_entities(
 
 /// The names of the contacts in order, each once.
 fn contacts_of(alloc: Global, links: &Links) -> Result<Seq<Text>, AllocError>
-    ensures { IfOk result (λ names. names ≡ spec.contacts_of links.now) }
+    ensures { IfOk result (λ names. names ≡ spec.contact_names links.now) }
 {
     let mut sorted = in_order(alloc, &named_contacts(alloc, links)?)?.into_vec();
     sorted.dedup();
@@ -213,7 +213,7 @@ fn role_value(alloc: Global, handle: &Text, roles: &[Role]) -> Result<Value, All
 
 /// The nameservers of a domain, by name.
 fn hosts_value(alloc: Global, hosts: &[Text]) -> Result<Value, AllocError>
-    ensures { IfOk result (λ v. view v ≡ array (items_of (map spec.host_value hosts.now))) }
+    ensures { IfOk result (λ v. view v ≡ array (items_of (map spec.host_object hosts.now))) }
 {
     let mut list = Vec::new(alloc);
     for host in hosts {
@@ -223,7 +223,7 @@ fn hosts_value(alloc: Global, hosts: &[Text]) -> Result<Value, AllocError>
 }
 
 fn host_value(alloc: Global, name: &Text) -> Result<Value, AllocError>
-    ensures { IfOk result (λ v. view v ≡ spec.host_value name.now) }
+    ensures { IfOk result (λ v. view v ≡ spec.host_object name.now) }
 {
     let members = vec![in alloc;
         ("ldhName", Item::Text(name)),

@@ -18,7 +18,7 @@ pub fn contact_body(alloc: Global, face: &ContactFace) -> Result<Vec<u8>, AllocE
 }
 
 fn contact_value(alloc: Global, face: &ContactFace) -> Result<Value, AllocError>
-    ensures { IfOk result (λ v. view v ≡ spec.contact_value face.now) }
+    ensures { IfOk result (λ v. view v ≡ spec.entity_object face.now) }
 {
     let dates = Dates {
         created: face.created,

@@ -74,7 +74,7 @@ fn query_start(target: &[u8]) -> Option<usize>
 }
 
 fn is_plain(path: &[u8]) -> bool
-    ensures { result ≡ spec.is_plain path.now }
+    ensures { result ≡ spec.is_plain_path path.now }
 {
     path.iter()
         .all(|byte| *byte < 127 && *byte != b'#' && *byte != b'%')
@@ -82,7 +82,7 @@ fn is_plain(path: &[u8]) -> bool
 
 /// The path as a text, if no byte of it is an escape or past ASCII.
 fn plain_path(path: &[u8]) -> Option<&str>
-    ensures { MatchOption result (spec.is_plain path.now ≡ false) (λ text. (spec.is_plain path.now
+    ensures { MatchOption result (spec.is_plain_path path.now ≡ false) (λ text. (spec.is_plain_path path.now
         ≡ true) × (text.now ≡ path.now)) }
 {
     if !is_plain(path) {
@@ -117,7 +117,7 @@ fn request_for(alloc: Global, kind: Kind, name: &str) -> Result<Request, AllocEr
 }
 
 fn contact_at(alloc: Global, handle: &str) -> Result<Request, AllocError>
-    ensures { IfOk result (λ request. request ≡ spec.contact_at (Some handle.now)) }
+    ensures { IfOk result (λ request. request ≡ spec.entity_at (Some handle.now)) }
 {
     if is_handle(handle.as_bytes()) {
         Ok(Request::Entity(Text::from_str(alloc, handle)?))

@@ -17,7 +17,7 @@ pub enum Outcome {
 impl Outcome {
     /// Its status code (RFC 9110, 15).
     fn status(self) -> StatusCode
-        ensures { result ≡ spec.code_of self }
+        ensures { result ≡ spec.status_code self }
     {
         match self {
             Outcome::Found => StatusCode::OK,

@@ -17,20 +17,20 @@ use Rattle.books.specs.Reopening.{IsBook, IsFound, IsFoundAgain, LeavesFound}
 use Rattle.states.specs.declared.readiness.Ready.{Ready}
 use Rattle.states.specs.declared.readiness.Ready.TheVariants.{Empty, Used, Other}
 use Rattle.states.specs.States.{Has, Remains}
-use Rattle.runs.specs.Crashes.{Call, Event, AreMade, Happen, Happened, Happens, ComeTo, Leads, WereMade, answered, asking, crash, gave_up, opening, refused, settling}
-use Rattle.runs.specs.CrashLaws.{CrashesLeaveRuns, CrashesLeftRuns, EventsGoOn, IsCarriedOut, TakenLeaveFound, event_of, refusal_of}
+use Rattle.runs.specs.Crashes.{Call, Event, AreMade, Happen, Happened, Happens, ComeTo, CallLeadsTo, WereMade, answered, asking, crash, gave_up, opening, refused, settling}
+use Rattle.runs.specs.CrashLaws.{CrashesLeaveRuns, CrashesLeftRuns, EventsGoOn, IsCarriedOut, TakenLeaveFound, event_of, refusal_event}
 
 -- `Past` tells what was come to, with a call made that a crash has to show, or with none
 
 -- once a call more answered
 abbrev after_answer : (Bool → Stored → Type 0) → Call → Bool → Stored → Type 0
-after_answer Past call false s = (first : Stored) × Past false first × Leads call first s
+after_answer Past call false s = (first : Stored) × Past false first × CallLeadsTo call first s
 after_answer Past call true s = ⊥
 
 -- once one more gave up
 abbrev after_fault : (Bool → Stored → Type 0) → Call → Bool → Stored → Type 0
 after_fault Past call false s = Past false s
-after_fault Past call true s = Past true s ⊎ ((first : Stored) × Past false first × Leads call first s)
+after_fault Past call true s = Past true s ⊎ ((first : Stored) × Past false first × CallLeadsTo call first s)
 
 -- once the machine stopped
 abbrev after_crash : (Bool → Stored → Type 0) → Bool → Stored → Type 0
@@ -59,7 +59,7 @@ comes-crash Past events found (false, s, inl past, calls, were, made) = (false, 
 comes-crash Past events found (false, s, inr past, calls, were, made) = (true, s, past, calls, were, made)
 
 -- what a call made is a registry that was opened
-opened-by : (call : Call) (before after : Stored) → Leads call before after → (terms : Terms) × (after.terms ≡ Some terms)
+opened-by : (call : Call) (before after : Stored) → CallLeadsTo call before after → (terms : Terms) × (after.terms ≡ Some terms)
 opened-by (opening p) before after leads = (terms_of p, ap (λ (held : Stored). held.terms) leads.1)
 opened-by (asking p moment q) before after leads = (terms_of p, leads.1.1 ∙ leads.0)
 opened-by (settling p moment at_most) before after leads = (terms_of p, leads.1.1 ∙ leads.0)
@@ -182,7 +182,7 @@ events-go-on (event ∷ events) later old mid new (between, first, more) rest = 
 
 -- one that gave up
 gave-way : (p : PolicyRules) (call : Call) (makes : Stored → Stored → Type 0) (old new : BookState)
-    → ((before after : Stored) → before.terms ≡ Some (terms_of p) → makes before after → Leads call before after)
+    → ((before after : Stored) → before.terms ≡ Some (terms_of p) → makes before after → CallLeadsTo call before after)
     → (old.is_clean ≡ true → old.content.terms ≡ Some (terms_of p)) → Follows old new → (new.is_clean ≡ true → new.content ≡ old.content) → LeavesOldOrMade makes old new
     → Happens (gave_up call) old new
 gave-way p call makes old new leads kept follows same outcome =
@@ -190,7 +190,7 @@ gave-way p call makes old new leads kept follows same outcome =
 
 -- whatever a call answers, it is an event, where what its contract says it makes is what that event says
 pub carried-out : {A : Type 0} (p : PolicyRules) (call : Call) (makes : Stored → Stored → Type 0) (result : Result A Fault) (old new : BookState)
-    → ((before after : Stored) → before.terms ≡ Some (terms_of p) → makes before after → Leads call before after)
+    → ((before after : Stored) → before.terms ≡ Some (terms_of p) → makes before after → CallLeadsTo call before after)
     → OnOk result (new.is_clean ≡ true → makes old.content new.content) → IsCarriedOut p result makes old new → Happens (event_of result call) old new
 carried-out p call makes (Ok it) old new leads step done = (done.follows, λ clean. leads old.content new.content (done.kept (done.follows.clean clean)) (step clean), done.crash)
 carried-out p call makes (Err faults.Memory) old new leads step done = gave-way p call makes old new leads done.kept done.follows done.fault.0.content done.crash.0
@@ -215,7 +215,7 @@ taken-leave-found s answers leaves left may =
 home-is : (old new : BookState) → old.is_open ≡ false → (new.is_clean ≡ true → new.content ≡ cond old.is_open old.before old.content) → new.is_clean ≡ true → new.content ≡ old.content
 home-is old new closed back clean = back clean ∙ ap (λ b. cond b old.before old.content) closed
 
-pub refused-opening : (fault : OpenFault) (p : PolicyRules) (old new : BookState) → old.is_open ≡ false → Refuses fault p old new → RefusedTo fault p old new → Follows old new → Happens (refusal_of fault (opening p)) old new
+pub refused-opening : (fault : OpenFault) (p : PolicyRules) (old new : BookState) → old.is_open ≡ false → Refuses fault p old new → RefusedTo fault p old new → Follows old new → Happens (refusal_event fault (opening p)) old new
 refused-opening refusals.Policy p old new closed it left follows = (follows, home-is old new closed it.back.content, left)
 refused-opening refusals.Schema p old new closed it left follows = (follows, home-is old new closed it.back.content, left)
 refused-opening refusals.Memory p old new closed it left follows = (follows, home-is old new closed it.0.content, left)

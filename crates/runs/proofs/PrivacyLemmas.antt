@@ -5,7 +5,7 @@ use Rattle.model.specs.Registry.{Registry}
 use Rattle.policy.specs.Rules.{PolicyRules}
 use Rattle.isolation.specs.Alike.{firsts, seconds}
 use Rattle.isolation.specs.Public.{public_part}
-use Rattle.isolation.specs.Runs.{Answer, Question, answer_to, effect_of, is_asked_by, left_after, left_by, answers_to}
+use Rattle.isolation.specs.Runs.{Answer, Question, answer_to, effect_of, is_asked_by, left_after, left_by_question, answers_to}
 use Rattle.isolation.proofs.RunLemmas.{alike-lists-show-the-same, alike-lists-tell-the-same}
 use Rattle.runs.specs.Runs.{IsRun, answers_for}
 use Rattle.runs.specs.RunLaws.{AlikeRunsShowTheSame, AlikeRunsTellTheSame}
@@ -16,9 +16,9 @@ tells-as-listed : (p : PolicyRules) (r : ℕ) (questions : List (ℕ × Question
 tells-as-listed p r [] answers s t x same run = refl
 tells-as-listed p r (asked ∷ others) answers s t x same (first, rest, between, is, called, more) =
     let found : lapsed p asked.0 s ≡ lapsed p asked.0 t = found-alike p asked.0 s t same in
-    let left : now p between ≡ now p (left_by p asked t) = called.left ∙ ap (λ (l : Registry). now p (effect_of p asked.1 l)) found in
+    let left : now p between ≡ now p (left_by_question p asked t) = called.left ∙ ap (λ (l : Registry). now p (effect_of p asked.1 l)) found in
     ap (answers_for r (asked ∷ others)) is
-    ∙ (λ i. cond (is_asked_by r asked.1) ((called.answered ∙ ap (answer_to p asked.1) found) i ∷ tells-as-listed p r others rest between (left_by p asked t) x left more i) (tells-as-listed p r others rest between (left_by p asked t) x left more i))
+    ∙ (λ i. cond (is_asked_by r asked.1) ((called.answered ∙ ap (answer_to p asked.1) found) i ∷ tells-as-listed p r others rest between (left_by_question p asked t) x left more i) (tells-as-listed p r others rest between (left_by_question p asked t) x left more i))
 
 pub alike-runs-tell-the-same : AlikeRunsTellTheSame
 alike-runs-tell-the-same p r pairs xs ys s x y alike one other =
@@ -28,7 +28,7 @@ alike-runs-tell-the-same p r pairs xs ys s x y alike one other =
 left-as-listed : (p : PolicyRules) (questions : List (ℕ × Question)) (answers : List Answer) (s t x : Registry) → now p s ≡ now p t → IsRun p questions answers s x → now p x ≡ now p (left_after p questions t)
 left-as-listed p [] answers s t x same run = ap (now p) run.1 ∙ same
 left-as-listed p (asked ∷ others) answers s t x same (first, rest, between, is, called, more) =
-    left-as-listed p others rest between (left_by p asked t) x (called.left ∙ ap (λ (l : Registry). now p (effect_of p asked.1 l)) (found-alike p asked.0 s t same)) more
+    left-as-listed p others rest between (left_by_question p asked t) x (called.left ∙ ap (λ (l : Registry). now p (effect_of p asked.1 l)) (found-alike p asked.0 s t same)) more
 
 pub alike-runs-show-the-same : AlikeRunsShowTheSame
 alike-runs-show-the-same p r pairs xs ys s x y moment alike one other =

@@ -50,11 +50,11 @@ event_of (Err faults.Memory) call = gave_up call
 event_of (Err faults.Store) call = gave_up call
 event_of (Err faults.Moment) call = refused call
 
-abbrev pub refusal_of : OpenFault → Call → Event
-refusal_of refusals.Policy call = refused call
-refusal_of refusals.Schema call = refused call
-refusal_of refusals.Memory call = gave_up call
-refusal_of refusals.Store call = gave_up call
+abbrev pub refusal_event : OpenFault → Call → Event
+refusal_event refusals.Policy call = refused call
+refusal_event refusals.Schema call = refused call
+refusal_event refusals.Memory call = gave_up call
+refusal_event refusals.Store call = gave_up call
 
 -- What each call promises of the book that its registry has under a policy, besides its step.
 pub record IsCarriedOut {A : Type 0} (p : PolicyRules) (result : Result A Fault) (makes : Stored → Stored → Type 0) (old new : BookState) : Type 0 where
@@ -117,11 +117,11 @@ OpeningsAreEvents =
     → Happens (answered (opening p)) old new
 
 -- one that isn't
-abbrev pub RefusalsAreEvents : Type 0
-RefusalsAreEvents =
+abbrev pub RefusedOpeningsAreEvents : Type 0
+RefusedOpeningsAreEvents =
     (p : PolicyRules) (fault : OpenFault) (old new : BookState) → old.is_open ≡ false
     → Refuses fault p old new → RefusedTo fault p old new → Follows old new
-    → Happens (refusal_of fault (opening p)) old new
+    → Happens (refusal_event fault (opening p)) old new
 
 -- a book that is taken up, by what taking it up promises
 abbrev pub TakenLeaveFound : Type 0

@@ -18,18 +18,18 @@ pub data Call : Type 0 where
   settling : PolicyRules → ℕ → ℕ → Call
 
 -- what a call makes of what is held, under the policy whose terms were put down when it was opened
-abbrev pub Leads : Call → Stored → Stored → Type 0
-Leads (opening p) before after = OpensTo p before after
-Leads (asking p moment q) before after =
+abbrev pub CallLeadsTo : Call → Stored → Stored → Type 0
+CallLeadsTo (opening p) before after = OpensTo p before after
+CallLeadsTo (asking p moment q) before after =
     (before.terms ≡ Some (terms_of p)) × Makes (IsCall p moment q) before after
-Leads (settling p moment at_most) before after =
+CallLeadsTo (settling p moment at_most) before after =
     (before.terms ≡ Some (terms_of p)) × Makes (IsSettlement p moment at_most) before after
 
 -- calls one after another
 abbrev pub AreMade : List Call → Stored → Stored → Type 0
 AreMade [] before after = after ≡ before
 AreMade (call ∷ calls) before after =
-    (between : Stored) × Leads call before between × AreMade calls between after
+    (between : Stored) × CallLeadsTo call before between × AreMade calls between after
 
 -- ---- what happens
 
@@ -64,12 +64,12 @@ ComeTo events first found =
 -- a crash a book is taken up that holds what the crash left.
 abbrev pub Happens : Event → BookState → BookState → Type 0
 Happens (answered call) old new =
-    Follows old new × (new.is_clean ≡ true → Leads call old.content new.content) × LeavesItself new
+    Follows old new × (new.is_clean ≡ true → CallLeadsTo call old.content new.content) × LeavesItself new
 Happens (refused call) old new =
     Follows old new × (new.is_clean ≡ true → new.content ≡ old.content) × LeavesOld old new
 Happens (gave_up call) old new =
     Follows old new × (new.is_clean ≡ true → new.content ≡ old.content)
-    × LeavesOldOrMade (Leads call) old new
+    × LeavesOldOrMade (CallLeadsTo call) old new
 Happens crash old new = (old.is_honest ≡ true) × IsReopened old new × LeavesFound new
 
 -- one event after another

@@ -11,7 +11,7 @@ use Rattle.protocol.specs.declared.order.Order.{Order}
 use Rattle.protocol.specs.declared.reply.Reply.{Reply}
 use Rattle.registry.specs.Execution.{IsGreetingStep, IsOrderStep, IsStep}
 use Rattle.registry.specs.Faces.{IsLookUp}
-use Rattle.isolation.specs.Alike.{Pair, AreAlike, firsts, seconds}
+use Rattle.isolation.specs.Alike.{Pair, AreAlikeInTurn, firsts, seconds}
 use Rattle.isolation.specs.Laws.{none}
 use Rattle.isolation.specs.Public.{IsPublic, PublicPart, public_part}
 use Rattle.isolation.specs.Runs.{Answer, IsCall, Question, code, command, date, dated, inspected, inspection, look_up, order, reply, shown}
@@ -108,7 +108,7 @@ RunsKeepMoney =
 -- Two runs from one registry on, of alike lists, tell the registrar the same.
 abbrev pub AlikeRunsTellTheSame : Type 0
 AlikeRunsTellTheSame =
-    (p : PolicyRules) (r : ℕ) (pairs : List (ℕ × Pair)) (xs ys : List Answer) (s x y : Registry) → AreAlike p r none pairs s s
+    (p : PolicyRules) (r : ℕ) (pairs : List (ℕ × Pair)) (xs ys : List Answer) (s x y : Registry) → AreAlikeInTurn p r none pairs s s
     → IsRun p (firsts pairs) xs s x → IsRun p (seconds pairs) ys s y
     → answers_for r (firsts pairs) xs ≡ answers_for r (seconds pairs) ys
 
@@ -116,6 +116,6 @@ AlikeRunsTellTheSame =
 abbrev pub AlikeRunsShowTheSame : Type 0
 AlikeRunsShowTheSame =
     (p : PolicyRules) (r : ℕ) (pairs : List (ℕ × Pair)) (xs ys : List Answer) (s x y : Registry)
-    (moment : ℕ) → AreAlike p r none pairs s s
+    (moment : ℕ) → AreAlikeInTurn p r none pairs s s
     → IsRun p (firsts pairs) xs s x → IsRun p (seconds pairs) ys s y
     → public_part p (lapsed p moment x) ≡ public_part p (lapsed p moment y)

@@ -18,7 +18,7 @@ pub fn calls_are_events()
     ensures greetings { spec.GreetingsAreEvents }
     ensures settlements { spec.SettlementsAreEvents }
     ensures openings { spec.OpeningsAreEvents }
-    ensures refusals { spec.RefusalsAreEvents }
+    ensures refusals { spec.RefusedOpeningsAreEvents }
     ensures taken { spec.TakenLeaveFound }
 {}
 

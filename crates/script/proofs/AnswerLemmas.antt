@@ -6,7 +6,7 @@ use Rattle.eppcommands.specs.Session.{in_session}
 use Rattle.eppreplies.specs.Answer.{answer_text}
 use Rattle.eppreplies.specs.Greeting.{greeting_text}
 use Rattle.eppreplies.specs.Reply.{reply_text}
-use Rattle.eppwire.specs.Answers.{AnswersRegistrar, AnswersSaid, Tells, is_last}
+use Rattle.eppwire.specs.Answers.{AnswersRegistrar, AnswersSaid, IsSentOrLost, is_last}
 use Rattle.eppwire.specs.Answers as wire
 use Rattle.frames.specs.Outcomes.{Outcome, ended, failed, lost, outcome_of, replied}
 use Rattle.frames.specs.Texts.{failed_text}
@@ -20,7 +20,7 @@ use Rattle.protocol.specs.declared.session.InSession.{InSession}
 use Rattle.protocol.specs.declared.session.InSession.TheVariants.{Hello, Ordinary}
 use Rattle.registry.specs.Execution.{last_call}
 use Rattle.script.specs.Deposits.{IsAnsweredBy}
-use Rattle.script.specs.Runs.{Answers, GivesUp, IsAnswered, OperatorSteps, SaidSteps, kept}
+use Rattle.script.specs.Runs.{Answers, GivesUp, IsPayloadAnswered, OperatorSteps, SaidSteps, kept}
 use Rattle.script.specs.declared.line.Sender.{Sender}
 use Rattle.script.specs.declared.line.Sender.TheVariants.{Registrar, Operator}
 use Rattle.script.specs.Lines.{Asked, IsLine, registrar_of}
@@ -43,14 +43,14 @@ module _ (p : PolicyRules) (r moment : ℕ) (old : BookState) (outcome : Outcome
   abbrev IsPrinted : (List ℕ → Type 0) → Type 0
   IsPrinted P = TextOf (λ text. new.is_clean ≡ true → P text) outcome
 
-  printed : (P : List ℕ → Type 0) (wanted : Outcome) (text : List ℕ) → TextOf (λ text. new.is_clean ≡ true → P text) wanted → Tells wanted outcome → (new.is_clean ≡ true → P text) → IsPrinted P
+  printed : (P : List ℕ → Type 0) (wanted : Outcome) (text : List ℕ) → TextOf (λ text. new.is_clean ≡ true → P text) wanted → IsSentOrLost wanted outcome → (new.is_clean ≡ true → P text) → IsPrinted P
   printed P wanted text told (inl e) holds = subst (TextOf (λ text. new.is_clean ≡ true → P text)) (sym e) told
   printed P wanted text told (inr e) holds = subst (TextOf (λ text. new.is_clean ≡ true → P text)) (sym e) (text, holds)
 
   abbrev IsSaid : InSession → List ℕ → Type 0
   IsSaid words text = GivesUp (kept old) (kept new) text ⊎ SaidSteps p r words moment (kept old) (kept new) text
 
-  gave_up : (words : InSession) → wire.GivesUp old outcome new → IsPrinted (IsSaid words)
+  gave_up : (words : InSession) → wire.FailsToAnswer old outcome new → IsPrinted (IsSaid words)
   gave_up words gives = subst (TextOf (λ text. new.is_clean ≡ true → IsSaid words text)) (sym gives.0)
       (λ clean. inl (record { same = ap (λ (s : Stored). s.registry) (gives.1.content clean); fixed = refl }))
 
@@ -66,15 +66,15 @@ module _ (p : PolicyRules) (r moment : ℕ) (old : BookState) (outcome : Outcome
       λ clean. inr (record { reply = served.reply; early = served.early; step = served.step clean; written = refl }) in
       printed (IsSaid (Ordinary c)) _ (reply_text served.reply) (told_reply (λ text. new.is_clean ≡ true → IsSaid (Ordinary c) text) (is_last served.reply.code) (reply_text served.reply) holds) served.answer_is holds
 
-  answered : (payload : List ℕ) → AnswersRegistrar p r payload moment old outcome new → IsPrinted (IsAnswered p (Registrar r) payload moment (kept old) (kept new))
+  answered : (payload : List ℕ) → AnswersRegistrar p r payload moment old outcome new → IsPrinted (IsPayloadAnswered p (Registrar r) payload moment (kept old) (kept new))
   answered payload (inl gives) = gave_up (in_session payload) gives
   answered payload (inr words) = said (in_session payload) words
 
   -- the same of a sender that is this registrar
   pub registrar_answered : (sender : Sender) (payload : List ℕ) → Some r ≡ registrar_of sender → AnswersRegistrar p r payload moment old outcome new
-      → IsPrinted (IsAnswered p sender payload moment (kept old) (kept new))
+      → IsPrinted (IsPayloadAnswered p sender payload moment (kept old) (kept new))
   registrar_answered (Registrar q) payload is answers =
-      subst (λ (o : ℕ). IsPrinted (IsAnswered p (Registrar o) payload moment (kept old) (kept new))) (ap (λ (o : Option ℕ). number_in o) is) (answered payload answers)
+      subst (λ (o : ℕ). IsPrinted (IsPayloadAnswered p (Registrar o) payload moment (kept old) (kept new))) (ap (λ (o : Option ℕ). number_in o) is) (answered payload answers)
   registrar_answered Operator payload is answers = absurd cc
 
 -- ---- the operator
@@ -91,7 +91,7 @@ operator_steps p (requests.Settle at_most) moment code lapsed old new text (comp
 }
 
 operator_answered : (p : PolicyRules) (request : OperatorRequest) (payload : List ℕ) (moment : ℕ) (before after : Registry) (text : List ℕ) → order_in payload ≡ Some request
-    → IsAnsweredOperator p request moment before after text → IsAnswered p Operator payload moment before after text
+    → IsAnsweredOperator p request moment before after text → IsPayloadAnswered p Operator payload moment before after text
 operator_answered p request payload moment before after text is (inl gives) = inl gives
 operator_answered p request payload moment before after text is (inr steps) = inr (request, is, steps)
 
@@ -104,13 +104,13 @@ TextOf-weaker failed P Q more holds = more failed_text holds
 TextOf-weaker lost P Q more (text, holds) = (text, more text holds)
 
 pub order_answered : (sender : Sender) (p : PolicyRules) (request : OperatorRequest) (payload : List ℕ) (moment : ℕ) (before after : Registry) (o : Outcome) (A : Type 0) → None ≡ registrar_of sender → order_in payload ≡ Some request
-    → TextOf (λ text. A → IsAnsweredOperator p request moment before after text) o → TextOf (λ text. A → IsAnswered p sender payload moment before after text) o
+    → TextOf (λ text. A → IsAnsweredOperator p request moment before after text) o → TextOf (λ text. A → IsPayloadAnswered p sender payload moment before after text) o
 order_answered (Registrar r) p request payload moment before after o A none is holds = absurd cc
 order_answered Operator p request payload moment before after o A none is holds =
     TextOf-weaker o _ _ (λ text answered given. operator_answered p request payload moment before after text is (answered given)) holds
 
 pub line_answered : (result : Option Answer) (p q : PolicyRules) (line : List ℕ) (it : Asked) (before after : Registry) (A : Type 0) → q ≡ p → IsLine q line it
-    → IfSome result (λ answer. TextOf (λ text. A → IsAnswered p it.sender it.payload it.moment before after text) (outcome_of answer))
+    → IfSome result (λ answer. TextOf (λ text. A → IsPayloadAnswered p it.sender it.payload it.moment before after text) (outcome_of answer))
     → IfSome result (λ answer. TextOf (λ text. A → Answers p line before after text) (outcome_of answer))
 line_answered None p q line it before after A same form holds = tt
 line_answered (Some answer) p q line it before after A same form holds =

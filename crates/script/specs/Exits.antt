@@ -10,10 +10,10 @@ use Rattle.script.specs.declared.exit.Exit.TheVariants.{Done, Refused, Usage, Po
 use Rattle.states.specs.declared.fault.BookFault.{BookFault}
 use Rattle.states.specs.declared.fault.BookFault.TheVariants as books
 
-abbrev pub status_of : Exit → ℕ
-status_of Done = 0
-status_of Usage = 2
-status_of _ = 1
+abbrev pub status_of_exit : Exit → ℕ
+status_of_exit Done = 0
+status_of_exit Usage = 2
+status_of_exit _ = 1
 
 abbrev pub result_of : Exit → Result ⊤ Exit
 result_of Done = Ok tt
@@ -25,18 +25,18 @@ has_line Refused = false
 has_line _ = true
 
 -- the line, where a fault of opening or of a call doesn't word it
-abbrev pub text_of : Exit → Option (List ℕ)
-text_of Done = Some (codes "")
-text_of Refused = Some (codes "")
-text_of Usage = Some (codes "usage: tldreg run|serve|zone|deposit|migrate POLICY ...")
-text_of (Policy faults.Memory) = Some (codes "out of memory")
-text_of (Policy fault) = Some (codes "policy: " ++ fault_text fault)
-text_of (Open fault) = None
-text_of (Registry fault) = None
-text_of Network = Some (codes "network fault")
-text_of (Script line) = Some (codes "script: line " ++ decimal line)
-text_of File = Some (codes "file fault")
-text_of Memory = Some (codes "out of memory")
+abbrev pub exit_text : Exit → Option (List ℕ)
+exit_text Done = Some (codes "")
+exit_text Refused = Some (codes "")
+exit_text Usage = Some (codes "usage: tldreg run|serve|zone|deposit|migrate POLICY ...")
+exit_text (Policy faults.Memory) = Some (codes "out of memory")
+exit_text (Policy fault) = Some (codes "policy: " ++ fault_text fault)
+exit_text (Open fault) = None
+exit_text (Registry fault) = None
+exit_text Network = Some (codes "network fault")
+exit_text (Script line) = Some (codes "script: line " ++ decimal line)
+exit_text File = Some (codes "file fault")
+exit_text Memory = Some (codes "out of memory")
 
 -- a fault of reading or writing
 abbrev pub exit_of : ErrorKind → Exit

@@ -35,8 +35,8 @@ pub record Asked : Type 0 where
   pub sender : Sender
   pub payload : List ℕ
 
-abbrev pub asked : Line → Asked
-asked line = record { moment = line.moment; sender = line.sender; payload = line.payload.now }
+abbrev pub asked_by_line : Line → Asked
+asked_by_line line = record { moment = line.moment; sender = line.sender; payload = line.payload.now }
 
 abbrev pub is_blank : ℕ → Bool
 is_blank byte = byte == 32

@@ -79,22 +79,22 @@ SaidSteps p r Hello moment before after text = IsHelloStep p moment before after
 SaidSteps p r (Ordinary c) moment before after text = IsCommandStep p r c moment before after text
 
 -- what somebody sends at a moment takes one registry to another, and is answered by a text
-abbrev pub Steps : PolicyRules → Sender → List ℕ → ℕ → Registry → Registry → List ℕ → Type 0
-Steps p (Registrar r) payload moment before after text =
+abbrev pub SenderSteps : PolicyRules → Sender → List ℕ → ℕ → Registry → Registry → List ℕ → Type 0
+SenderSteps p (Registrar r) payload moment before after text =
     SaidSteps p r (in_session payload) moment before after text
-Steps p Operator payload moment before after text =
+SenderSteps p Operator payload moment before after text =
     (request : OperatorRequest) × (order_in payload ≡ Some request)
     × OperatorSteps p request moment before after text
 
-abbrev pub IsAnswered : PolicyRules → Sender → List ℕ → ℕ → Registry → Registry → List ℕ → Type 0
-IsAnswered p sender payload moment before after text =
-    GivesUp before after text ⊎ Steps p sender payload moment before after text
+abbrev pub IsPayloadAnswered : PolicyRules → Sender → List ℕ → ℕ → Registry → Registry → List ℕ → Type 0
+IsPayloadAnswered p sender payload moment before after text =
+    GivesUp before after text ⊎ SenderSteps p sender payload moment before after text
 
 -- what a line asks is answered
 pub record Answers (p : PolicyRules) (line : List ℕ) (before after : Registry) (text : List ℕ) : Type 0 where
   pub asked : Asked
   pub form : IsLine p line asked
-  pub answered : IsAnswered p asked.sender asked.payload asked.moment before after text
+  pub answered : IsPayloadAnswered p asked.sender asked.payload asked.moment before after text
 
 -- what the operator sends has to be an order, or a settlement
 abbrev pub Asks : Sender → List ℕ → Type 0
@@ -182,6 +182,6 @@ EndsIn p before after input old new exits.Memory = Writes old new (Begins p befo
 EndsIn p before after input old new _ = ⊥
 
 -- the same, whatever it leaves
-abbrev pub Ends : PolicyRules → Registry → List ℕ → Option (List ℕ) → Option (List ℕ) → Exit
+abbrev pub EndsRun : PolicyRules → Registry → List ℕ → Option (List ℕ) → Option (List ℕ) → Exit
     → Type 0
-Ends p before input old new exit = (after : Registry) × EndsIn p before after input old new exit
+EndsRun p before input old new exit = (after : Registry) × EndsIn p before after input old new exit

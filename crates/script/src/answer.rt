@@ -3,7 +3,7 @@ ghost use Rattle.std.specs.Prelude.{◌≡◌, true, IfNone, IfSome};
 ghost use Rattle.frames.specs.Outcomes.{outcome_of};
 ghost use Rattle.registry.specs.Execution.{IsUnchanged};
 ghost use Rattle.script.specs.Lines.{IsKnown};
-ghost use Rattle.script.specs.Runs.{Answers, Asks, AsksNothing, IsAnswered, kept};
+ghost use Rattle.script.specs.Runs.{Answers, Asks, AsksNothing, IsPayloadAnswered, kept};
 ghost use Rattle.script.specs.inner.Runs.{IsAnsweredOperator, TextOf};
 ghost use Rattle.books.specs.Book.{Follows};
 
@@ -50,7 +50,7 @@ fn answer_asked<B: Book + Drop>(
     requires { IsKnown registry.old.policy line.now.sender }
     ensures answered { IfSome result (λ answer. TextOf (λ text.
         (B.state registry.new.book).is_clean ≡ true
-        → IsAnswered registry.old.policy line.now.sender line.now.payload.now line.now.moment
+        → IsPayloadAnswered registry.old.policy line.now.sender line.now.payload.now line.now.moment
         (kept (B.state registry.old.book)) (kept (B.state registry.new.book)) text)
         (outcome_of answer)) }
     ensures unread { IfNone result (Asks line.now.sender line.now.payload.now → ⊥) }

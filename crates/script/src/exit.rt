@@ -2,7 +2,7 @@
 ghost use Rattle.std.specs.Prelude.{◌≡◌};
 ghost use Rattle.std.specs.IoError.{error_kind};
 ghost use Rattle.script.specs.declared.exit.Exit.TheVariants as exits;
-ghost use Rattle.script.specs.Exits.{exit_of, exit_of_book, has_line, result_of, status_of, text_of};
+ghost use Rattle.script.specs.Exits.{exit_of, exit_of_book, exit_text, has_line, result_of, status_of_exit};
 
 use books::BookFault;
 use policy::PolicyFault;
@@ -37,7 +37,7 @@ pub enum Exit {
 impl Exit {
     /// The exit status.
     pub fn status(&self) -> u8
-        ensures { result ≡ status_of self.now }
+        ensures { result ≡ status_of_exit self.now }
     {
         match self {
             Exit::Done => 0,
@@ -65,7 +65,7 @@ impl Exit {
 }
 
 impl fmt::Display for Exit {
-    ghost output = { text_of };
+    ghost output = { exit_text };
 
     fn fmt<W: fmt::Write>(&self, f: &mut fmt::Formatter<W>) -> fmt::Result {
         match self {

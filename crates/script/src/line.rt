@@ -4,7 +4,7 @@ ghost use Rattle.std.specs.List.{position};
 ghost use Rattle.std.specs.Str.{is_utf8};
 ghost use Rattle.calendar.specs.Moment.{IsMoment};
 ghost use Rattle.calendar.specs.Text.{moment_text};
-ghost use Rattle.script.specs.Lines.{Asked, IsKnown, IsLine, asked, is_blank, registrar_of, sender_in, sender_named};
+ghost use Rattle.script.specs.Lines.{Asked, IsKnown, IsLine, asked_by_line, is_blank, registrar_of, sender_in, sender_named};
 ghost use Rattle.script.specs.Lines as spec;
 
 use basis::registrar::RegistrarNo;
@@ -63,7 +63,7 @@ pub struct Line<'a> {
 impl<'a> Line<'a> {
     /// Reads a line without its end.
     pub fn read(policy: &Policy, text: &'a [u8]) -> Option<Line<'a>>
-        ensures line { IfSome result (λ line. IsLine policy.now text.now (asked line)) }
+        ensures line { IfSome result (λ line. IsLine policy.now text.now (asked_by_line line)) }
         ensures none { IfNone result ((asked : Asked) → IsLine policy.now text.now asked → ⊥) }
         ensures known { IfSome result (λ line. IsKnown policy.now line.sender) }
     {

@@ -3,7 +3,7 @@ ghost use Rattle.std.specs.Prelude.{◌≡◌, ℕ, List, [], ◌++◌, codes, o
 ghost use Rattle.std.specs.Io.BufRead.{strip_last};
 ghost use Rattle.std.specs.Io.KnownBytes.{Appends, Keeps, append_known};
 ghost use Rattle.frames.specs.Outcomes.{outcome_of};
-ghost use Rattle.script.specs.inner.Runs.{AppendsFront, BreaksAt, EndsBehind, HaltsAt, TellsLine, end_of, printed_text};
+ghost use Rattle.script.specs.inner.Runs.{AppendsFront, BreaksAt, EndsBehind, HaltsAt, TellsLine, printed_text, run_end};
 ghost use Rattle.script.specs.Runs.{EndsIn, kept};
 ghost use Rattle.books.specs.Book.{Follows};
 
@@ -50,7 +50,7 @@ fn answer_input<B: Book + Drop, R: Read + Drop, W: Write>(
     ensures ends { IfSome (R.remaining reader) (λ input. (B.state registry.new.book).is_clean ≡ true
         → EndsIn registry.old.policy (kept (B.state registry.old.book))
         (kept (B.state registry.new.book)) input (W.contents writer.old) (W.contents writer.new)
-        (end_of result)) }
+        (run_end result)) }
     ensures follows { Follows (B.state registry.old.book) (B.state registry.new.book) }
     ensures policy { registry.new.policy ≡ registry.old.policy }
 {
@@ -74,7 +74,7 @@ fn answer_lines<B: Book + Drop, R: BufRead, W: Write>(
         ≡ true
         → EndsBehind registry.old.policy (kept (B.state registry.old.book))
         (kept (B.state registry.new.book)) input (W.contents writer.old) pending.old.items
-        (append_known (W.contents writer.new) pending.new.items) (end_of result)) }
+        (append_known (W.contents writer.new) pending.new.items) (run_end result)) }
     ensures sent { (sent : List ℕ) × Appends (W.contents writer.old) (W.contents writer.new) sent }
     ensures follows { Follows (B.state registry.old.book) (B.state registry.new.book) }
     ensures policy { registry.new.policy ≡ registry.old.policy }

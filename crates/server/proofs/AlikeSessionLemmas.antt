@@ -3,18 +3,18 @@ use Rattle.std.proofs.Common.{◌≡◌, ◌⊎◌, inl, inr, ℕ, true, false, 
 use Rattle.std.specs.Prelude.{IfSome}
 use Rattle.std.specs.List.{list_all}
 use Rattle.std.proofs.lemmas.Bool.{and_parts}
-use Rattle.eppwire.specs.Answers.{Tells}
+use Rattle.eppwire.specs.Answers.{IsSentOrLost}
 use Rattle.frames.specs.Clocks as clocks
 use Rattle.frames.specs.Frames.{Ending, Takes, bad_length, closed, complete, cut, frame, front, over}
 use Rattle.frames.specs.Outcomes.{Outcome, end_with, ended, failed, lost, replied, sent}
-use Rattle.frames.specs.Sessions.{IsAt, IsTurn, Rests, Run, Session, SessionState, Turn, frames}
+use Rattle.frames.specs.Sessions.{IsAtEnding, IsTurn, Rests, Run, Session, SessionState, Turn, frames}
 use Rattle.frames.specs.Texts.{closing_text}
 use Rattle.frames.specs.declared.session.SessionEnd.{SessionEnd}
 use Rattle.frames.specs.declared.session.SessionEnd.TheVariants.{Logout, End, Cut, Length, ReadFault, WriteFault, Lost}
 use Rattle.isolation.specs.Alike as pairs
-use Rattle.isolation.specs.Alike.{AreAlike, IsAlike}
+use Rattle.isolation.specs.Alike.{AreAlikeInTurn, IsAlike}
 use Rattle.isolation.specs.Redaction.{Objects, redacted}
-use Rattle.isolation.specs.Runs.{Answer, Question, effect_of, is_asked_by, left_by}
+use Rattle.isolation.specs.Runs.{Answer, Question, effect_of, is_asked_by, left_by_question}
 use Rattle.isolation.proofs.RunLemmas.{calls-are-steps-of-two}
 use Rattle.model.specs.Lapse.{now}
 use Rattle.model.specs.Registry.{Registry}
@@ -22,7 +22,7 @@ use Rattle.policy.specs.Rules.{PolicyRules}
 use Rattle.runs.specs.Runs.{IsRun}
 use Rattle.runs.proofs.SettlementLemmas.{answers-are-determined, found-alike}
 use Rattle.server.specs.Connections.{AnswersAt, Desk}
-use Rattle.server.specs.SessionRuns.{AreAnswered, AreOneFor, IsUndisturbed, SessionsAreAlike, SessionsAreSentTheSame, SessionsTellTheSame, are_sent, asked_by, asked_in, asked_over, caller_after, has_failed, has_text, is_calm, logout_of, outcome_by, questions_said, sames}
+use Rattle.server.specs.SessionRuns.{AreAnswered, AreOneFor, IsUndisturbed, SessionsAreAlike, SessionsAreSentTheSame, SessionsTellTheSame, are_sent, asked_in, asked_over, caller_after, has_failed, has_text, is_calm, logout_of, outcome_by, questions_by_turn, questions_said, sames}
 use Rattle.server.proofs.SessionRunLemmas.{IsOne, asked-some, one-turn, run-follows, turn-follows}
 
 -- ---- what is known of one session
@@ -33,7 +33,7 @@ text-carried-out (ended text) e = refl
 text-carried-out failed e = absurd (true≢false (sym e))
 text-carried-out lost e = refl
 
-text-told : (wanted o : Outcome) → has_text o ≡ true → Tells wanted o → o ≡ wanted
+text-told : (wanted o : Outcome) → has_text o ≡ true → IsSentOrLost wanted o → o ≡ wanted
 text-told wanted o e (inl is) = is
 text-told wanted o e (inr none) = absurd (true≢false (sym e ∙ ap has_text none))
 
@@ -64,7 +64,7 @@ end_at bad_length = Length
 record IsOver (logout : List Turn) (mid : SessionState Desk) (last : List ℕ) (end : SessionEnd) (new : SessionState Desk) : Type 0 where
   pub ending : Ending
   pub none : logout ≡ []
-  pub at : IsAt ending mid
+  pub at : IsAtEnding ending mid
   pub last_is : last ≡ last_text ending
   pub end_is : end ≡ end_at ending
   pub rests : Rests mid new
@@ -103,11 +103,11 @@ never-both : (o : Outcome) → end_with o ≡ Some Logout → end_with o ≡ Non
 never-both o some none = let never : Some Logout ≡ None = sym some ∙ none in absurd cc
 
 -- what is left of its input
-front-is : (a : SessionState Desk) (input : List ℕ) (ending : Ending) → a.input ≡ Some input → IsAt ending a → front input ≡ over ending
+front-is : (a : SessionState Desk) (input : List ℕ) (ending : Ending) → a.input ≡ Some input → IsAtEnding ending a → front input ≡ over ending
 front-is a input ending is at = subst (λ (i : Option (List ℕ)). IfSome i (λ bytes. front bytes ≡ over ending)) is at
 
 -- an input that is over for one has no frame for the other
-over-takes : (a b : SessionState Desk) (input : List ℕ) (ending : Ending) (payload : List ℕ) (c : Option (List ℕ)) → a.input ≡ Some input → b.input ≡ Some input → IsAt ending a → Takes payload b.input c → ⊥
+over-takes : (a b : SessionState Desk) (input : List ℕ) (ending : Ending) (payload : List ℕ) (c : Option (List ℕ)) → a.input ≡ Some input → b.input ≡ Some input → IsAtEnding ending a → Takes payload b.input c → ⊥
 over-takes a b input ending payload None first second at takes = subst (λ (i : Option (List ℕ)). Takes payload i None) second takes
 over-takes a b input ending payload (Some rest) first second at takes =
     let never : over ending ≡ complete payload rest = sym (front-is a input ending first at) ∙ subst (λ (i : Option (List ℕ)). Takes payload i (Some rest)) second takes in
@@ -125,15 +125,15 @@ module _ (p : PolicyRules) (g : List (List ℕ)) (Held : List (ℕ × Question) 
   HeldIn questions a b = Held questions a.peer.book.content.registry b.peer.book.content.registry
 
   -- both answer one frame the same
-  same-turn : (caller next last : Option ℕ) (x y : Turn) (rest : List (ℕ × Question)) (s t u v : Registry) → Held (asked_by caller x ++ rest) s t → IsOne p g caller x s u next → IsOne p g caller y t v last
+  same-turn : (caller next last : Option ℕ) (x y : Turn) (rest : List (ℕ × Question)) (s t u v : Registry) → Held (questions_by_turn caller x ++ rest) s t → IsOne p g caller x s u next → IsOne p g caller y t v last
       → x.moment ≡ y.moment → x.payload ≡ y.payload → has_text x.outcome ≡ true → has_text y.outcome ≡ true → (x ≡ y) × Held rest u v
   same-turn caller next last x y rest s t u v held one two moments payloads text text2 =
       let carried : has_failed x.outcome ≡ false = text-carried-out x.outcome text in
       let carried2 : has_failed y.outcome ≡ false = text-carried-out y.outcome text2 in
-      let asked : asked_by caller y ≡ asked_by caller x =
+      let asked : questions_by_turn caller y ≡ questions_by_turn caller x =
       asked-some caller y carried2 ∙ sym (λ i. map (λ (q : Question). (moments i, q)) (questions_said caller (payloads i))) ∙ sym (asked-some caller x carried) in
       let answered : (one.answers ≡ two.answers) × Held rest u v =
-      stay (asked_by caller x) rest one.answers two.answers s t u v held one.run (subst (λ (qs : List (ℕ × Question)). IsRun p qs two.answers t v) asked two.run) in
+      stay (questions_by_turn caller x) rest one.answers two.answers s t u v held one.run (subst (λ (qs : List (ℕ × Question)). IsRun p qs two.answers t v) asked two.run) in
       let outcomes : x.outcome ≡ y.outcome =
       text-told (outcome_by p g caller x.payload one.answers) x.outcome text (one.answer_is carried)
       ∙ (λ i. outcome_by p g caller (payloads i) (answered.0 i))
@@ -302,7 +302,7 @@ sessions-are-alike p g = undisturbed-alike p g (AreSame p) (stay-same p)
 module _ (p : PolicyRules) (r : ℕ) (touched : Objects) where
   -- these questions are alike in both
   abbrev AreAsked : List (ℕ × Question) → Registry → Registry → Type 0
-  AreAsked questions s t = AreAlike p r touched (sames questions) s t
+  AreAsked questions s t = AreAlikeInTurn p r touched (sames questions) s t
 
   -- and so they are in what is the same now
   asked-now : (questions : List (ℕ × Question)) (s t u v : Registry) → now p u ≡ now p s → now p v ≡ now p t → AreAsked questions s t → AreAsked questions u v
@@ -320,7 +320,7 @@ module _ (p : PolicyRules) (r : ℕ) (touched : Objects) where
       let next : AreOneFor p r touched (xs ++ rest) m n = record {
         one = step.left ∙ ap (redacted r touched) (sym called2.left);
         asks = asks.1;
-        alike = asked-now (xs ++ rest) (left_by p q s) (left_by p q t) m n called.left called2.left held.alike.1;
+        alike = asked-now (xs ++ rest) (left_by_question p q s) (left_by_question p q t) m n called.left called2.left held.alike.1;
       } in
       let there = stay-one xs rest more more2 m n u v next run run2 in
       (parts ∙ (λ i. (step.answer_is asks.0 ∙ sym called2.answered) i ∷ there.0 i) ∙ sym parts2, there.1)

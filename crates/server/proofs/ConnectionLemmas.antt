@@ -5,7 +5,7 @@ use Rattle.std.specs.Fmt.{option_append}
 use Rattle.std.specs.Io.KnownBytes.{Consumes, IsAtEnd}
 use Rattle.policy.specs.Rules.{PolicyRules}
 use Rattle.frames.specs.Outcomes.{Outcome}
-use Rattle.frames.specs.Sessions.{Session, SessionState, Writes}
+use Rattle.frames.specs.Sessions.{Session, SessionState, WritesFrames}
 use Rattle.frames.specs.declared.session.SessionEnd.{SessionEnd}
 use Rattle.server.specs.Connections.{Agrees, AnswersAt, Desk, FramesBeginConnections, IsServed, Serves, begins_frame}
 use Rattle.eppwire.proofs.FollowLemmas.{answers_follow, follows_on, same_follows}
@@ -63,7 +63,7 @@ served {S} policy passwords desk answers are p g old new before written after en
 
 -- a connection whose input begins as a frame does
 pub serves_session : (p : PolicyRules) (g : List (List ℕ)) (input taken clock : Option (List ℕ)) (old : BookState) (before after later : Option (List ℕ)) (new : BookState) (end : ConnectionEnd) → IfSome input (λ bytes. begins_frame bytes ≡ true) → Agrees input taken
-    → (how : SessionEnd) × (end ≡ ends.Session how) × Writes before after (λ written. IsServed p g taken clock old written later new how) → Serves p g input clock old before after later new end
+    → (how : SessionEnd) × (end ≡ ends.Session how) × WritesFrames before after (λ written. IsServed p g taken clock old written later new how) → Serves p g input clock old before after later new end
 serves_session p g input taken clock old before after later new end begins agrees s = rw s.1 (begins, taken, agrees, s.2)
 
 -- one whose input doesn't

@@ -1,7 +1,7 @@
 -- A session with a peer is one with whatever the peer can be taken for.
 use Rattle.std.proofs.Common.{inl, inr, ℕ, List, [], ◌∷◌, ap}
 use Rattle.frames.specs.Outcomes.{Outcome}
-use Rattle.frames.specs.Sessions.{SessionState, Turn, IsTurn, Run, Rests, Ends, Session}
+use Rattle.frames.specs.Sessions.{SessionState, Turn, IsTurn, Run, Rests, EndsSession, Session}
 use Rattle.frames.specs.declared.session.SessionEnd.{SessionEnd}
 use Rattle.frames.specs.declared.session.SessionEnd.TheVariants.{Logout, End, Cut, Length, ReadFault, WriteFault, Lost}
 
@@ -26,8 +26,8 @@ module _ {S T : Type 0} (f : S → T) (K : S → Type 0) (answers : S → ℕ �
   rests_taken : (before after : SessionState S) → K before.peer → Rests before after → K after.peer × Rests (taken_for f before) (taken_for f after)
   rests_taken before after k rests = (rw rests.peer k, record { clock = rests.clock; peer = ap f rests.peer })
 
-  ends_taken : (end : SessionEnd) (turns : List Turn) (before : SessionState S) (last : List ℕ) (after : SessionState S) → K before.peer → Ends answers end turns before last after
-      → K after.peer × Ends others end turns (taken_for f before) last (taken_for f after)
+  ends_taken : (end : SessionEnd) (turns : List Turn) (before : SessionState S) (last : List ℕ) (after : SessionState S) → K before.peer → EndsSession answers end turns before last after
+      → K after.peer × EndsSession others end turns (taken_for f before) last (taken_for f after)
   ends_taken End turns before last after k e = let r = rests_taken before after k e.2 in (r.0, (e.0, e.1, r.1))
   ends_taken Cut turns before last after k e = let r = rests_taken before after k e.2 in (r.0, (e.0, e.1, r.1))
   ends_taken Length turns before last after k e = let r = rests_taken before after k e.2 in (r.0, (e.0, e.1, r.1))

@@ -8,14 +8,14 @@ use Rattle.rdap.proofs.AnswerLemmas.{one_answer}
 use Rattle.rdap.specs.Answering.{Faces, IsAnswer}
 use Rattle.registry.specs.Faces.{ArePublic}
 use Rattle.registry.proofs.PublicLemmas.{look-ups-are-public}
-use Rattle.server.specs.ZoneExport.{text_of}
+use Rattle.server.specs.ZoneExport.{zone_data_text}
 use Rattle.server.specs.Http.{faces_at}
 use Rattle.server.specs.Public.{PublicPartsLookSame, PublicTextsAgree}
 
 pub public_texts : PublicTextsAgree
 public_texts p moment one other same = (
   λ head answer second first then. one_answer p (faces_at p moment other) head answer second (subst (λ (faces : Faces). IsAnswer p faces head answer) same.faces first) then,
-  ap (text_of p) same.zone,
+  ap (zone_data_text p) same.zone,
 )
 
 same-found : {X : Type 0} (p : PolicyRules) (find : Registry → X) (s t : Registry) → IsPublic p find

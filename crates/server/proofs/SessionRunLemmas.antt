@@ -9,7 +9,7 @@ use Rattle.eppcommands.specs.Session.{before_login, in_session}
 use Rattle.frames.specs.Frames.{frame}
 use Rattle.frames.specs.Texts.{closing_text}
 use Rattle.eppreplies.specs.Reply.{reply_text}
-use Rattle.eppwire.specs.Answers.{AnswersHello, AnswersSaidBeforeLogin, AnswersRegistrar, AnswersSaid, AnswersBeforeLogin, GivesUp, Tells, is_last}
+use Rattle.eppwire.specs.Answers.{AnswersHello, AnswersSaidBeforeLogin, AnswersRegistrar, AnswersSaid, AnswersBeforeLogin, FailsToAnswer, IsSentOrLost, is_last}
 use Rattle.eppwire.proofs.FollowLemmas.{answers_follow, follows_on, same_follows}
 use Rattle.model.specs.Registry.{Registry}
 use Rattle.policy.specs.Rules.{PolicyRules}
@@ -20,11 +20,11 @@ use Rattle.protocol.specs.declared.session.InSession.{InSession}
 use Rattle.protocol.specs.declared.session.InSession.TheVariants as within
 use Rattle.runs.specs.Runs.{IsRun}
 use Rattle.frames.specs.Outcomes.{Outcome, ended, failed, replied, sent}
-use Rattle.frames.specs.Sessions.{Ends, IsTurn, Rests, Run, SessionState, Turn, frames}
+use Rattle.frames.specs.Sessions.{EndsSession, IsTurn, Rests, Run, SessionState, Turn, frames}
 use Rattle.frames.specs.declared.session.SessionEnd.{SessionEnd}
 use Rattle.frames.specs.declared.session.SessionEnd.TheVariants.{Logout, End, Cut, Length, ReadFault, WriteFault, Lost}
 use Rattle.server.specs.Connections.{AnswersAt, Desk}
-use Rattle.server.specs.SessionRuns.{AreAnswered, AreHeard, IsAnsweredAll, IsLeftAt, IsWritten, PasswordsAreForLogins, SessionsAreAnswered, SessionsAreRuns, asked_by, asked_over, caller_after, caller_with, has_failed, outcome_before, outcome_by, outcome_sent, question_within, questions_before, questions_said}
+use Rattle.server.specs.SessionRuns.{AreAnswered, AreHeard, AreRepliesWritten, IsAnsweredAll, IsLeftAt, PasswordsAreForLogins, SessionsAreAnswered, SessionsAreRuns, asked_over, caller_after, caller_with, has_failed, outcome_before, outcome_by, outcome_sent, question_within, questions_before, questions_by_turn, questions_said}
 use Rattle.books.specs.Book.{BookState, Follows, Stored}
 
 -- ---- one frame
@@ -32,14 +32,14 @@ use Rattle.books.specs.Book.{BookState, Follows, Stored}
 -- what a frame made of the registry, and who sends the next one
 pub record IsOne (p : PolicyRules) (g : List (List ℕ)) (caller : Option ℕ) (turn : Turn) (old new : Registry) (next : Option ℕ) : Type 0 where
   pub answers : List Answer
-  pub run : IsRun p (asked_by caller turn) answers old new
-  pub answer_is : has_failed turn.outcome ≡ false → Tells (outcome_by p g caller turn.payload answers) turn.outcome
+  pub run : IsRun p (questions_by_turn caller turn) answers old new
+  pub answer_is : has_failed turn.outcome ≡ false → IsSentOrLost (outcome_by p g caller turn.payload answers) turn.outcome
   pub sender : next ≡ caller_after p g caller turn
 
-asked-none : (caller : Option ℕ) (turn : Turn) → has_failed turn.outcome ≡ true → asked_by caller turn ≡ []
+asked-none : (caller : Option ℕ) (turn : Turn) → has_failed turn.outcome ≡ true → questions_by_turn caller turn ≡ []
 asked-none caller turn e = ap (λ (b : Bool). let xs : List (ℕ × Question) = if b then [] else map (λ q. (turn.moment, q)) (questions_said caller turn.payload) in xs) e
 
-pub asked-some : (caller : Option ℕ) (turn : Turn) → has_failed turn.outcome ≡ false → asked_by caller turn ≡ map (λ q. (turn.moment, q)) (questions_said caller turn.payload)
+pub asked-some : (caller : Option ℕ) (turn : Turn) → has_failed turn.outcome ≡ false → questions_by_turn caller turn ≡ map (λ q. (turn.moment, q)) (questions_said caller turn.payload)
 asked-some caller turn e = ap (λ (b : Bool). let xs : List (ℕ × Question) = if b then [] else map (λ q. (turn.moment, q)) (questions_said caller turn.payload) in xs) e
 
 caller-failed : (p : PolicyRules) (g : List (List ℕ)) (caller : Option ℕ) (turn : Turn) → has_failed turn.outcome ≡ true → caller_after p g caller turn ≡ caller
@@ -57,7 +57,7 @@ one-failed p g caller turn old new next gave same stays =
     }
 
 one-answered : (p : PolicyRules) (g : List (List ℕ)) (caller : Option ℕ) (turn : Turn) (old new : Registry) (next : Option ℕ) (answers : List Answer) → has_failed turn.outcome ≡ false
-    → IsRun p (map (λ q. (turn.moment, q)) (questions_said caller turn.payload)) answers old new → Tells (outcome_by p g caller turn.payload answers) turn.outcome → next ≡ caller_after p g caller turn
+    → IsRun p (map (λ q. (turn.moment, q)) (questions_said caller turn.payload)) answers old new → IsSentOrLost (outcome_by p g caller turn.payload answers) turn.outcome → next ≡ caller_after p g caller turn
     → IsOne p g caller turn old new next
 one-answered p g caller turn old new next answers is run answer_is stays = record {
   answers = answers;
@@ -66,7 +66,7 @@ one-answered p g caller turn old new next answers is run answer_is stays = recor
   sender = stays;
 }
 
-told-so : (wanted outcome : Outcome) → has_failed wanted ≡ false → Tells wanted outcome → has_failed outcome ≡ false
+told-so : (wanted outcome : Outcome) → has_failed wanted ≡ false → IsSentOrLost wanted outcome → has_failed outcome ≡ false
 told-so wanted outcome is (inl e) = ap has_failed e ∙ is
 told-so wanted outcome is (inr e) = ap has_failed e
 
@@ -82,7 +82,7 @@ module _ (p : PolicyRules) (g : List (List ℕ)) (moment : ℕ) (old : BookState
   abbrev HasGivenUp : Type 0
   HasGivenUp = (outcome ≡ failed) × (new.content.registry ≡ old.content.registry)
 
-  gave-up : GivesUp old outcome new → HasGivenUp
+  gave-up : FailsToAnswer old outcome new → HasGivenUp
   gave-up gives = (gives.0, left-as-it-was old new gives.1.content clean)
 
   -- or it is a call
@@ -90,7 +90,7 @@ module _ (p : PolicyRules) (g : List (List ℕ)) (moment : ℕ) (old : BookState
     pub answer : Answer
     pub call : IsCall p moment q old.content.registry new.content.registry answer
     pub carried_out : has_failed outcome ≡ false
-    pub answer_is : Tells (outcome_sent answer) outcome
+    pub answer_is : IsSentOrLost (outcome_sent answer) outcome
 
   hello-asked : AnswersHello p moment old outcome new → HasGivenUp ⊎ IsAsked date
   hello-asked (inl gives) = inl (gave-up gives)
@@ -120,7 +120,7 @@ module _ (p : PolicyRules) (g : List (List ℕ)) (moment : ℕ) (old : BookState
     pub answers : List Answer
     pub run : IsRun p (map (λ q. (moment, q)) (questions_before words)) answers old.content.registry new.content.registry
     pub carried_out : has_failed outcome ≡ false
-    pub answer_is : Tells (outcome_before p g words answers) outcome
+    pub answer_is : IsSentOrLost (outcome_before p g words answers) outcome
     pub caller : next ≡ caller_with p g words
 
   nothing-asked : new ≡ old → IsRun p [] [] old.content.registry new.content.registry
@@ -214,7 +214,7 @@ module _ (p : PolicyRules) (g : List (List ℕ)) (turns : List Turn) (old mid ne
   alone none = bytes ∙ ap (λ l. frames turns ++ l) none ∙ append-nil (frames turns)
 
   -- the peer wasn't asked again
-  resting : (end : SessionEnd) → Rests mid new → IsLeftAt end mid.input → IsWritten end turns written → IsAnsweredAll p g old written end new
+  resting : (end : SessionEnd) → Rests mid new → IsLeftAt end mid.input → AreRepliesWritten end turns written → IsAnsweredAll p g old written end new
   resting end rests left wrote =
       let peer = sym rests.peer in
       record {
@@ -229,7 +229,7 @@ module _ (p : PolicyRules) (g : List (List ℕ)) (turns : List Turn) (old mid ne
       }
 
   -- one frame more was answered
-  ending : (end : SessionEnd) (turn : Turn) → IsTurn (AnswersAt p g) turn mid new → IsLeftAt end new.input → IsWritten end (turns ++ turn ∷ []) written → IsAnsweredAll p g old written end new
+  ending : (end : SessionEnd) (turn : Turn) → IsTurn (AnswersAt p g) turn mid new → IsLeftAt end new.input → AreRepliesWritten end (turns ++ turn ∷ []) written → IsAnsweredAll p g old written end new
   ending end turn is left wrote = record {
     turns = turns ++ turn ∷ [];
     rest = new.input;
@@ -257,7 +257,7 @@ module _ (p : PolicyRules) (g : List (List ℕ)) (turns : List Turn) (old mid ne
   none-before : turns ≡ [] → last ≡ frame closing_text → written ≡ frame closing_text
   none-before none full = bytes ∙ ap (λ (ts : List Turn). frames ts ++ last) none ∙ full
 
-  ends-answered : (end : SessionEnd) → Ends (AnswersAt p g) end turns mid last new → IsAnsweredAll p g old written end new
+  ends-answered : (end : SessionEnd) → EndsSession (AnswersAt p g) end turns mid last new → IsAnsweredAll p g old written end new
   ends-answered End e = resting End e.2 e.0 (alone e.1)
   ends-answered Cut e = resting Cut e.2 e.0 (alone e.1)
   ends-answered ReadFault e = resting ReadFault e.1 tt (alone e.0)
@@ -281,7 +281,7 @@ pub sessions-are-runs : SessionsAreRuns
 sessions-are-runs p g caller [] old new same = ([], (refl, same))
 sessions-are-runs p g caller (turn ∷ turns) old new (answers, between, run, answer_is, more) =
     let rest = sessions-are-runs p g (caller_after p g caller turn) turns between new more in
-    (answers ++ rest.0, runs-on p (asked_by caller turn) (asked_over p g (caller_after p g caller turn) turns) answers rest.0 old between new run rest.1)
+    (answers ++ rest.0, runs-on p (questions_by_turn caller turn) (asked_over p g (caller_after p g caller turn) turns) answers rest.0 old between new run rest.1)
 
 -- after a login
 pub passwords-are-for-logins : PasswordsAreForLogins

@@ -6,6 +6,6 @@ abbrev pub nearest_moment : ℕ → ℕ
 nearest_moment secs = max 946_684_800 (min secs 7_258_118_399)
 
 -- that of a time, if one was read; else the first moment
-abbrev pub moment_at : Option ℕ → ℕ
-moment_at None = 946_684_800
-moment_at (Some secs) = nearest_moment secs
+abbrev pub moment_of_time : Option ℕ → ℕ
+moment_of_time None = 946_684_800
+moment_of_time (Some secs) = nearest_moment secs

@@ -5,7 +5,7 @@ use Rattle.frames.specs.Frames.{frame, IsPayload}
 use Rattle.eppwire.specs.Answers.{Answers}
 use Rattle.policy.specs.Rules.{PolicyRules}
 use Rattle.frames.specs.Outcomes.{Outcome}
-use Rattle.frames.specs.Sessions.{Session, Writes}
+use Rattle.frames.specs.Sessions.{Session, WritesFrames}
 use Rattle.frames.specs.declared.session.SessionEnd.{SessionEnd}
 use Rattle.server.specs.Http.{AnswersHttp}
 use Rattle.server.specs.declared.connection.ConnectionEnd.{ConnectionEnd}
@@ -57,7 +57,7 @@ abbrev pub Serves : PolicyRules → List (List ℕ) → (input clock : Option (L
 Serves p passwords input clock old before after later new (ends.Session end) =
     IfSome input (λ bytes. begins_frame bytes ≡ true)
     × (taken : Option (List ℕ)) × Agrees input taken
-    × Writes before after (λ written. IsServed p passwords taken clock old written later new end)
+    × WritesFrames before after (λ written. IsServed p passwords taken clock old written later new end)
 Serves p passwords input clock old before after later new (ends.Http end) =
     IfSome input (λ bytes. begins_frame bytes ≡ false)
     × (taken : Option (List ℕ)) × Agrees input taken

@@ -11,7 +11,7 @@ use Rattle.rdap.specs.Heads.{IsCut, IsDecided}
 use Rattle.registry.specs.Execution.{last_call}
 use Rattle.server.specs.declared.http.HttpEnd.{HttpEnd}
 use Rattle.server.specs.declared.http.HttpEnd.TheVariants as ends
-use Rattle.frames.specs.Sessions.{Writes}
+use Rattle.frames.specs.Sessions.{WritesFrames}
 use Rattle.streams.specs.Moves.{AppendsLess, IsLess}
 use Rattle.books.specs.Book.{BookState, Follows}
 use Rattle.books.specs.Faces.{contact_face_at, domain_face_at, host_face_at}
@@ -80,8 +80,8 @@ MayAsk p clock old later new =
 abbrev pub AnswersHttp : PolicyRules → (input clock : Option (List ℕ)) → BookState
     → (before after later : Option (List ℕ)) → BookState → HttpEnd → Type 0
 AnswersHttp p input clock old before after later new ends.Answered =
-    Writes before after (λ written. IsAnswered p input clock old written later new)
+    WritesFrames before after (λ written. IsAnswered p input clock old written later new)
 AnswersHttp p input clock old before after later new ends.Unanswered =
     Appends before after [] × MayAsk p clock old later new
 AnswersHttp p input clock old before after later new ends.WriteFault =
-    Writes before after (λ written. (answer : List ℕ) × IsAnswered p input clock old answer later new × IsLess written answer)
+    WritesFrames before after (λ written. (answer : List ℕ) × IsAnswered p input clock old answer later new × IsLess written answer)

@@ -5,11 +5,11 @@ use Rattle.eppcommands.specs.Session.{before_login, in_session}
 use Rattle.frames.specs.Clocks as clocks
 use Rattle.frames.specs.Frames.{frame, Takes, bad_length, closed, cut, front, over}
 use Rattle.frames.specs.Texts.{closing_text}
-use Rattle.eppwire.specs.Answers.{Tells, caller_of, greeting_outcome, login_code, anonymous_outcome, reply_outcome}
+use Rattle.eppwire.specs.Answers.{IsSentOrLost, caller_of, greeting_outcome, login_code, anonymous_outcome, reply_outcome}
 use Rattle.model.specs.Lapse.{now}
 use Rattle.model.specs.Registry.{Registry}
 use Rattle.policy.specs.Rules.{PolicyRules}
-use Rattle.isolation.specs.Alike.{AreAlike, Pair, same}
+use Rattle.isolation.specs.Alike.{AreAlikeInTurn, Pair, same}
 use Rattle.isolation.specs.Redaction.{AreOne, Objects}
 use Rattle.isolation.specs.Runs.{Answer, Question, code, command, date, dated, inspected, is_asked_by, reply, shown}
 use Rattle.protocol.specs.declared.session.BeforeLogin.{BeforeLogin}
@@ -49,8 +49,8 @@ has_failed failed = true
 has_failed lost = false
 
 -- by its moment; a frame that failed asked nothing
-abbrev pub asked_by : Option ℕ → Turn → List (ℕ × Question)
-asked_by caller turn = if has_failed turn.outcome then [] else map (λ q. (turn.moment, q)) (questions_said caller turn.payload)
+abbrev pub questions_by_turn : Option ℕ → Turn → List (ℕ × Question)
+questions_by_turn caller turn = if has_failed turn.outcome then [] else map (λ q. (turn.moment, q)) (questions_said caller turn.payload)
 
 -- ---- who sends the next one
 
@@ -94,15 +94,15 @@ abbrev pub AreAnswered : PolicyRules → List (List ℕ) → Option ℕ → List
 AreAnswered p passwords caller [] old new = new ≡ old
 AreAnswered p passwords caller (turn ∷ turns) old new =
     (answers : List Answer) × (between : Registry)
-    × IsRun p (asked_by caller turn) answers old between
-    × (has_failed turn.outcome ≡ false → Tells (outcome_by p passwords caller turn.payload answers) turn.outcome)
+    × IsRun p (questions_by_turn caller turn) answers old between
+    × (has_failed turn.outcome ≡ false → IsSentOrLost (outcome_by p passwords caller turn.payload answers) turn.outcome)
     × AreAnswered p passwords (caller_after p passwords caller turn) turns between new
 
 -- all that they ask
 abbrev pub asked_over : PolicyRules → List (List ℕ) → Option ℕ → List Turn → List (ℕ × Question)
 asked_over p passwords caller [] = []
 asked_over p passwords caller (turn ∷ turns) =
-    asked_by caller turn ++ asked_over p passwords (caller_after p passwords caller turn) turns
+    questions_by_turn caller turn ++ asked_over p passwords (caller_after p passwords caller turn) turns
 
 -- The frames are the first of the input, and come at the moments of the clock, where these are known; and then this is
 -- left of both.
@@ -125,15 +125,15 @@ IsLeftAt Lost rest = ⊤
 -- What is written for these frames by a session that ends so: the reply to each. The closing text comes after them for
 -- a length that no frame has, or alone if there was no memory for the first frame. A write that failed leaves a beginning, and
 -- not the whole.
-abbrev pub IsWritten : SessionEnd → List Turn → List ℕ → Type 0
-IsWritten Logout turns written = written ≡ frames turns
-IsWritten End turns written = written ≡ frames turns
-IsWritten Cut turns written = written ≡ frames turns
-IsWritten ReadFault turns written = written ≡ frames turns
-IsWritten Length turns written = written ≡ frames turns ++ frame closing_text
-IsWritten Lost turns written =
+abbrev pub AreRepliesWritten : SessionEnd → List Turn → List ℕ → Type 0
+AreRepliesWritten Logout turns written = written ≡ frames turns
+AreRepliesWritten End turns written = written ≡ frames turns
+AreRepliesWritten Cut turns written = written ≡ frames turns
+AreRepliesWritten ReadFault turns written = written ≡ frames turns
+AreRepliesWritten Length turns written = written ≡ frames turns ++ frame closing_text
+AreRepliesWritten Lost turns written =
     (written ≡ frames turns) ⊎ ((turns ≡ []) × (written ≡ frame closing_text))
-IsWritten WriteFault turns written = IsLess written (frames turns ++ frame closing_text)
+AreRepliesWritten WriteFault turns written = IsLess written (frames turns ++ frame closing_text)
 
 -- The frames of a session, the last among them: its input has them, its clock tells their moments, and they are
 -- answered one after another, to the byte.
@@ -143,7 +143,7 @@ pub record IsAnsweredAll (p : PolicyRules) (passwords : List (List ℕ)) (old : 
   pub heard : AreHeard turns old.input old.clock rest new.clock
   pub left : IsLeftAt end rest
   pub answered : AreAnswered p passwords old.peer.caller turns old.peer.book.content.registry new.peer.book.content.registry
-  pub bytes : IsWritten end turns written
+  pub bytes : AreRepliesWritten end turns written
 
 -- ---- laws
 
@@ -245,7 +245,7 @@ sames questions = map (λ (q : ℕ × Question). (q.0, same q.1)) questions
 pub record AreOneFor (p : PolicyRules) (r : ℕ) (touched : Objects) (questions : List (ℕ × Question)) (s t : Registry) : Type 0 where
   pub one : AreOne r touched (now p s) (now p t)
   pub asks : list_all (λ q. is_asked_by r q.1) questions ≡ true
-  pub alike : AreAlike p r touched (sames questions) s t
+  pub alike : AreAlikeInTurn p r touched (sames questions) s t
 
 -- Two sessions that nothing disturbed, of one caller, with the same bytes as their input, at the same moments. A
 -- registrar can't tell their registries apart by what the frames ask. Then they are sent the same bytes, end alike, and

@@ -16,12 +16,12 @@ abbrev pub serial_of : ℕ → ℕ
 serial_of clock = clock % 0x1_0000_0000
 
 -- the text of the zone of this data
-abbrev pub text_of : PolicyRules → ZoneData → List ℕ
-text_of p zone = zone_text p (serial_of zone.moment) zone
+abbrev pub zone_data_text : PolicyRules → ZoneData → List ℕ
+zone_data_text p zone = zone_text p (serial_of zone.moment) zone
 
 -- at a moment, which is the clock where it comes before
 abbrev pub zone_at : PolicyRules → ℕ → Registry → List ℕ
-zone_at p moment s = text_of p (zone_data p.zone (lapsed p moment s))
+zone_at p moment s = zone_data_text p (zone_data p.zone (lapsed p moment s))
 
 -- what went out of a zone before a fault: nothing if the registry gave up
 abbrev pub StopsAs : ZoneExportFault → Option (List ℕ) → Option (List ℕ) → List ℕ → Type 0

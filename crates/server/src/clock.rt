@@ -40,7 +40,7 @@ impl<T: time::Clock> Clock for MachineClock<'_, T> {
 
 /// The moment of a time, in whole seconds since 1970-01-01T00:00:00Z, if one was read.
 fn moment_at(secs: Option<u64>) -> Moment
-    ensures { result ≡ spec.moment_at secs }
+    ensures { result ≡ spec.moment_of_time secs }
 {
     match secs {
         Some(secs) => nearest_moment(secs),

@@ -1,6 +1,6 @@
 //! One connection.
 ghost use Rattle.std.specs.Prelude.{◌≡◌};
-ghost use Rattle.frames.specs.Sessions.{Writes};
+ghost use Rattle.frames.specs.Sessions.{WritesFrames};
 ghost use Rattle.server.specs.Connections as spec;
 ghost use Rattle.server.specs.Connections.{IsServed, Serves};
 ghost use Rattle.server.specs.Http.{AnswersHttp};
@@ -106,7 +106,7 @@ fn serve_epp<R: Read, W: Write, C: Clock, B: Book + Drop>(
     passwords: &Passwords,
 ) -> Served<B>
     ensures served { (end : SessionEnd) × (result.end ≡ ends.Session end)
-        × Writes (W.contents writer.old) (W.contents writer.new)
+        × WritesFrames (W.contents writer.old) (W.contents writer.new)
         (λ written. IsServed registry.policy passwords.now (R.remaining reader.old) (C.moments clock.old)
         (B.state registry.book) written (C.moments clock.new) (B.state result.registry.book) end) }
     ensures policy { result.registry.policy ≡ registry.policy }

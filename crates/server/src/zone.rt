@@ -1,7 +1,7 @@
 //! The zone of a registry, as an office hands it to its name servers.
 ghost use Rattle.std.specs.Prelude.{◌≡◌, true, IfErr, OnOk};
 ghost use Rattle.std.specs.Io.KnownBytes.{Appends};
-ghost use Rattle.server.specs.ZoneExport.{StopsAs, serial_of, text_of, zone_at};
+ghost use Rattle.server.specs.ZoneExport.{StopsAs, serial_of, zone_at, zone_data_text};
 ghost use Rattle.server.specs.Http.{Passes};
 ghost use Rattle.server.specs.declared.zone.ZoneExportFault.TheVariants as faults;
 ghost use Rattle.zonefile.specs.ZoneText.{Stops};
@@ -72,9 +72,9 @@ fn write_data<W: Write>(
     writer: &mut W,
 ) -> Result<(), ZoneFault>
     ensures written { OnOk result (Appends (W.contents writer.old) (W.contents writer.new)
-        (text_of policy.now zone.now)) }
+        (zone_data_text policy.now zone.now)) }
     ensures begun { IfErr result (λ fault. Stops fault (W.contents writer.old) (W.contents writer.new)
-        (text_of policy.now zone.now)) }
+        (zone_data_text policy.now zone.now)) }
 {
     write_zone(alloc, policy, serial_of(zone.moment), zone, writer)
 }

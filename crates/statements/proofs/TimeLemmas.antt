@@ -12,7 +12,7 @@ use Rattle.basis.proofs.OrderLaws.{le_unless, linear_by_numbers}
 use Rattle.accounts.specs.declared.line.Line.{Line}
 use Rattle.accounts.specs.Lines.{in_order, numbers}
 use Rattle.accounts.proofs.LineLaws.{lines_in_order}
-use Rattle.statements.specs.Tables.{by_moment, in_time, place}
+use Rattle.statements.specs.Tables.{by_moment, place, precedes_in_time}
 
 -- ---- the order of lines
 
@@ -26,8 +26,8 @@ place_only a b e =
     let same : numbers a ≡ numbers b = cc in
     lines_in_order.antisym a b (same_numbers a b same) (same_numbers b a (sym same))
 
-pub lines_in_time : IsLinear in_time
-unfolding in_time
+pub lines_in_time : IsLinear precedes_in_time
+unfolding precedes_in_time
 lines_in_time = linear_by_numbers place place_only
 
 -- ---- the bag of items that change their places
@@ -108,15 +108,15 @@ module _ {A : Type 0} (le : A → A → Bool) (h : IsLinear le) where
 
 -- ---- lines
 
-unless_behind : (x y : Line) → is_lt (slice_cmp nat_cmp (place y) (place x)) ≡ false → in_time x y ≡ true
-unfolding in_time
+unless_behind : (x y : Line) → is_lt (slice_cmp nat_cmp (place y) (place x)) ≡ false → precedes_in_time x y ≡ true
+unfolding precedes_in_time
 unless_behind x y e = le_unless (slice_cmp nat_cmp (place x) (place y)) (slice_cmp nat_cmp (place y) (place x)) (nat_list_cmp_total.antisymm (place x) (place y)) e
 
 -- lines that are sorted by their places are those of the account by their moments
 pub sorted_lines : (lines listed sorted : List Line) → bag_of in_order listed ≡ lines → IsPermutation listed sorted
     → IsSortedBy (λ (a b : Line). is_lt (slice_cmp nat_cmp (place a) (place b))) sorted → sorted ≡ by_moment lines
 sorted_lines lines listed sorted all moved up =
-    sym (sorted-bag in_time lines_in_time (λ (a b : Line). is_lt (slice_cmp nat_cmp (place a) (place b))) unless_behind sorted up)
-    ∙ moved-bag in_time lines_in_time listed sorted moved
-    ∙ sym (other-bag in_time lines_in_time in_order listed)
-    ∙ ap (bag_of in_time) all
+    sym (sorted-bag precedes_in_time lines_in_time (λ (a b : Line). is_lt (slice_cmp nat_cmp (place a) (place b))) unless_behind sorted up)
+    ∙ moved-bag precedes_in_time lines_in_time listed sorted moved
+    ∙ sym (other-bag precedes_in_time lines_in_time in_order listed)
+    ∙ ap (bag_of precedes_in_time) all

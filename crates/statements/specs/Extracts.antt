@@ -23,11 +23,11 @@ abbrev pub after : List ℕ → List ℕ → Option (List ℕ)
 after front text = if bytes_eq (take (length front) text) front then Some (drop (length front) text) else None
 
 -- the moment, and the registrar, whose text it is; what isn't UTF-8 is none
-abbrev pub moment_in : List ℕ → Option ℕ
-moment_in text = if is_utf8 text then moment_named text else None
+abbrev pub moment_from_text : List ℕ → Option ℕ
+moment_from_text text = if is_utf8 text then moment_named text else None
 
-abbrev pub registrar_in : PolicyRules → List ℕ → Option ℕ
-registrar_in p text = if is_utf8 text then place_of text p else None
+abbrev pub registrar_from_text : PolicyRules → List ℕ → Option ℕ
+registrar_from_text p text = if is_utf8 text then place_of text p else None
 
 -- ---- bounds
 
@@ -44,8 +44,8 @@ with_to None b = None
 with_to (Some moment) b = if is_some b.to then None else Some (record b { to = Some moment })
 
 abbrev pub with_bound : Option (List ℕ) → Option (List ℕ) → Bounds → Option Bounds
-with_bound (Some from) to b = with_from (moment_in from) b
-with_bound None (Some to) b = with_to (moment_in to) b
+with_bound (Some from) to b = with_from (moment_from_text from) b
+with_bound None (Some to) b = with_to (moment_from_text to) b
 with_bound None None b = None
 
 -- a parameter gives a bound
@@ -65,7 +65,7 @@ bounds_in (Some query) = option_and_then (with_second (behind query 38)) (with_p
 
 -- the registrar before the question mark (63)
 abbrev pub account_asked : PolicyRules → List ℕ → Option ℕ
-account_asked p text = registrar_in p (front_of text 63)
+account_asked p text = registrar_from_text p (front_of text 63)
 
 -- the bounds after it
 abbrev pub bounds_asked : List ℕ → Option Bounds

@@ -19,12 +19,12 @@ use Rattle.statements.specs.declared.extract.Bounds.{Bounds}
 unfoldable pub place : Line → List ℕ
 place l = l.recorded ∷ numbers l
 
-unfoldable pub in_time : Line → Line → Bool
-in_time a b = precedes (slice_cmp nat_cmp) (place a) (place b)
+unfoldable pub precedes_in_time : Line → Line → Bool
+precedes_in_time a b = precedes (slice_cmp nat_cmp) (place a) (place b)
 
 -- the lines of an account, by their moments
 abbrev pub by_moment : List Line → List Line
-by_moment lines = bag_of in_time lines
+by_moment lines = bag_of precedes_in_time lines
 
 -- ---- within bounds
 
@@ -50,9 +50,9 @@ kind_word kinds.Transfer = codes "transfer"
 kind_word kinds.Restore = codes "restore"
 
 -- the domain's identifier, or nothing
-abbrev pub object_text : Option Roid → List ℕ
-object_text None = []
-object_text (Some roid) = roid_text roid
+abbrev pub roid_or_empty : Option Roid → List ℕ
+roid_or_empty None = []
+roid_or_empty (Some roid) = roid_text roid
 
 -- the pieces, one after the other
 abbrev pub joined : List (List ℕ) → List ℕ
@@ -65,7 +65,7 @@ heading = codes "moment,kind,object,years,cents,balance\r\n"
 -- a line, with the balance after it; no field has a comma, a quote or an end of a line
 abbrev pub row : Line → ℤ → List ℕ
 row l balance = joined (
-    moment_text l.recorded ∷ codes "," ∷ kind_word l.kind ∷ codes "," ∷ object_text l.roid ∷ codes ","
+    moment_text l.recorded ∷ codes "," ∷ kind_word l.kind ∷ codes "," ∷ roid_or_empty l.roid ∷ codes ","
     ∷ decimal l.years ∷ codes "," ∷ signed_decimal (amount l) ∷ codes "," ∷ signed_decimal balance ∷ codes "\r\n" ∷ []
     )
 

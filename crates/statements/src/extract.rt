@@ -147,7 +147,7 @@ fn text_in(bytes: &[u8]) -> Option<&str>
 
 /// The moment whose text the bytes are.
 fn moment_in(bytes: &[u8]) -> Option<Moment>
-    ensures { result ≡ spec.moment_in bytes.now }
+    ensures { result ≡ spec.moment_from_text bytes.now }
 {
     match text_in(bytes) {
         Some(text) => Moment::read(text),
@@ -157,7 +157,7 @@ fn moment_in(bytes: &[u8]) -> Option<Moment>
 
 /// The registrar whose id the bytes are.
 fn registrar_in(policy: &Policy, bytes: &[u8]) -> Option<RegistrarNo>
-    ensures { result ≡ spec.registrar_in policy.now bytes.now }
+    ensures { result ≡ spec.registrar_from_text policy.now bytes.now }
 {
     match text_in(bytes) {
         Some(text) => policy.find(text),

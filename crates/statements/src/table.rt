@@ -144,7 +144,7 @@ fn kind_word(kind: LineKind) -> &'static str
 
 /// The domain's identifier, or nothing.
 fn object_text(alloc: Global, roid: &Option<Roid>) -> Result<Text, AllocError>
-    ensures { IfOk result (λ text. text ≡ spec.object_text roid.now) }
+    ensures { IfOk result (λ text. text ≡ spec.roid_or_empty roid.now) }
 {
     match roid {
         None => Text::from_str(alloc, ""),

@@ -15,7 +15,7 @@ use Rattle.policy.specs.Rules.{PolicyRules}
 use Rattle.books.specs.Book.{Stored}
 use Rattle.oldrows.specs.Stored.{OldState}
 use Rattle.oldrows.specs.Stored as old
-use Rattle.oldrows.specs.inner.Stored.{Covers, IsLeftAs}
+use Rattle.oldrows.specs.inner.Stored.{CoversOld, IsLeftAsOld}
 use Rattle.sqltables.specs.Adoption.{IsAdopted}
 use Rattle.sqltables.specs.Content.{Content}
 use Rattle.sqltables.specs.declared.meta.MetaRow.{MetaRow}
@@ -37,7 +37,7 @@ use Rattle.takeover.specs.Migrating.{IsAll, IsTried, Migrates, numbered_anew, wi
 -- ---- what the files may hold
 
 module _ {D : Type 0} {g : Ghosts D} (it : FileStore D g) (numbered : IsTrue (view it).is_numbered) (sound : AreDatabases (recovers it)) (image : Image) (may : (files.state it).may_leave image) (trees : Trees) (found : IsFoundIn image trees) where
-  pub old-found : (leaves : List (Remains Content)) → Covers leaves (recovers it) → ∥ ((left : Remains Content) × Has leaves left × IsLeftAs left trees) ∥₁
+  pub old-found : (leaves : List (Remains Content)) → CoversOld leaves (recovers it) → ∥ ((left : Remains Content) × Has leaves left × IsLeftAsOld left trees) ∥₁
   old-found leaves covers = ∥∥₁_map (opens_again it numbered sound image may) (λ db. covers trees (subst (recovers it) (sym (found db.0 db.2)) db.1))
 
   pub new-found : (leaves : List (Remains Content)) → stored.Covers leaves (recovers it) → (again : StateOf Content) → IsAdopted trees again → again.is_clean ≡ true → ∥ IsReopened leaves again ∥₁

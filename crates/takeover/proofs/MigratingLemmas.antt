@@ -50,8 +50,8 @@ use Rattle.takeover.specs.declared.migrating.MigrateFault.{MigrateFault}
 use Rattle.takeover.specs.declared.migrating.MigrateFault.TheVariants.{Policy, Schema, Memory, Store}
 use Rattle.takeover.specs.Graces.{with_grace_end}
 use Rattle.sqlbook.specs.Meaning.{are_right, stored_of}
-use Rattle.takeover.specs.inner.Migrating.{AreAsked, EndsAs, IsRefused, IsTakenOver, IsUnkept, TakesOver, heads, others, put_lines, taken}
-use Rattle.takeover.specs.Migrating.{AreThere, IsAll, IsMigrated, IsTried, IsUnsuited, MayBeTaken, Migrates, ended, fault_of, numbered_anew, redated, suits, suits_in}
+use Rattle.takeover.specs.inner.Migrating.{AreAsked, EndsAs, IsRefused, IsTakenOver, IsUnkept, TakesOver, heads, others, put_lines, taken_over}
+use Rattle.takeover.specs.Migrating.{AreThere, IsAll, IsMigrated, IsTried, IsUnsuited, MayBeTaken, Migrates, fault_of, lines_with_ends, numbered_anew, redated, suits, suits_in}
 use Rattle.sqlbook.specs.AsBook.{HasMade}
 
 -- ---- the number of the schema says nothing of the registry
@@ -68,14 +68,14 @@ terms-taken (row ∷ rows) tables holders = refl
 
 module _ (days : Schedule) (xs : Content) where
   abbrev ys : Content
-  ys = record xs { lines = ended days xs.lines }
+  ys = record xs { lines = lines_with_ends days xs.lines }
 
-  read-same : (id : ℤ) (rows : List LineRow) → filter_map line_in (filter (line_with_account id) (ended days rows)) ≡ filter_map line_in (filter (line_with_account id) rows)
+  read-same : (id : ℤ) (rows : List LineRow) → filter_map line_in (filter (line_with_account id) (lines_with_ends days rows)) ≡ filter_map line_in (filter (line_with_account id) rows)
   read-same id [] = refl
   read-same id (row ∷ rows) = go (line_with_account id row) (read-same id rows)
     where
-      go : (b : Bool) → filter_map line_in (filter (line_with_account id) (ended days rows)) ≡ filter_map line_in (filter (line_with_account id) rows)
-          → filter_map line_in (cond b (with_grace_end days row ∷ filter (line_with_account id) (ended days rows)) (filter (line_with_account id) (ended days rows)))
+      go : (b : Bool) → filter_map line_in (filter (line_with_account id) (lines_with_ends days rows)) ≡ filter_map line_in (filter (line_with_account id) rows)
+          → filter_map line_in (cond b (with_grace_end days row ∷ filter (line_with_account id) (lines_with_ends days rows)) (filter (line_with_account id) (lines_with_ends days rows)))
           ≡ filter_map line_in (cond b (row ∷ filter (line_with_account id) rows) (filter (line_with_account id) rows))
       go true rest = ap (cons_option (line_in row)) rest
       go false rest = rest
@@ -108,13 +108,13 @@ module _ (days : Schedule) (xs : Content) where
   pub sums-same : sums_are_right ys ≡ sums_are_right xs
   sums-same = all-same xs.accounts
 
-pub stored-taken : (days : Schedule) (xs : Content) → stored_of (taken days xs) ≡ stored_of xs
+pub stored-taken : (days : Schedule) (xs : Content) → stored_of (taken_over days xs) ≡ stored_of xs
 stored-taken days xs = λ i. record {
   registry = record { contacts = contacts_of xs; hosts = hosts_of xs; domains = domains_of xs; accounts = accounts-same days xs i; clock = clock-taken xs.metas i };
   terms = terms-taken xs.metas xs.days xs.accounts i;
 }
 
-pub right-taken : (days : Schedule) (xs : Content) → are_right (taken days xs) ≡ are_right (numbered_anew xs)
+pub right-taken : (days : Schedule) (xs : Content) → are_right (taken_over days xs) ≡ are_right (numbered_anew xs)
 right-taken days xs = ap (λ sums. may_be_numbered (map renumbered xs.metas) && (sums && (helds_are_right xs && (dues_are_right (numbered_anew xs) && sponsors_are_right xs)))) (sums-same days xs)
 
 -- ---- what is put is what was there
@@ -129,10 +129,10 @@ module _ (xs : Content) (is : IsOldContent xs) where
     accounts = put-keyed accounts.key xs.accounts is.keyed.accounts i;
   }
 
-  ended-keyed : (days : Schedule) → IsKeyedBy lines.key (ended days xs.lines)
+  ended-keyed : (days : Schedule) → IsKeyedBy lines.key (lines_with_ends days xs.lines)
   ended-keyed days = ascending-map _ (with_grace_end days) xs.lines is.keyed.lines
 
-  put-rest : (days : Schedule) → put_lines days xs (put_of_all others xs (record no_content { metas = map renumbered xs.metas; accounts = xs.accounts })) ≡ taken days xs
+  put-rest : (days : Schedule) → put_lines days xs (put_of_all others xs (record no_content { metas = map renumbered xs.metas; accounts = xs.accounts })) ≡ taken_over days xs
   put-rest days = λ i. record {
     metas = map renumbered xs.metas;
     accounts = xs.accounts;
@@ -141,7 +141,7 @@ module _ (xs : Content) (is : IsOldContent xs) where
     hosts = put-keyed hosts.key xs.hosts is.keyed.hosts i;
     addresses = put-keyed addresses.key xs.addresses is.keyed.addresses i;
     links = put-keyed links.key xs.links is.keyed.links i;
-    lines = put-keyed lines.key (ended days xs.lines) (ended-keyed days) i;
+    lines = put-keyed lines.key (lines_with_ends days xs.lines) (ended-keyed days) i;
     messages = put-keyed messages.key xs.messages is.keyed.messages i;
     transfers = put-keyed transfers.key xs.transfers is.keyed.transfers i;
     days = sym is.days i;
@@ -152,7 +152,7 @@ module _ (xs : Content) (is : IsOldContent xs) where
       ap (λ (c : Content). suits p (stored_of c)) put-heads
       ∙ (λ i. suits_in p (clock-taken xs.metas i) ((terms-taken xs.metas [] xs.accounts ∙ ap (λ (tables : List DayRow). terms_in (slice_get xs.metas 0) tables xs.accounts) (sym is.days)) i))
 
-  pub put-all : (days : Schedule) → put_lines days xs (put_of_all others xs (put_of_all heads xs no_content)) ≡ taken days xs
+  pub put-all : (days : Schedule) → put_lines days xs (put_of_all others xs (put_of_all heads xs no_content)) ≡ taken_over days xs
   put-all days = ap (λ (c : Content). put_lines days xs (put_of_all others xs c)) put-heads ∙ put-rest days
 
 -- ---- one call after another
@@ -223,7 +223,7 @@ module _ (p : PolicyRules) (from read : OldState) (to written looked : StateOf C
     lines_are = λ c e. kept e ∙ ap (λ (xs : Content). xs.lines) (consistent c (days.clean e));
   }
     where
-      consistent : more.is_clean ≡ true → wrote.is_clean ≡ true → wrote.content ≡ taken p.days from.content
+      consistent : more.is_clean ≡ true → wrote.is_clean ≡ true → wrote.content ≡ taken_over p.days from.content
       consistent c e =
           let l = rest.clean e in
           let w = found.0.clean l in

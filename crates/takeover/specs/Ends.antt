@@ -18,16 +18,16 @@ use Rattle.takeover.specs.Migrating.{Migrates}
 use Rattle.takeover.specs.declared.migrating.MigrateFault.{MigrateFault}
 use Rattle.takeover.specs.declared.migrating.MigrateFault.TheVariants as faults
 
-abbrev pub exit_of : MigrateFault → Exit
-exit_of faults.Policy = exits.Open opening.Policy
-exit_of faults.Schema = exits.Open opening.Schema
-exit_of faults.Memory = exits.Memory
-exit_of faults.Store = exits.Open opening.Store
+abbrev pub exit_of_migration : MigrateFault → Exit
+exit_of_migration faults.Policy = exits.Open opening.Policy
+exit_of_migration faults.Schema = exits.Open opening.Schema
+exit_of_migration faults.Memory = exits.Memory
+exit_of_migration faults.Store = exits.Open opening.Store
 
 -- what comes of a takeover that was tried
 abbrev pub exit_after : {A : Type 0} → Result A MigrateFault → Exit
 exit_after (Ok done) = exits.Done
-exit_after (Err fault) = exit_of fault
+exit_after (Err fault) = exit_of_migration fault
 
 abbrev pub exit_of_unadopted : Unadopted → Exit
 exit_of_unadopted unadopted.Other = exits.Open opening.Schema

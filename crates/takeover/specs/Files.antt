@@ -10,7 +10,7 @@ use Rattle.policy.specs.Rules.{PolicyRules}
 use Rattle.oldrows.specs.Stored.{IsRead, OldState}
 use Rattle.oldrows.specs.Stored as old
 use Rattle.oldrows.specs.inner.Adoption as adopted
-use Rattle.oldrows.specs.inner.Stored.{IsLeftAs, IsSameOld}
+use Rattle.oldrows.specs.inner.Stored.{IsLeftAsOld, IsSameOld}
 use Rattle.sqltables.specs.Adoption.{IsAdopted}
 use Rattle.sqltables.specs.Content.{Content}
 use Rattle.sqltables.specs.inner.Reopening.{IsFoundAgain, IsReopened}
@@ -33,7 +33,7 @@ AreOver g files rows =
 abbrev pub AreOverOld : {D : Type 0} → Ghosts D → Files D → OldState → Type 0
 AreOverOld g files rows =
     (image : Image) → outcomes g files.log files.db image → (trees : Trees) → IsFoundIn image trees
-    → ∥ ((left : Remains Content) × Has rows.crash_leaves left × IsLeftAs left trees) ∥₁
+    → ∥ ((left : Remains Content) × Has rows.crash_leaves left × IsLeftAsOld left trees) ∥₁
 
 -- ---- the law
 

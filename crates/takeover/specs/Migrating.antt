@@ -28,8 +28,8 @@ abbrev pub numbered_anew : Content → Content
 numbered_anew xs = record xs { metas = map renumbered xs.metas }
 
 -- each line with the end of its grace
-abbrev pub ended : Schedule → List LineRow → List LineRow
-ended days rows = map (with_grace_end days) rows
+abbrev pub lines_with_ends : Schedule → List LineRow → List LineRow
+lines_with_ends days rows = map (with_grace_end days) rows
 
 abbrev pub suits_in : PolicyRules → ℕ → Option Terms → Bool
 suits_in p clock None = true
@@ -78,7 +78,7 @@ pub record IsMigrated (p : PolicyRules) (from read : OldState) (to written : Sta
   pub sums : read.is_clean ≡ true → written.is_clean ≡ true
       → are_right written.content ≡ are_right (numbered_anew from.content)
   pub lines_are : read.is_clean ≡ true → written.is_clean ≡ true
-      → written.content.lines ≡ ended p.days from.content.lines
+      → written.content.lines ≡ lines_with_ends p.days from.content.lines
   -- after a crash it is there
   pub leaves : read.is_clean ≡ true → written.is_honest ≡ true → (left : Remains Content)
       → Has written.crash_leaves left → IsAll p from.content left

@@ -72,7 +72,7 @@ fn exit_after(migrated: Result<(), MigrateFault>) -> Exit
 }
 
 fn exit_of(fault: MigrateFault) -> Exit
-    ensures { result ≡ spec.exit_of fault }
+    ensures { result ≡ spec.exit_of_migration fault }
 {
     match fault {
         MigrateFault::Policy => Exit::Open(OpenFault::Policy),

@@ -4,7 +4,7 @@ use Rattle.tldreg.specs.declared.command_line.Task.{Task}
 use Rattle.tldreg.specs.declared.settings.Split.{Split}
 use Rattle.tldreg.specs.inner.Asking.{AsksAll, AsksWrongly, IsSplit}
 use Rattle.tldreg.specs.inner.Options.{AreTaken, is_among, taking}
-use Rattle.tldreg.specs.inner.Words.{Asks, options_of}
+use Rattle.tldreg.specs.inner.Words.{AsksTask, options_of}
 
 -- ---- words that were split
 
@@ -15,11 +15,11 @@ module _ (words : List (List ℕ)) (split : Split) (taken : AreTaken words (taki
   is_split : IsSplit words left split.settings
   is_split = (map string_bytes split.plain.items, refl, taken)
 
-  pub all_asked : (task : Task) → Asks left task → is_among split.settings.kind (options_of task) ≡ true → AsksAll words (record { task = task; settings = split.settings })
+  pub all_asked : (task : Task) → AsksTask left task → is_among split.settings.kind (options_of task) ≡ true → AsksAll words (record { task = task; settings = split.settings })
   all_asked task asks among = (left, is_split, asks, among)
 
-  pub too_much_asked : (task : Task) → Asks left task → is_among split.settings.kind (options_of task) ≡ false → AsksWrongly words
+  pub too_much_asked : (task : Task) → AsksTask left task → is_among split.settings.kind (options_of task) ≡ false → AsksWrongly words
   too_much_asked task asks among = (left, split.settings, is_split, inr (task, asks, among))
 
-  pub nothing_asked : ((task : Task) → ¬ (Asks left task)) → AsksWrongly words
+  pub nothing_asked : ((task : Task) → ¬ (AsksTask left task)) → AsksWrongly words
   nothing_asked none = (left, split.settings, is_split, inl none)

@@ -5,7 +5,7 @@ use Rattle.script.specs.declared.exit.Exit.{Exit}
 use Rattle.script.specs.declared.exit.Exit.TheVariants as exits
 use Rattle.tldreg.specs.declared.settings.Settings.{Settings}
 use Rattle.tldreg.specs.declared.settings.Split.{Split}
-use Rattle.tldreg.specs.inner.Options.{AreTaken, HasWrong, IsSet, IsWrong, IsUsual, Says, SaysDays, SaysLimit, Takes, TakesWord, Taking, is_option, with_limit}
+use Rattle.tldreg.specs.inner.Options.{AreTaken, HasWrong, IsSet, IsWrong, IsUsual, Says, SaysDays, SaysLimit, TakesNext, TakesWord, Taking, is_option, with_limit}
 
 -- how many days were said
 pub days_set : (old new : Settings) (name value : List ℕ) (r : Result ⊤ Exit) → name ≡ codes "--within" → IsSet (SaysDays old value) new r → IsSet (Says old name value) new r
@@ -40,11 +40,11 @@ pub none_taken : (words : List (List ℕ)) (it : Taking) → IsUsual it.settings
 none_taken words it usual same none = (it.settings, usual, zero, (λ i. record { words = same i; plain = none i; settings = it.settings }))
 
 -- one time more
-pub more_taken : (words : List (List ℕ)) (old new : Taking) → AreTaken words old → Takes old new → AreTaken words new
+pub more_taken : (words : List (List ℕ)) (old new : Taking) → AreTaken words old → TakesNext old new → AreTaken words new
 more_taken words old new (settings, usual, n, times) takes = (settings, usual, suc n, (old, times, takes))
 
 -- what is left grows less
-pub fewer : (old new : Taking) → Takes old new → length new.words < length old.words
+pub fewer : (old new : Taking) → TakesNext old new → length new.words < length old.words
 fewer old new (inl (word, is, words, plain, settings)) = omega (arith, ap length words)
 fewer old new (inr (inl (words, plain, settings))) = omega (arith, ap length words)
 fewer old new (inr (inr (name, value, is, words, plain, says))) = omega (arith, ap length words)

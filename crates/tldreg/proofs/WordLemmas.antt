@@ -5,7 +5,7 @@ use Rattle.tldreg.specs.declared.command_line.Job.{Job}
 use Rattle.tldreg.specs.declared.command_line.Job.TheVariants.{Serve, ServeBoth, Zone, Deposit, Order}
 use Rattle.tldreg.specs.declared.command_line.Task.{Task}
 use Rattle.tldreg.specs.declared.command_line.Task.TheVariants.{Help, Version, Run, Migrate, OnDatabase}
-use Rattle.tldreg.specs.inner.Words.{Asks, AsksServing, IsPort}
+use Rattle.tldreg.specs.inner.Words.{AsksServing, AsksTask, IsPort}
 
 same_port : (word other : List ℕ) (port served : ℕ) → word ≡ other → IsPort word port → IsPort other served → served ≡ port
 same_port word other port served same is asks = sym asks.1 ∙ ap (λ w. digits_value 10 (without_leading_plus w)) (sym same) ∙ is.1
@@ -24,7 +24,7 @@ apart word other {words} {others} same differ =
 
 -- what is left behind a port asks for no task, where it asks for no job
 pub no_serving : (policy database word : List ℕ) (port : ℕ) (rest : List (List ℕ)) → IsPort word port → ((job : Job) → ¬ (AsksServing port rest job)) → (task : Task)
-    → ¬ (Asks (codes "serve" ∷ policy ∷ database ∷ word ∷ rest) task)
+    → ¬ (AsksTask (codes "serve" ∷ policy ∷ database ∷ word ∷ rest) task)
 no_serving policy database word port rest is none Help asks = apart (codes "serve") (codes "--help") asks refl
 no_serving policy database word port rest is none Version asks = apart (codes "serve") (codes "--version") asks refl
 no_serving policy database word port rest is none (Run p) asks = apart (codes "serve") (codes "run") asks refl

@@ -124,7 +124,7 @@ fn words_of(rt: &(impl Env + AllocGlobal)) -> Result<Args, Exit>
 
 /// The task of the words, of which the first is the program's name.
 fn task_of(words: Args) -> Result<Task, Exit>
-    ensures { spec.Reads (spec.Asks (drop 1 (spec.texts words))) result }
+    ensures { spec.Reads (spec.AsksTask (drop 1 (spec.texts words))) result }
 {
     let mut words = words;
     let _program = words.next();
@@ -150,7 +150,7 @@ fn task_of(words: Args) -> Result<Task, Exit>
 
 /// `run POLICY`, of the words after the first.
 fn run_of(words: Args) -> Result<Task, Exit>
-    ensures { spec.Reads (spec.Asks (codes "run" ∷ spec.texts words)) result }
+    ensures { spec.Reads (spec.AsksTask (codes "run" ∷ spec.texts words)) result }
 {
     let mut words = words;
     let policy = next_word(&mut words)?;
@@ -160,7 +160,7 @@ fn run_of(words: Args) -> Result<Task, Exit>
 
 /// `migrate POLICY OLD NEW`
 fn migrate_of(words: Args) -> Result<Task, Exit>
-    ensures { spec.Reads (spec.Asks (codes "migrate" ∷ spec.texts words)) result }
+    ensures { spec.Reads (spec.AsksTask (codes "migrate" ∷ spec.texts words)) result }
 {
     let mut words = words;
     let policy = next_word(&mut words)?;
@@ -172,7 +172,7 @@ fn migrate_of(words: Args) -> Result<Task, Exit>
 
 /// `serve POLICY DB PORT`, and maybe `OPERATOR_PORT TOKEN_FILE`
 fn serve_of(words: Args) -> Result<Task, Exit>
-    ensures { spec.Reads (spec.Asks (codes "serve" ∷ spec.texts words)) result }
+    ensures { spec.Reads (spec.AsksTask (codes "serve" ∷ spec.texts words)) result }
 {
     let mut words = words;
     let policy = next_word(&mut words)?;
@@ -207,7 +207,7 @@ fn serving_of(port: u16, words: Args) -> Result<Job, Exit>
 
 /// `zone POLICY DB MOMENT`
 fn zone_of(words: Args) -> Result<Task, Exit>
-    ensures { spec.Reads (spec.Asks (codes "zone" ∷ spec.texts words)) result }
+    ensures { spec.Reads (spec.AsksTask (codes "zone" ∷ spec.texts words)) result }
 {
     let mut words = words;
     let policy = next_word(&mut words)?;
@@ -226,7 +226,7 @@ fn zone_of(words: Args) -> Result<Task, Exit>
 
 /// `deposit POLICY DB MOMENT REGISTRAR CENTS`
 fn deposit_of(words: Args) -> Result<Task, Exit>
-    ensures { spec.Reads (spec.Asks (codes "deposit" ∷ spec.texts words)) result }
+    ensures { spec.Reads (spec.AsksTask (codes "deposit" ∷ spec.texts words)) result }
 {
     let mut words = words;
     let policy = next_word(&mut words)?;
@@ -249,7 +249,7 @@ fn deposit_of(words: Args) -> Result<Task, Exit>
 
 /// `order POLICY DB MOMENT JSON`
 fn order_of(words: Args) -> Result<Task, Exit>
-    ensures { spec.Reads (spec.Asks (codes "order" ∷ spec.texts words)) result }
+    ensures { spec.Reads (spec.AsksTask (codes "order" ∷ spec.texts words)) result }
 {
     let mut words = words;
     let policy = next_word(&mut words)?;

@@ -158,7 +158,7 @@ fn work<B: Book + Drop>(
 
 /// The moment of a job. That of `serve` is the machine's.
 fn moment_of(machine: &impl time::Clock, job: &Job) -> Moment
-    ensures { IfSome (words.moment_of job.now) (λ moment. result ≡ moment) }
+    ensures { IfSome (words.moment_of_job job.now) (λ moment. result ≡ moment) }
 {
     match job {
         Job::Serve { .. } | Job::ServeBoth { .. } => MachineClock::new(machine).moment(),
@@ -488,7 +488,7 @@ fn tell(rt: &impl Eprint, done: &Result<(), End>) {
 
 /// The exit status.
 fn status_of(done: &Result<(), End>) -> u8
-    ensures { result ≡ spec.status_of done.now }
+    ensures { result ≡ spec.status_of_end done.now }
 {
     match done {
         Ok(()) => 0,

@@ -53,7 +53,7 @@ impl From<io::Error> for End {
 
 /// The same end, of what can end so alone.
 pub fn ended(done: Result<(), Exit>) -> Result<(), End>
-    ensures { result ≡ spec.ended done }
+    ensures { result ≡ spec.end_by_exit done }
 {
     match done {
         Ok(()) => Ok(()),

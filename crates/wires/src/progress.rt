@@ -31,8 +31,8 @@ impl Part {
 
     /// Counts bytes of one frame, and answers whether they make it whole.
     fn moves(&mut self, bytes: &[u8]) -> bool
-        ensures part { self.new ≡ states.moved self.old bytes.now }
-        ensures complete { result ≡ states.is_complete self.new }
+        ensures part { self.new ≡ states.with_bytes_moved self.old bytes.now }
+        ensures complete { result ≡ states.is_whole self.new }
     {
         self.total = total_of(
             self.total,
@@ -136,7 +136,7 @@ pub(crate) struct Progress {
 impl Progress {
     /// That of a connection whose turn begins.
     pub fn begun(now: Duration) -> Progress
-        ensures { result ≡ states.first now }
+        ensures { result ≡ states.first_progress now }
     {
         Progress {
             phase: Phase::First,
@@ -160,7 +160,7 @@ impl Progress {
 
     /// These bytes came.
     pub fn take(&mut self, bytes: &[u8], now: Duration)
-        ensures { self.new ≡ states.taken self.old bytes.now now }
+        ensures { self.new ≡ states.received self.old bytes.now now }
     {
         self.moved = now;
         match self.phase {
@@ -186,7 +186,7 @@ impl Progress {
 
     /// These bytes are to go, and answers what begins with them. What it took to make a reply counts for nobody.
     pub fn give(&mut self, bytes: &[u8], now: Duration) -> Given
-        ensures given { result ≡ spec.given self.old.phase self.old.part.count }
+        ensures given { result ≡ spec.given_in self.old.phase self.old.part.count }
         ensures state { self.new ≡ states.giving self.old bytes.now now }
     {
         if self.phase == Phase::Answer {

@@ -25,9 +25,9 @@ const END: &[u8] = b"\"}";
 const TAIL: usize = 96;
 
 /// The code of a reply, where it has one: a greeting has none.
-#[tactic(auto, unfolding(crate::specs::inner::Replies::code_of))]
+#[tactic(auto, unfolding(crate::specs::inner::Replies::reply_code))]
 pub(crate) fn code_of(reply: &[u8]) -> Option<u16>
-    ensures { result ≡ spec.code_of reply.now }
+    ensures { result ≡ spec.reply_code reply.now }
 {
     number_behind(CODE, DIGITS, front_of(reply, FRONT))
 }
@@ -85,7 +85,7 @@ fn number_of(bytes: &[u8], digits: usize) -> Option<u16>
 }
 
 fn are_digits(bytes: &[u8]) -> bool
-    ensures { result ≡ list_all spec.is_digit bytes.now }
+    ensures { result ≡ list_all spec.is_decimal_digit bytes.now }
 {
     bytes.iter().all(|byte| byte.is_ascii_digit())
 }

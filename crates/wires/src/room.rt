@@ -44,7 +44,7 @@ trait Accepts<W> {
 
     /// Who comes next.
     fn accept(&self, now: Duration) -> Guest<W>
-        ensures { spec.IsOf (Comes self.now) result };
+        ensures { spec.IsGuestOf (Comes self.now) result };
 }
 
 /// Who comes next.
@@ -355,7 +355,7 @@ fn silent_place<W: Waits>(waiting: &[W]) -> Option<usize>
 
 /// Whether a call that failed so may be made again.
 pub(crate) fn is_passing(kind: ErrorKind) -> bool
-    ensures { result ≡ spec.is_passing kind }
+    ensures { result ≡ spec.is_retryable kind }
 {
     matches!(kind, ErrorKind::WouldBlock | ErrorKind::Interrupted)
 }

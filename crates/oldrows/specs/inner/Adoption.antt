@@ -9,7 +9,7 @@ use Rattle.sqltables.specs.Content.{Content, no_content}
 use Rattle.sqltables.specs.declared.meta.MetaRow.{MetaRow}
 use Rattle.sqltables.specs.inner.FirstTables.{first_number, first_registry}
 use Rattle.oldrows.specs.Stored.{Answers, OldState}
-use Rattle.oldrows.specs.inner.Stored.{IsLeftAs, IsSeenAs, IsShapedAs, old_contents}
+use Rattle.oldrows.specs.inner.Stored.{IsLeftAsOld, IsSeenAs, IsShapedAsOld, old_contents}
 use Rattle.states.specs.States.{Has, Remains}
 
 -- the table `meta` has one row, and in it the number of that schema
@@ -20,28 +20,28 @@ is_first (meta ∷ other ∷ more) = false
 
 -- each of these is what this database is
 abbrev pub AreOf : Trees → List (Remains Content) → Type 0
-AreOf trees leaves = (left : Remains Content) → Has leaves left → IsLeftAs left trees
+AreOf trees leaves = (left : Remains Content) → Has leaves left → IsLeftAsOld left trees
 
 pub record IsSeen (trees : Trees) (s : OldState) : Type 0 where
   pub content : s.is_clean ≡ true → IsSeenAs s.readiness trees s.content
-  pub shaped : s.is_clean ≡ true → IsShapedAs s.readiness trees
+  pub shaped : s.is_clean ≡ true → IsShapedAsOld s.readiness trees
   pub answers : Answers s
   pub leaves : s.is_clean ≡ true → AreOf trees s.crash_leaves
 
 -- the rows are seen where they have the number
-abbrev pub IsTakenAs : Ready → Trees → Content → Type 0
-IsTakenAs Used trees content = (content ≡ old_contents trees) × (is_first content.metas ≡ true)
-IsTakenAs Empty trees content = content ≡ no_content
-IsTakenAs Other trees content = content ≡ no_content
+abbrev pub IsTakenAsOld : Ready → Trees → Content → Type 0
+IsTakenAsOld Used trees content = (content ≡ old_contents trees) × (is_first content.metas ≡ true)
+IsTakenAsOld Empty trees content = content ≡ no_content
+IsTakenAsOld Other trees content = content ≡ no_content
 
 -- Whether it is a registry of that schema, exactly: it has these tables, no other, and the number.
-abbrev pub IsKnownAs : Ready → Trees → Type 0
-IsKnownAs Used trees = IsSound first_registry trees × (is_first (old_contents trees).metas ≡ true)
-IsKnownAs Empty trees = ⊥
-IsKnownAs Other trees = IsSound first_registry trees → is_first (old_contents trees).metas ≡ false
+abbrev pub IsKnownAsOld : Ready → Trees → Type 0
+IsKnownAsOld Used trees = IsSound first_registry trees × (is_first (old_contents trees).metas ≡ true)
+IsKnownAsOld Empty trees = ⊥
+IsKnownAsOld Other trees = IsSound first_registry trees → is_first (old_contents trees).metas ≡ false
 
 pub record IsAdopted (trees : Trees) (s : OldState) : Type 0 where
-  pub content : s.is_clean ≡ true → IsTakenAs s.readiness trees s.content
-  pub known : s.is_clean ≡ true → IsKnownAs s.readiness trees
+  pub content : s.is_clean ≡ true → IsTakenAsOld s.readiness trees s.content
+  pub known : s.is_clean ≡ true → IsKnownAsOld s.readiness trees
   pub answers : Answers s
   pub leaves : s.is_clean ≡ true → AreOf trees s.crash_leaves

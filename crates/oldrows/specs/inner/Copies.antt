@@ -10,12 +10,12 @@ use Rattle.oldrows.specs.declared.copying.TableName.{TableName}
 use Rattle.oldrows.specs.declared.copying.TableName.TheVariants.{Metas, Accounts, Contacts, Domains, Hosts, Addresses, Links, Lines, Messages, Transfers}
 
 -- rows put one after another, each in the place of the one with its number, or after all others
-abbrev pub put_all : {X : Type 0} → (X → ℤ) → List X → List X → List X
-put_all key new rows = fold (insert_by key) rows new
+abbrev pub put_rows : {X : Type 0} → (X → ℤ) → List X → List X → List X
+put_rows key new rows = fold (insert_by key) rows new
 
 -- the rows of a table, put with those of another database
 abbrev pub put_from : {R : Type 0} → Table R → Content → Content → Content
-put_from table from = table.rows_to (put_all table.key (table.rows_of from))
+put_from table from = table.rows_to (put_rows table.key (table.rows_of from))
 
 abbrev pub put_of : TableName → Content → Content → Content
 put_of Metas = put_from meta_table

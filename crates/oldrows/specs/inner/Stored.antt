@@ -62,11 +62,11 @@ pub record IsOldContent (xs : Content) : Type 0 where
   pub keyed : AreKeyed xs
   pub days : xs.days ≡ []
 
-abbrev pub rows_in : Bool → Trees → Content
-rows_in is_there db = if is_there then old_contents db else no_content
+abbrev pub old_rows : Bool → Trees → Content
+old_rows is_there db = if is_there then old_contents db else no_content
 
-abbrev pub readiness_of : Bool → Ready
-readiness_of is_there = if is_there then Used else Other
+abbrev pub old_readiness : Bool → Ready
+old_readiness is_there = if is_there then Used else Other
 
 -- what is seen, by the tables alone
 abbrev pub IsSeenAs : Ready → Trees → Content → Type 0
@@ -75,49 +75,49 @@ IsSeenAs Empty trees content = content ≡ no_content
 IsSeenAs Other trees content = content ≡ no_content
 
 -- whether it has these tables
-abbrev pub IsShapedAs : Ready → Trees → Type 0
-IsShapedAs Used trees = IsSound first_registry trees
-IsShapedAs Empty trees = ⊥
-IsShapedAs Other trees = IsSound first_registry trees → ⊥
+abbrev pub IsShapedAsOld : Ready → Trees → Type 0
+IsShapedAsOld Used trees = IsSound first_registry trees
+IsShapedAsOld Empty trees = ⊥
+IsShapedAsOld Other trees = IsSound first_registry trees → ⊥
 
 -- what this database is, by its tables
-abbrev pub IsLeftAs : Remains Content → Trees → Type 0
-IsLeftAs left db = IsShapedAs left.readiness db × IsSeenAs left.readiness db left.content
+abbrev pub IsLeftAsOld : Remains Content → Trees → Type 0
+IsLeftAsOld left db = IsShapedAsOld left.readiness db × IsSeenAs left.readiness db left.content
 
 -- whatever a crash may leave is one of these
-abbrev pub Covers : List (Remains Content) → (Trees → Type 0) → Type 0
-Covers leaves may_leave =
-    (db : Trees) → may_leave db → (left : Remains Content) × Has leaves left × IsLeftAs left db
+abbrev pub CoversOld : List (Remains Content) → (Trees → Type 0) → Type 0
+CoversOld leaves may_leave =
+    (db : Trees) → may_leave db → (left : Remains Content) × Has leaves left × IsLeftAsOld left db
 
 -- both have these tables, with the same rows, or neither has them
 abbrev pub IsSameOld : Trees → Trees → Type 0
-IsSameOld was db = (left : Remains Content) × IsLeftAs left was × IsLeftAs left db
+IsSameOld was db = (left : Remains Content) × IsLeftAsOld left was × IsLeftAsOld left db
 
 -- of a database that was found a crash may leave that, or the same registry
 abbrev pub LeavesAlone : Trees → (Trees → Type 0) → Type 0
 LeavesAlone found may_leave = (db : Trees) → may_leave db → (db ≡ found) ⊎ IsSameOld found db
 
 -- what an opening finds of what is seen now
-abbrev pub left_in : Bool → State → Remains Content
-left_in is_there s = record { readiness = readiness_of is_there; content = rows_in is_there s.now.trees }
+abbrev pub old_remains : Bool → State → Remains Content
+old_remains is_there s = record { readiness = old_readiness is_there; content = old_rows is_there s.now.trees }
 
 -- the same of several
-abbrev pub leaves_of : {C : Type 0} → (C → State) → List (C × Bool) → List (Remains Content)
-leaves_of {C} state-of items = map (λ (it : C × Bool). left_in it.1 (state-of it.0)) items
+abbrev pub old_leaves : {C : Type 0} → (C → State) → List (C × Bool) → List (Remains Content)
+old_leaves {C} state-of items = map (λ (it : C × Bool). old_remains it.1 (state-of it.0)) items
 
 abbrev pub as_found : Bool → State → List (Remains Content) → OldState
 as_found is_there s leaves = record {
-  content = rows_in is_there s.now.trees;
+  content = old_rows is_there s.now.trees;
   is_clean = s.is_clean && s.is_open;
   is_honest = s.is_clean;
-  readiness = readiness_of is_there;
+  readiness = old_readiness is_there;
   crash_leaves = leaves;
 }
 
 -- a question: this is the answer; whatever is answered, nothing is changed
-abbrev pub Finds : {A : Type 0} → Result A BookFault → A → OldState → OldState → Type 0
-Finds (Ok it) value old new = IsAsked old new × (new.is_clean ≡ true → it ≡ value)
-Finds (Err fault) value old new = IsRead old new
+abbrev pub FindsOld : {A : Type 0} → Result A BookFault → A → OldState → OldState → Type 0
+FindsOld (Ok it) value old new = IsAsked old new × (new.is_clean ≡ true → it ≡ value)
+FindsOld (Err fault) value old new = IsRead old new
 
 -- no transaction is open, and each row is a record's
 pub record Agrees (s : State) : Type 0 where
@@ -126,9 +126,9 @@ pub record Agrees (s : State) : Type 0 where
   pub settled : s.now ≡ s.committed
 
 -- while the disk is clean and the connection open
-abbrev pub Fits : Bool → State → Type 0
-Fits is_there s = HasCleanDisk s → IsTrue s.is_open → is_there ≡ true → Agrees s
+abbrev pub FitsOld : Bool → State → Type 0
+FitsOld is_there s = HasCleanDisk s → IsTrue s.is_open → is_there ≡ true → Agrees s
 
 -- while the disk is clean, nothing but these may be left
 abbrev pub Guards : State → List (Remains Content) → Type 0
-Guards s leaves = HasCleanDisk s → Covers leaves s.may_leave
+Guards s leaves = HasCleanDisk s → CoversOld leaves s.may_leave

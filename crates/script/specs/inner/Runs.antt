@@ -77,6 +77,6 @@ EndsBehind p before after input old pending new exit =
     EndsIn p before after input (append_known old pending) new exit
 
 -- a run that answers all its lines is done
-abbrev pub end_of : Result ⊤ Exit → Exit
-end_of (Ok _) = exits.Done
-end_of (Err exit) = exit
+abbrev pub run_end : Result ⊤ Exit → Exit
+run_end (Ok _) = exits.Done
+run_end (Err exit) = exit

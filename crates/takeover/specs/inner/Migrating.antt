@@ -2,7 +2,7 @@
 use Rattle.std.specs.Prelude.{◌≡◌, ◌⊎◌, Bool, true, false, List, [], ◌∷◌, map, Result, Ok, Err}
 use Rattle.oldrows.specs.declared.copying.TableName.{TableName}
 use Rattle.oldrows.specs.declared.copying.TableName.TheVariants.{Metas, Accounts, Contacts, Domains, Hosts, Addresses, Links, Messages, Transfers}
-use Rattle.oldrows.specs.inner.Copies.{IsLeft, put_all}
+use Rattle.oldrows.specs.inner.Copies.{IsLeft, put_rows}
 use Rattle.oldrows.specs.Copies.{renumbered}
 use Rattle.oldrows.specs.Stored.{IsAsked, OldState}
 use Rattle.policy.specs.declared.schedule.Schedule.{Schedule}
@@ -16,11 +16,11 @@ use Rattle.states.specs.States.{Closes, Has, Keeps, Reads, Remains, Starts, Stat
 use Rattle.takeover.specs.declared.migrating.MigrateFault.{MigrateFault}
 use Rattle.takeover.specs.declared.migrating.MigrateFault.TheVariants.{Policy, Schema, Memory, Store}
 use Rattle.sqlbook.specs.Meaning.{are_right, stored_of}
-use Rattle.takeover.specs.Migrating.{AreThere, fault_of, numbered_anew, ended, suits, redated}
+use Rattle.takeover.specs.Migrating.{AreThere, fault_of, numbered_anew, lines_with_ends, suits, redated}
 
 -- the same rows as today's tables have them
-abbrev pub taken : Schedule → Content → Content
-taken days xs = record xs { metas = map renumbered xs.metas; lines = ended days xs.lines }
+abbrev pub taken_over : Schedule → Content → Content
+taken_over days xs = record xs { metas = map renumbered xs.metas; lines = lines_with_ends days xs.lines }
 
 -- the tables with the clock and the terms, and the others but for that of lines
 abbrev pub heads : List TableName
@@ -31,7 +31,7 @@ others = Contacts ∷ Domains ∷ Hosts ∷ Addresses ∷ Links ∷ Messages ∷
 
 -- lines, put with those of another database with the ends of their graces
 abbrev pub put_lines : Schedule → Content → Content → Content
-put_lines days from = lines_to (put_all lines.key (ended days from.lines))
+put_lines days from = lines_to (put_rows lines.key (lines_with_ends days from.lines))
 
 -- in the open transaction a registry was taken over
 pub record IsTakenOver (p : PolicyRules) (from read : OldState) (to written : StateOf Content) : Type 0 where
@@ -45,7 +45,7 @@ pub record IsTakenOver (p : PolicyRules) (from read : OldState) (to written : St
   pub sums : read.is_clean ≡ true → written.is_clean ≡ true
       → are_right written.content ≡ are_right (numbered_anew from.content)
   pub lines_are : read.is_clean ≡ true → written.is_clean ≡ true
-      → written.content.lines ≡ ended p.days from.content.lines
+      → written.content.lines ≡ lines_with_ends p.days from.content.lines
 
 -- in the open transaction it was seen that the policy doesn't suit
 pub record IsRefused (p : PolicyRules) (from read : OldState) (to written : StateOf Content) : Type 0 where

@@ -11,7 +11,7 @@ use Rattle.protocol.specs.declared.order.OperatorRequest.{OperatorRequest}
 use Rattle.protocol.specs.declared.order.OperatorRequest.TheVariants as requests
 use Rattle.protocol.specs.declared.order.Order.TheVariants as orders
 use Rattle.script.specs.Deposits.{EndsUnprinted}
-use Rattle.script.specs.Exits.{status_of as status_of_exit}
+use Rattle.script.specs.Exits.{status_of_exit}
 use Rattle.script.specs.Orders.{EndsUnanswered, IsOrdered, PrintsAnswer}
 use Rattle.script.specs.declared.exit.Exit.{Exit}
 use Rattle.script.specs.declared.exit.Exit.TheVariants as exits
@@ -27,16 +27,16 @@ use Rattle.tldreg.specs.declared.token.End.TheVariants as ends
 use Rattle.tldreg.specs.declared.token.Unfit.{Unfit}
 use Rattle.tldreg.specs.declared.token.Unfit.TheVariants as unfit
 use Rattle.tldreg.specs.inner.Nearness.{IsNear}
-use Rattle.tldreg.specs.inner.Words.{moment_of}
+use Rattle.tldreg.specs.inner.Words.{moment_of_job}
 
 -- an order that was answered another code than 1000 was refused
-abbrev pub end_of : Code → Result ⊤ Exit
-end_of Completed = Ok tt
-end_of _ = Err exits.Refused
+abbrev pub order_end : Code → Result ⊤ Exit
+order_end Completed = Ok tt
+order_end _ = Err exits.Refused
 
 -- and one that wasn't answered ends by its fault
 abbrev pub request_end : Result Code Exit → Result ⊤ Exit
-request_end (Ok code) = end_of code
+request_end (Ok code) = order_end code
 request_end (Err exit) = Err exit
 
 -- What the operator sends is carried out in a book, and the program ends as that was answered.
@@ -95,7 +95,7 @@ EndsJobAfter (Err exit) p job old new result = (new ≡ old) × (result ≡ Err 
 abbrev pub EndsWithin : Option ℕ → PolicyRules → Job → (old new : BookState) → Result ⊤ Exit → Type 0
 EndsWithin None p job old new result = EndsJob p job old new result
 EndsWithin (Some days) p job old new result =
-    (moment : ℕ) × IfSome (moment_of job) (λ given. moment ≡ given)
+    (moment : ℕ) × IfSome (moment_of_job job) (λ given. moment ≡ given)
     × (near : Result ⊤ Exit) × (between : BookState) × IsNear p moment days old between near
     × Follows between new × EndsJobAfter near p job between new result
 
@@ -106,10 +106,10 @@ served (jobs.ServeBoth port operator_port token_file) = Err exits.Network
 served _ = Ok tt
 
 -- the exit status
-abbrev pub status_of : Result ⊤ End → ℕ
-status_of (Ok done) = 0
-status_of (Err (ends.Exit exit)) = status_of_exit exit
-status_of (Err (ends.Token fault)) = 1
+abbrev pub status_of_end : Result ⊤ End → ℕ
+status_of_end (Ok done) = 0
+status_of_end (Err (ends.Exit exit)) = status_of_exit exit
+status_of_end (Err (ends.Token fault)) = 1
 
 -- ---- the operator's token
 
@@ -120,9 +120,9 @@ text_of unfit.Short = codes "token: short"
 text_of unfit.Form = codes "token: form"
 
 -- the same end, of what can't end by the token
-abbrev pub ended : Result ⊤ Exit → Result ⊤ End
-ended (Ok done) = Ok done
-ended (Err exit) = Err (ends.Exit exit)
+abbrev pub end_by_exit : Result ⊤ Exit → Result ⊤ End
+end_by_exit (Ok done) = Ok done
+end_by_exit (Err exit) = Err (ends.Exit exit)
 
 -- a file that isn't fit to hold the token
 abbrev pub token_end : TokenFault → End

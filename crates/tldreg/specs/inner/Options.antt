@@ -116,8 +116,8 @@ TakesValue old new =
     × (new.plain ≡ old.plain) × Says old.settings name value new.settings
 
 -- the next of the words are taken
-abbrev pub Takes : Taking → Taking → Type 0
-Takes old new = TakesPlain old new ⊎ (TakesQuiet old new ⊎ TakesValue old new)
+abbrev pub TakesNext : Taking → Taking → Type 0
+TakesNext old new = TakesPlain old new ⊎ (TakesQuiet old new ⊎ TakesValue old new)
 
 -- the next word is an option that lacks its value, or says nothing with it
 abbrev pub IsWrong : Taking → Type 0
@@ -132,13 +132,13 @@ taking words split = record { words = words; plain = map string_bytes split.plai
 
 -- The next of these words are taken, unless memory ran out. Where they can't be, it is a wrong command line.
 abbrev pub TakesWord : List (List ℕ) → Split → List (List ℕ) → Split → Result ⊤ Exit → Type 0
-TakesWord words old rest new (Ok done) = Takes (taking words old) (taking rest new)
+TakesWord words old rest new (Ok done) = TakesNext (taking words old) (taking rest new)
 TakesWord words old rest new (Err exit) = (exit ≡ exits.Memory) ⊎ ((exit ≡ exits.Usage) × IsWrong (taking words old))
 
 -- so many times
 abbrev pub TakesTimes : ℕ → Taking → Taking → Type 0
 TakesTimes zero old new = new ≡ old
-TakesTimes (suc n) old new = (between : Taking) × TakesTimes n old between × Takes between new
+TakesTimes (suc n) old new = (between : Taking) × TakesTimes n old between × TakesNext between new
 
 -- words are taken, up to here
 abbrev pub AreTaken : List (List ℕ) → Taking → Type 0

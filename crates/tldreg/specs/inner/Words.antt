@@ -64,22 +64,22 @@ AsksJob words policy database (Order moment json) =
     (word : List ℕ) × (words ≡ codes "order" ∷ policy ∷ database ∷ word ∷ string_bytes json ∷ []) × IsMomentText word moment
 
 -- the words after the program's name ask for this task
-abbrev pub Asks : List (List ℕ) → Task → Type 0
-Asks words Help = words ≡ codes "--help" ∷ []
-Asks words Version = words ≡ codes "--version" ∷ []
-Asks words (Run policy) = words ≡ codes "run" ∷ string_bytes policy ∷ []
-Asks words (Migrate policy from to) =
+abbrev pub AsksTask : List (List ℕ) → Task → Type 0
+AsksTask words Help = words ≡ codes "--help" ∷ []
+AsksTask words Version = words ≡ codes "--version" ∷ []
+AsksTask words (Run policy) = words ≡ codes "run" ∷ string_bytes policy ∷ []
+AsksTask words (Migrate policy from to) =
     words ≡ codes "migrate" ∷ string_bytes policy ∷ string_bytes from ∷ string_bytes to ∷ []
-Asks words (OnDatabase policy database job) =
+AsksTask words (OnDatabase policy database job) =
     AsksJob words (string_bytes policy) (string_bytes database) job
 
 -- the moment that a job is given; that of serving is the machine's
-abbrev pub moment_of : Job → Option ℕ
-moment_of (Serve port) = None
-moment_of (ServeBoth port operator_port token_file) = None
-moment_of (Zone moment) = Some moment
-moment_of (Deposit moment registrar cents) = Some moment
-moment_of (Order moment json) = Some moment
+abbrev pub moment_of_job : Job → Option ℕ
+moment_of_job (Serve port) = None
+moment_of_job (ServeBoth port operator_port token_file) = None
+moment_of_job (Zone moment) = Some moment
+moment_of_job (Deposit moment registrar cents) = Some moment
+moment_of_job (Order moment json) = Some moment
 
 -- which options a task takes
 abbrev pub options_of : Task → OptionKind

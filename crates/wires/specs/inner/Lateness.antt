@@ -64,7 +64,7 @@ is_asked _ = false
 
 -- What begins with bytes that are to go: an answer behind a head, and a reply's payload behind the four bytes of its
 -- length. Else they are a length, or more of what was begun.
-abbrev pub given : Phase → (count : ℕ) → Given
-given Head count = begun.Answer
-given Reply count = cond (nat_eq count 4) begun.Reply begun.Part
-given _ count = begun.Part
+abbrev pub given_in : Phase → (count : ℕ) → Given
+given_in Head count = begun.Answer
+given_in Reply count = cond (nat_eq count 4) begun.Reply begun.Part
+given_in _ count = begun.Part

@@ -26,14 +26,14 @@ abbrev pub is_office_target : List ℕ → Bool
 is_office_target target =
     bytes_eq target (codes "/orders") || (bytes_eq target (codes "/zone") || bytes_eq target (codes "/metrics"))
 
-abbrev pub statement : List ℕ
-statement = codes "/statement/"
+abbrev pub statement_path : List ℕ
+statement_path = codes "/statement/"
 
 -- So much of a request's target as a line has. On the operator's port it may be a slip, such as the token.
 abbrev pub shown_of : List ℕ → (is_office : Bool) → List ℕ
 shown_of target is_office =
     if not is_office || is_office_target target then target
-    else (if starts_with nat_eq target statement then statement else [])
+    else (if starts_with nat_eq target statement_path then statement_path else [])
 
 -- a line with the number of a connection and its registrar
 abbrev pub with_head : (line : List ℕ) (connection : ℕ) (registrar : List ℕ) → List ℕ

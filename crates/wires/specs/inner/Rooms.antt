@@ -17,10 +17,10 @@ use Rattle.std.specs.declared.io.ErrorKind.{ErrorKind}
 use Rattle.std.specs.declared.io.ErrorKind.TheVariants.{WouldBlock, Interrupted, ConnectionAborted}
 
 -- a call that failed so may be made again: there was nothing to do, or it was interrupted
-abbrev pub is_passing : ErrorKind → Bool
-is_passing WouldBlock = true
-is_passing Interrupted = true
-is_passing _ = false
+abbrev pub is_retryable : ErrorKind → Bool
+is_retryable WouldBlock = true
+is_retryable Interrupted = true
+is_retryable _ = false
 
 -- a fault of accepting that concerns one connection alone
 abbrev pub is_of_one_connection : ErrorKind → Bool
@@ -46,9 +46,9 @@ guest_of kind number =
     else (if is_of_one_connection kind then guests.Gone else (if is_want number then guests.Want else guests.Fault))
 
 -- a guest that comes is one of these
-abbrev pub IsOf : {W : Type 0} → (W → Type 0) → Guest W → Type 0
-IsOf Comes (guests.One one) = Comes one
-IsOf Comes _ = Unit {0}
+abbrev pub IsGuestOf : {W : Type 0} → (W → Type 0) → Guest W → Type 0
+IsGuestOf Comes (guests.One one) = Comes one
+IsGuestOf Comes _ = Unit {0}
 
 -- the first of those that wait which tells this, or none; all before it tell the other
 abbrev pub IsFirst : {W : Type 0} → (W → Bool → Type 0) → (value other : Bool) → List W → Option ℕ → Type 0

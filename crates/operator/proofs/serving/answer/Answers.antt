@@ -1,6 +1,6 @@
 use Rattle.std.proofs.Common.{refl, subst, sym}
 use Rattle.operator.specs.Answers.{refusal}
-use Rattle.operator.specs.Operations.{Does, IsSent}
+use Rattle.operator.specs.Operations.{DoesAsked, IsSent}
 use Rattle.operator.specs.declared.answer.Outcome.{Outcome}
 use Rattle.operator.specs.declared.request.Asked.{Asked}
 use Rattle.operator.proofs.serving.answer.Goals as goal
@@ -12,4 +12,4 @@ returns-in-Refused-clause-does g c =
     let clock = g.C.Clock.moments c.args.clock.now in
     let state = g.B.Book.state c.args.registry.now.book in
     let sent = subst (λ (outcome : Outcome). IsSent (refusal outcome) before after c.refuse.result) c.outcome_of.ensures c.refuse.ensures in
-    subst (λ (asked : Asked). Does c.args.registry.now.policy asked c.args.body.now clock clock state state before after c.refuse.result) (sym c.in-Refused.is) (refl, refl, sent)
+    subst (λ (asked : Asked). DoesAsked c.args.registry.now.policy asked c.args.body.now clock clock state state before after c.refuse.result) (sym c.in-Refused.is) (refl, refl, sent)

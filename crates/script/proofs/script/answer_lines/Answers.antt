@@ -2,7 +2,7 @@ use Rattle.std.proofs.Common.{◌≡◌, ◌∙◌, ◌<◌, ◌++◌, ◌∷◌
 use Rattle.std.proofs.lemmas.Result.{err_from_is_err_and}
 use Rattle.std.specs.Io.BufRead.{strip_last, take_through}
 use Rattle.eppwire.proofs.FollowLemmas.{follows_on, stays_followed}
-use Rattle.script.specs.inner.Runs.{end_of}
+use Rattle.script.specs.inner.Runs.{run_end}
 use Rattle.std.proofs.KnownBytes.{Appends-nil, Appends-trans}
 use Rattle.script.proofs.BeginLemmas.{Ends-between, fault_by}
 use Rattle.script.proofs.HaltLemmas.{Ends-halted}
@@ -35,7 +35,7 @@ returns-in_err-print_answer-clause-ends g c =
     let gave = err_from_is_err_and c.from_residual-in_err-print_answer.result c.from_residual-in_err-print_answer.ensures.1 in
     let halted = c.in_err-print_answer.ensures in
     Ends-halted _ _ c.in_err-print_answer.field-0.0 _ before.lines text _ c.loop-number.number _ _ _ _ _ _ _ _ _ _ _
-    before.policy (ap end_of gave.1 ∙ gave.2) line before.read read some before.count before.is_printed halted.follows halted.stopped before.sent.1 halted.broken
+    before.policy (ap run_end gave.1 ∙ gave.2) line before.read read some before.count before.is_printed halted.follows halted.stopped before.sent.1 halted.broken
 
 pub returns-in_err-print_answer-clause-sent : goal.returns-in_err-print_answer-clause-sent
 returns-in_err-print_answer-clause-sent g c =
@@ -47,7 +47,7 @@ pub returns-in_err-read_until-clause-ends : goal.returns-in_err-read_until-claus
 returns-in_err-read_until-clause-ends g c =
     let before = c.loop-number.invariant in
     let gave = err_from_is_err_and c.from_residual.result c.from_residual.ensures.1 in
-    Ends-between _ _ _ before.lines _ _ _ _ _ _ _ (fault_by _ _ (ap end_of gave.1 ∙ gave.2)) before.read before.is_printed
+    Ends-between _ _ _ before.lines _ _ _ _ _ _ _ (fault_by _ _ (ap run_end gave.1 ∙ gave.2)) before.read before.is_printed
 
 pub returns-clause-ends : goal.returns-clause-ends
 returns-clause-ends g c =

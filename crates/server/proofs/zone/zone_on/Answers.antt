@@ -7,7 +7,7 @@ use Rattle.model.specs.Zone.{zone_data}
 use Rattle.objects.specs.declared.zone.ZoneData.{ZoneData}
 use Rattle.policy.specs.Rules.{PolicyRules}
 use Rattle.registry.specs.Faces.{LooksUp}
-use Rattle.server.specs.ZoneExport.{text_of, zone_at}
+use Rattle.server.specs.ZoneExport.{zone_at, zone_data_text}
 use Rattle.books.specs.Book.{BookState}
 use Rattle.zonefile.specs.ZoneText.{Stops}
 use Rattle.server.proofs.HttpLemmas.{passes_by}
@@ -15,8 +15,8 @@ use Rattle.server.proofs.zone.zone_on.Goals as goal
 
 -- the text of what was found is that of the zone at the moment
 text_is : (lapses : ℕ → Registry → Registry) (p q : PolicyRules) (moment : ℕ) (zone : ZoneData) (old new : BookState) → q ≡ p → LooksUp p (zone_data p.zone) lapses moment zone old new → new.is_clean ≡ true
-    → text_of q zone ≡ zone_at p moment old.content.registry
-text_is lapses p q moment zone old new same found clean = λ i. text_of (same i) ((found clean).answer_is i)
+    → zone_data_text q zone ≡ zone_at p moment old.content.registry
+text_is lapses p q moment zone old new same found clean = λ i. zone_data_text (same i) ((found clean).answer_is i)
 
 pub returns-in_err-zone-clause-begun : goal.returns-in_err-zone-clause-begun
 returns-in_err-zone-clause-begun g c =

@@ -7,7 +7,7 @@ use Rattle.sqlite_wal.specs.Files.{outcomes}
 use Rattle.sqlite_wal.specs.Reads.{AreClean}
 use Rattle.sqlite.specs.Files.{file_state}
 use Rattle.sqlite.specs.State.{HasCleanDisk}
-use Rattle.oldrows.specs.inner.Stored.{Covers}
+use Rattle.oldrows.specs.inner.Stored.{CoversOld}
 use Rattle.sqltables.proofs.StandingLemmas.{clean-of}
 use Rattle.takeover.proofs.FileLemmas.{old-found}
 use Rattle.takeover.proofs.files.into_old_files.Goals as goal
@@ -19,7 +19,7 @@ returns g c clean =
     let sure = subst (λ p. AreClean g.D.Disk p.0 p.1) c.close.ensures clean in
     let none : IsClean (view it) = no_doubt _ (clean_is it.pool ∙ sure) in
     let consistent : HasCleanDisk conn = omega (arith, c.into_store.ensures.quiet.clean, none) in
-    let covers : Covers c.args.rows.crash_leaves (recovers it) = λ db left. c.into_connection.ensures.covers consistent db (c.into_store.ensures.quiet.outcomes db left) in (
+    let covers : CoversOld c.args.rows.crash_leaves (recovers it) = λ db left. c.into_connection.ensures.covers consistent db (c.into_store.ensures.quiet.outcomes db left) in (
       sym c.into_connection.ensures.honest ∙ clean-of conn consistent,
       λ image may trees found. old-found it (c.into_store.ensures.numbered none) (c.into_store.ensures.sound none) image
           (may_leave_is it.pool image sure (subst (λ p. outcomes g.D.Disk p.0 p.1 image) c.close.ensures may)) trees found c.args.rows.crash_leaves covers,

@@ -2,7 +2,7 @@ use Rattle.std.proofs.Common.{◌≡◌, List, ℕ, [], ◌∷◌, arith, refl, 
 use Rattle.std.proofs.lemmas.List.{length-map}
 use Rattle.std.specs.Vec.Iter.{into_iter_items}
 use Rattle.std.proofs.lemmas.Result.{err_from_is_err_and}
-use Rattle.tldreg.specs.inner.Options.{Takes, taking}
+use Rattle.tldreg.specs.inner.Options.{TakesNext, taking}
 use Rattle.tldreg.specs.inner.Words.{texts}
 use Rattle.tldreg.proofs.OptionLemmas.{fewer, gone_wrong, more_taken, no_more, none_taken}
 use Rattle.tldreg.proofs.settings.split_of.Goals as goal
@@ -16,8 +16,8 @@ words-init c = record {
 pub words-preserved : goal.words-preserved
 words-preserved c =
     let next : texts c.words.words ≡ string_bytes c.in-Some.word ∷ texts c.next.new.self = ap (map string_bytes) c.in-Some.ensures.items in
-    let took : Takes (taking (texts c.words.words) c.words.split) (taking (texts c.take_word.new.words) c.take_word.new.split) =
-    subst (λ (ws : List (List ℕ)). Takes (taking ws c.words.split) (taking (texts c.take_word.new.words) c.take_word.new.split)) (sym next) c.in_ok-take_word.ensures in
+    let took : TakesNext (taking (texts c.words.words) c.words.split) (taking (texts c.take_word.new.words) c.take_word.new.split) =
+    subst (λ (ws : List (List ℕ)). TakesNext (taking ws c.words.split) (taking (texts c.take_word.new.words) c.take_word.new.split)) (sym next) c.in_ok-take_word.ensures in
     record {
       left = omega (arith, fewer _ _ took, c.words.invariant.left);
       taken = more_taken _ _ _ c.words.invariant.taken took;
