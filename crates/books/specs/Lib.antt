@@ -6,5 +6,4 @@ pub mod Faces
 pub mod Records
 pub mod Tables
 pub mod Kept
-pub mod Once
 pub mod inner

@@ -9,13 +9,11 @@ mod faces;
 mod finding;
 mod grouping;
 mod kept;
-mod once;
 mod posting;
 mod records;
 mod zone;
 
 pub use book::Book;
 pub use kept::Kept;
-pub use once::OnceBook;
 pub use records::Records;
 pub use states::{BookFault, Ready};

@@ -4,7 +4,7 @@ use Rattle.std.specs.Ordering.{ordering_then}
 use Rattle.sqlite_value.specs.declared.value.Value.TheVariants.{Int, Text}
 use Rattle.sqlite_value.specs.Order.{value_cmp}
 use Rattle.sqlite_value.proofs.OrderLemmas.{value_cmp-Int, value_cmp-Text}
-use Rattle.sqlite_sql.specs.declared.ops.CompareOp.TheVariants.{Eq, Gt, Le}
+use Rattle.sqlite_sql.specs.declared.ops.CompareOp.TheVariants.{Eq, Le}
 use Rattle.sqlite_sql.specs.Term.{col}
 use Rattle.sqlite_typed.specs.Columns.{or_null}
 use Rattle.sqlite_typed.proofs.TestLemmas.{at_ints, at_points_to, at_texts, then_term, last_term, then_key, last_key}
@@ -12,11 +12,11 @@ use Rattle.sqlite.specs.Listing.{understood}
 use Rattle.sqlite_tied.specs.Compute.{everything}
 use Rattle.sqlrows.specs.inner.Layouts.{by_then_key}
 use Rattle.sqlrows.proofs.SelectLemmas.{value_cmp-maybe_int}
-use Rattle.sqltables.specs.inner.Tables.{meta_all, account_all, account_by_id, contact_by_id, contact_by_name, contact_until_due, contact_first_until_due, contact_by_sponsor_until_due, domain_all, domain_first, domain_after, domain_by_id, domain_by_name, domain_first_by_registrant, domain_until_due, domain_first_until_due, domain_by_sponsor_until_due, domain_by_registrant_until_due, domain_by_roid, host_all, host_by_id, host_by_name, host_by_above, address_by_host, link_by_domain, link_first_by_contact, link_first_by_host, link_by_contact_until_due, link_by_host_until_due, line_by_account, line_by_object, message_first_by_account, message_same, transfer_by_contact, transfer_by_domain, transfer_pending_by_requester, transfer_pending_by_losing, days_all}
+use Rattle.sqltables.specs.inner.Tables.{meta_all, account_all, account_by_id, contact_by_id, contact_by_name, contact_until_due, contact_first_until_due, contact_by_sponsor_until_due, domain_all, domain_by_id, domain_by_name, domain_first_by_registrant, domain_until_due, domain_first_until_due, domain_by_sponsor_until_due, domain_by_registrant_until_due, domain_by_roid, host_all, host_by_id, host_by_name, host_by_above, address_by_host, link_by_domain, link_first_by_contact, link_first_by_host, link_by_contact_until_due, link_by_host_until_due, line_by_account, line_by_object, message_first_by_account, message_same, transfer_by_contact, transfer_by_domain, transfer_pending_by_requester, transfer_pending_by_losing, days_all}
 use Rattle.sqltables.specs.Meta.{meta_shown, metas}
 use Rattle.sqltables.specs.Account.{account_shown, accounts, account_with_id}
 use Rattle.sqltables.specs.Contact.{ContactRow, contact_shown, contacts, contact_with_id, contact_with_name, contact_within_due, contact_of_sponsor_within, by_due as contact_by_due, contacts_by_due}
-use Rattle.sqltables.specs.Domain.{DomainRow, domain_with_name, domain_shown, domains, domain_after_id, domain_with_id, domain_with_registrant, domain_within_due, by_due as domain_by_due, domains_by_due, domain_of_sponsor_within, domain_of_registrant_within, domain_with_roid}
+use Rattle.sqltables.specs.Domain.{DomainRow, domain_with_name, domain_shown, domains, domain_with_id, domain_with_registrant, domain_within_due, by_due as domain_by_due, domains_by_due, domain_of_sponsor_within, domain_of_registrant_within, domain_with_roid}
 use Rattle.sqltables.specs.Host.{host_shown, hosts, host_with_id, host_with_name, host_with_above}
 use Rattle.sqltables.specs.Address.{address_shown, addresses, address_with_host}
 use Rattle.sqltables.specs.Link.{link_shown, links, link_with_domain, link_with_contact, link_with_host, link_of_contact_within, link_of_host_within}
@@ -26,7 +26,7 @@ use Rattle.sqltables.specs.Transfer.{transfer_shown, transfers, transfer_with_co
 use Rattle.sqltables.specs.Day.{day_shown, days}
 use Rattle.sqltables.specs.inner.Statements.{Asks}
 use Rattle.sqltables.proofs.DueLemmas.{at_due, at_ever}
-use Rattle.sqltables.proofs.StatementLemmas.{asks_all, asks_where, asks_first, asks_first_of_all, asks_sorted, asks_first_sorted, equals, at_most, above, from_zero, given, one}
+use Rattle.sqltables.proofs.StatementLemmas.{asks_all, asks_where, asks_first, asks_sorted, asks_first_sorted, equals, at_most, from_zero, given, one}
 use Rattle.sqltables.proofs.TableLemmas.{meta_part, account_part, contact_part, domain_part, host_part, address_part, link_part, line_part, message_part, transfer_part, day_part}
 pub use Rattle.sqltables.proofs.TableLemmas.{asks-by, bound-last, bound-then}
 
@@ -126,15 +126,6 @@ pub domains_by_id : (v : ℤ) → Asks domains.tree domain_shown domain_by_id (I
 unfolding understood everything
 domains_by_id v = asks_where domain_part 14 (equals 0 0 ∷ []) (record { names = domain_titles; command = refl; plain = (refl, refl); unlisted = refl })
     (λ x. last_term (at_ints false Eq x.id v)) (λ x. refl)
-
-pub first_domains : (count : ℕ) → Asks domains.tree domain_shown domain_first (Int (pos count) ∷ []) (λ c. take count c.domains)
-unfolding understood everything
-first_domains count = asks_first_of_all domain_part 14 (given 0) count refl (record { names = domain_titles; command = refl; plain = (refl, refl); unlisted = refl }) (λ x. refl)
-
-pub domains_after : (id : ℤ) (count : ℕ) → Asks domains.tree domain_shown domain_after (Int id ∷ Int (pos count) ∷ []) (λ c. take count (filter (domain_after_id id) c.domains))
-unfolding understood everything
-domains_after id count = asks_first domain_part 14 (above 0 0 ∷ []) (given 1) count refl (record { names = domain_titles; command = refl; plain = (refl, refl); unlisted = refl })
-    (λ x. last_term (at_ints false Gt x.id id)) (λ x. refl)
 
 pub domains_by_name : (v : List ℕ) → Asks domains.tree domain_shown domain_by_name (Text v ∷ []) (λ c. filter (domain_with_name v) c.domains)
 unfolding understood everything

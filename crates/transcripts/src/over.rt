@@ -3,8 +3,9 @@
 
 use crate::chapter::{Chapter, run_chapters};
 use anyhow::{Result, bail};
-use books::{Book, OnceBook};
+use books::Book;
 use mapbook::new_book;
+use oncebook::OnceBook;
 use script::Exit;
 use sqlbook::in_memory;
 use std::alloc::Global;

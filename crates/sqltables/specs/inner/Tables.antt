@@ -72,12 +72,6 @@ domain_create = codes "CREATE TABLE domain (id INTEGER PRIMARY KEY, name TEXT NO
 abbrev pub domain_all : List ℕ
 domain_all = codes "SELECT id, name, creator, serial, sponsor, created, years, transferred, updated, statuses, secret, registrant, deleted, restore_requested, due FROM domain ORDER BY id"
 
-abbrev pub domain_first : List ℕ
-domain_first = codes "SELECT id, name, creator, serial, sponsor, created, years, transferred, updated, statuses, secret, registrant, deleted, restore_requested, due FROM domain ORDER BY id LIMIT ?1"
-
-abbrev pub domain_after : List ℕ
-domain_after = codes "SELECT id, name, creator, serial, sponsor, created, years, transferred, updated, statuses, secret, registrant, deleted, restore_requested, due FROM domain WHERE id > ?1 ORDER BY id LIMIT ?2"
-
 abbrev pub domain_by_id : List ℕ
 domain_by_id = codes "SELECT id, name, creator, serial, sponsor, created, years, transferred, updated, statuses, secret, registrant, deleted, restore_requested, due FROM domain WHERE id = ?1 ORDER BY id"
 

@@ -1,12 +1,14 @@
-//! A book that refuses one call.
-ghost use Rattle.std.specs.Prelude.{◌≡◌, ◌≢◌, ◌↔◌, ◌+◌, ◌&&◌, min, nat_eq, true, IsTrue, Err};
-ghost use Rattle.books.specs.Once.{RefusesOnce, with_refusals};
+//! For tests: a book that refuses one call.
+#![tactic(auto)]
 
-use crate::book::Book;
+ghost use Rattle.std.specs.Prelude.{◌≡◌, ◌≢◌, ◌↔◌, ◌+◌, ◌&&◌, min, nat_eq, true, IsTrue, Err};
+ghost use Rattle.oncebook.specs.Once.{RefusesOnce, with_refusals};
+
 use accounts::Lines;
 use basis::list::Seq;
 use basis::registrar::RegistrarNo;
 use basis::text::Text;
+use books::Book;
 use calendar::Moment;
 use decisions::Change;
 use facts::Facts;
@@ -98,7 +100,7 @@ impl<B: Book> OnceBook<B> {
 impl<B: Book> Book for OnceBook<B> {
     ghost use Rattle.std.specs.Prelude.{true};
     ghost use Rattle.books.specs.Kept.{none_refused};
-    ghost use Rattle.books.specs.Once.{with_refusals};
+    ghost use Rattle.oncebook.specs.Once.{with_refusals};
 
     ghost state = { λ b. with_refusals b.refused (B.state b.inner) };
 
