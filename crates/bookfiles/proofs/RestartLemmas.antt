@@ -20,7 +20,7 @@ use Rattle.sqlbook.specs.Beginning.{IsTakenFrom}
 use Rattle.sqlbook.specs.Files.{AreTakenIn}
 use Rattle.sqlbook.proofs.BeginningLemmas.{rows_new}
 use Rattle.sqlbook.specs.Meaning.{are_right, stored_of}
-use Rattle.sqlbook.specs.AsBook.{are_all_right, meant}
+use Rattle.sqlbook.specs.AsBook.{are_all_right, remains_meant}
 use Rattle.states.specs.declared.readiness.Ready.{Ready}
 use Rattle.bookfiles.specs.Restarts.{IsOpenedIn, NewFilesAreBooks, RestartsAreEvents, StopsAreCrashes, book_of}
 
@@ -33,7 +33,7 @@ leaves-found trees rows refused adopted left may =
     let alone : rows.crash_leaves ≡ it ∷ [] = adopted.leaves clean in
     let right : are_right rows.content ≡ true = (and_parts (are_right rows.content) true (subst (λ (leaves : List (Remains Content)). are_all_right are_right leaves ≡ true) alone parts.1)).0 in (
       ap (λ b. b && are_right rows.before) clean ∙ ap are_right adopted.before ∙ right,
-      has-alone (meant stored_of it) left (subst (λ (leaves : List (Remains Content)). Has (map (meant stored_of) leaves) left) alone may.1),
+      has-alone (remains_meant stored_of it) left (subst (λ (leaves : List (Remains Content)). Has (map (remains_meant stored_of) leaves) left) alone may.1),
     )
 
 pub stops-are-crashes : {D : Type 0} (g : Ghosts D) → StopsAreCrashes g

@@ -28,7 +28,7 @@ use Rattle.books.specs.Ledgers.{with_counted}
 use Rattle.books.specs.Records.{RecordsState}
 use Rattle.states.specs.States.{Makes, Reads, Writes}
 use Rattle.states.proofs.LeavingLemmas.{leaves-on}
-use Rattle.books.specs.Tables.{account_opened, counters_set, posted_to, line_added, line_taken, lines_swapped, message_acked, message_put, with_accounts}
+use Rattle.books.specs.Tables.{account_opened, counters_set, posted_to, line_added, line_taken, lines_swapped, message_acked, message_added, with_accounts}
 use Rattle.books.proofs.PutLemmas.{changed-at, changed-if, changed-put, changed-twice, put-put, put-same, put-there}
 use Rattle.books.proofs.RecordsLemmas.{makes-on}
 
@@ -72,7 +72,7 @@ module _ (r : ℕ) (s : Stored) (a : Account) (is : get s.registry.accounts r �
   acked-by id [] q = none-given (with_acked id) (ap (λ (ns : List Message). let b : Account = record a { queue = ns } in b) (ap (queue.acked id) q ∙ sym q))
   acked-by id (m ∷ ms) q = ack-oldest id m ms (bytes_eq (message_id m) id) refl q
 
-  told-by : (n : Notification) → counters_set r (next_message (counters_of a)) (message_put r (numbered (next_message (counters_of a)).messages n) s) ≡ posted_to r (notified n) s
+  told-by : (n : Notification) → counters_set r (next_message (counters_of a)) (message_added r (numbered (next_message (counters_of a)).messages n) s) ≡ posted_to r (notified n) s
   told-by n =
       let put = with_queue (queue.put (numbered (next_message (counters_of a)).messages n)) in
       ap (λ (m : FinMap nat_cmp Account). with_accounts m s)
@@ -110,11 +110,11 @@ swaps-given r f swaps s there made =
     ∙ ap (λ (m : FinMap nat_cmp Account). with_accounts m s) (sym (changed-at r s.registry.accounts a is (with_lines (remade in_order f))))
 
 told : (r : ℕ) (n : Notification) (x : Counters) (m : Message) (s : Stored) → is_some (get s.registry.accounts r) ≡ true → x ≡ next_message (counters_of (account_of r s.registry)) → m ≡ numbered x.messages n
-    → counters_set r x (message_put r m s) ≡ posted_to r (notified n) s
+    → counters_set r x (message_added r m s) ≡ posted_to r (notified n) s
 told r n x m s there counted is =
     let found = some-there (get s.registry.accounts r) there in
     let own : x ≡ next_message (counters_of found.0) = counted ∙ ap (λ (o : Option Account). next_message (counters_of (unwrap_or o empty_account))) found.1 in
-    ap (λ (k : Message). counters_set r x (message_put r k s)) is ∙ ap (λ (y : Counters). counters_set r y (message_put r (numbered y.messages n) s)) own ∙ told-by r s found.0 found.1 n
+    ap (λ (k : Message). counters_set r x (message_added r k s)) is ∙ ap (λ (y : Counters). counters_set r y (message_added r (numbered y.messages n) s)) own ∙ told-by r s found.0 found.1 n
 
 acked : (r : ℕ) (id : List ℕ) (oldest : Option Message) (s : Stored) → is_some (get s.registry.accounts r) ≡ true → oldest ≡ slice_get (account_of r s.registry).queue 0 → message_acked r id oldest s ≡ posted_to r (with_acked id) s
 acked r id oldest s there is =
@@ -138,9 +138,9 @@ module _ {A : Type 0} (result : Result A BookFault) (r : ℕ) (s m t : RecordsSt
       (λ e. ap (message_acked r id oldest) (read.0.content e) ∙ acked r id oldest s.content (there (read.0.clean e)) (read.1 e)) made
 
   pub gives-message : (n : Notification) (x : Counters) (message : Message) (u : RecordsState) → Reads s m × (m.is_clean ≡ true → x ≡ next_message (counters_of (account_of r s.content.registry)))
-      → message ≡ numbered x.messages n → Writes (message_put r message m.content) m u → Makes result (counters_set r x u.content) u t → Makes result (posted_to r (notified n) s.content) s t
+      → message ≡ numbered x.messages n → Writes (message_added r message m.content) m u → Makes result (counters_set r x u.content) u t → Makes result (posted_to r (notified n) s.content) s t
   gives-message n x message u read is put made =
       makes-on result s u t (counters_set r x u.content) (posted_to r (notified n) s.content) (λ e. read.0.clean (put.clean e)) (λ e. put.before e ∙ read.0.before (put.clean e)) (λ was. put.answers (read.0.answers was)) (leaves-on s m u read.0.leaves put.leaves)
       (λ e.
-      ap (counters_set r x) (put.content e) ∙ ap (λ (y : Stored). counters_set r x (message_put r message y)) (read.0.content (put.clean e))
+      ap (counters_set r x) (put.content e) ∙ ap (λ (y : Stored). counters_set r x (message_added r message y)) (read.0.content (put.clean e))
       ∙ told r n x message s.content (there (read.0.clean (put.clean e))) (read.1 (put.clean e)) is) made

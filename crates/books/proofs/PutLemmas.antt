@@ -7,12 +7,12 @@ use Rattle.std.specs.FinMap.{FinMap, IsAntisymmetric, get, insert, get-insert, g
 use Rattle.std.specs.Ordering.{eq_by_cmp, nat_cmp}
 use Rattle.accounts.specs.declared.account.Account.{Account}
 use Rattle.accounts.specs.Account.{empty_account}
-use Rattle.books.specs.Ledgers.{changed_if_there, put, with_changed}
+use Rattle.books.specs.Ledgers.{changed_if_there, entry_set, with_changed}
 
 -- ---- maps
 
 module _ {K X : Type 0} (R : K → K → Ordering) (o : IsTotalOrder R) (apart : IsAntisymmetric R) where
-  get-put : (m : FinMap R X) (k : K) (value : Option X) (q : K) → get (put m k value) q ≡ cond (eq_by_cmp R q k) value (get m q)
+  get-put : (m : FinMap R X) (k : K) (value : Option X) (q : K) → get (entry_set m k value) q ≡ cond (eq_by_cmp R q k) value (get m q)
   get-put m k None q = get-remove o m k q
   get-put m k (Some x) q = get-insert o m k x q
 
@@ -25,13 +25,13 @@ module _ {K X : Type 0} (R : K → K → Ordering) (o : IsTotalOrder R) (apart :
   covered value other x false = refl
 
   -- what is put covers what was put before
-  pub put-put : (m : FinMap R X) (k : K) (other value : Option X) → put (put m k other) k value ≡ put m k value
+  pub put-put : (m : FinMap R X) (k : K) (other value : Option X) → entry_set (entry_set m k other) k value ≡ entry_set m k value
   put-put m k other value = same_map o apart _ _ (λ q.
-      get-put (put m k other) k value q ∙ ap (cond (eq_by_cmp R q k) value) (get-put m k other q) ∙ covered value other (get m q) (eq_by_cmp R q k) ∙ sym (get-put m k value q))
+      get-put (entry_set m k other) k value q ∙ ap (cond (eq_by_cmp R q k) value) (get-put m k other q) ∙ covered value other (get m q) (eq_by_cmp R q k) ∙ sym (get-put m k value q))
 
-  pub put-back : (m : FinMap R X) (k : K) (value : Option X) → put (put m k value) k (get m k) ≡ m
+  pub put-back : (m : FinMap R X) (k : K) (value : Option X) → entry_set (entry_set m k value) k (get m k) ≡ m
   put-back m k value = same_map o apart _ _ (λ q.
-      get-put (put m k value) k (get m k) q ∙ ap (cond (eq_by_cmp R q k) (get m k)) (get-put m k value q) ∙ as-before m k q value (eq_by_cmp R q k) refl)
+      get-put (entry_set m k value) k (get m k) q ∙ ap (cond (eq_by_cmp R q k) (get m k)) (get-put m k value q) ∙ as-before m k q value (eq_by_cmp R q k) refl)
 
 -- ---- an account that is there
 
@@ -46,14 +46,14 @@ changed-put r m a f =
 module _ (r : ℕ) (m : FinMap nat_cmp Account) (a : Account) (is : get m r ≡ Some a) where
   pub put-same : insert m r a ≡ m
   put-same =
-      sym (put-put nat_cmp nat_cmp_total nat_cmp-IsAntisymmetric m r (Some a) (Some a)) ∙ ap (put (insert m r a) r) (sym is)
+      sym (put-put nat_cmp nat_cmp_total nat_cmp-IsAntisymmetric m r (Some a) (Some a)) ∙ ap (entry_set (insert m r a) r) (sym is)
       ∙ put-back nat_cmp nat_cmp_total nat_cmp-IsAntisymmetric m r (Some a)
 
   pub changed-at : (f : Account → Account) → with_changed f m r ≡ insert m r (f a)
   changed-at f = ap (λ (o : Option Account). insert m r (f (unwrap_or o empty_account))) is
 
   pub changed-if : (f : Account → Account) → changed_if_there f m r ≡ insert m r (f a)
-  changed-if f = ap (λ (o : Option Account). put m r (option_map f o)) is
+  changed-if f = ap (λ (o : Option Account). entry_set m r (option_map f o)) is
 
   -- one change of it after another
   pub changed-twice : (f g : Account → Account) → with_changed f (changed_if_there g m r) r ≡ insert m r (f (g a))

@@ -188,8 +188,8 @@ abbrev pub with_terms : Terms → Stored → Stored
 with_terms terms s = record s { terms = Some terms }
 
 -- never opened
-abbrev pub nothing : Stored
-nothing = record { registry = blank; terms = None }
+abbrev pub never_opened : Stored
+never_opened = record { registry = blank; terms = None }
 
 abbrev pub unused : BookState
-unused = record { content = nothing; before = nothing; is_open = false; is_clean = true; is_honest = true; refused = 0; readiness = Empty; crash_leaves = [] }
+unused = record { content = never_opened; before = never_opened; is_open = false; is_clean = true; is_honest = true; refused = 0; readiness = Empty; crash_leaves = [] }

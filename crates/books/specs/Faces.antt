@@ -27,15 +27,15 @@ abbrev pub contact_face : Registry → List ℕ → Contact → ContactFace
 contact_face s name c = with_shown_link (is_linked_contact s name) (contact_face_of c)
 
 -- what there is at a host's name, given whether a domain names it
-abbrev pub host_known : Registry → Bool → List ℕ → HostFacts
-host_known s linked name = record { name = name; host = get s.hosts name; superordinate = superordinate_in s name; linked = linked }
+abbrev pub host_facts_given : Registry → Bool → List ℕ → HostFacts
+host_facts_given s linked name = record { name = name; host = get s.hosts name; superordinate = superordinate_in s name; linked = linked }
 
 abbrev pub sponsor_of_host : ZoneRules → Registry → List ℕ → Host → Option ℕ
-sponsor_of_host zone s name h = host_sponsor zone (host_known s false name) h
+sponsor_of_host zone s name h = host_sponsor zone (host_facts_given s false name) h
 
 -- a host, as its info shows it to everyone
 abbrev pub host_face_shown : PolicyRules → Registry → Bool → List ℕ → Host → HostFace
-host_face_shown p s linked name h = (host_info p (host_known s linked name) h).face
+host_face_shown p s linked name h = (host_info p (host_facts_given s linked name) h).face
 
 abbrev pub host_face : PolicyRules → Registry → List ℕ → Host → HostFace
 host_face p s name h = host_face_shown p s (is_linked_host s name) name h

@@ -16,9 +16,9 @@ use Rattle.basis.specs.Maps.{map_values}
 use Rattle.accounts.specs.declared.counters.Counters.{Counters}
 
 -- the key has this value, or none
-abbrev pub put : {K X : Type 0} {R : K → K → Ordering} → FinMap R X → K → Option X → FinMap R X
-put m k None = remove m k
-put m k (Some x) = insert m k x
+abbrev pub entry_set : {K X : Type 0} {R : K → K → Ordering} → FinMap R X → K → Option X → FinMap R X
+entry_set m k None = remove m k
+entry_set m k (Some x) = insert m k x
 
 -- an account, which may have other counters by now
 abbrev pub counted : Option Counters → Account → Account
@@ -26,14 +26,14 @@ counted None a = a
 counted (Some x) a = with_counters x a
 
 -- accounts, of which some have other counters
-abbrev pub accounts_of : FinMap nat_cmp Account → FinMap nat_cmp Counters → FinMap nat_cmp Account
-accounts_of accounts counters = map_values (λ r a. counted (get counters r) a) accounts
+abbrev pub accounts_with_counters : FinMap nat_cmp Account → FinMap nat_cmp Counters → FinMap nat_cmp Account
+accounts_with_counters accounts counters = map_values (λ r a. counted (get counters r) a) accounts
 
-abbrev pub lines_of : Option Account → List Line
-lines_of account = (unwrap_or account empty_account).lines
+abbrev pub lines_if_any : Option Account → List Line
+lines_if_any account = (unwrap_or account empty_account).lines
 
-abbrev pub queue_of : Option Account → List Message
-queue_of account = (unwrap_or account empty_account).queue
+abbrev pub queue_if_any : Option Account → List Message
+queue_if_any account = (unwrap_or account empty_account).queue
 
 -- the accounts, where a registrar's has these counters
 abbrev pub with_counted : FinMap nat_cmp Account → ℕ → Counters → FinMap nat_cmp Account
@@ -47,11 +47,11 @@ with_changed f accounts r = insert accounts r (f (unwrap_or (get accounts r) emp
 -- the accounts, where a registrar's is changed if it is there
 abbrev pub changed_if_there : (Account → Account) → FinMap nat_cmp Account → ℕ
     → FinMap nat_cmp Account
-changed_if_there f accounts r = put accounts r (option_map f (get accounts r))
+changed_if_there f accounts r = entry_set accounts r (option_map f (get accounts r))
 
 -- with a line more, and with that line taken back from an account that is there
-abbrev pub with_line : FinMap nat_cmp Account → ℕ → Line → FinMap nat_cmp Account
-with_line accounts r line = with_changed (with_lines (add in_order line)) accounts r
+abbrev pub with_line_added : FinMap nat_cmp Account → ℕ → Line → FinMap nat_cmp Account
+with_line_added accounts r line = with_changed (with_lines (add in_order line)) accounts r
 
 abbrev pub without_line : FinMap nat_cmp Account → ℕ → Line → FinMap nat_cmp Account
 without_line accounts r line = changed_if_there (with_lines (taken in_order line)) accounts r
@@ -64,6 +64,6 @@ abbrev pub without_notice : FinMap nat_cmp Account → ℕ → Message → FinMa
 without_notice accounts r m = changed_if_there (with_queue (queue.dropped m)) accounts r
 
 -- an account is there, and a message isn't in its queue
-abbrev pub lacks : Message → Option Account → Bool
-lacks m None = false
-lacks m (Some a) = not (queue.has m a.queue)
+abbrev pub lacks_message : Message → Option Account → Bool
+lacks_message m None = false
+lacks_message m (Some a) = not (queue.has m a.queue)

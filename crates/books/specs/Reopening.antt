@@ -4,7 +4,7 @@ use Rattle.policy.specs.declared.terms.Terms.{Terms}
 use Rattle.states.specs.declared.readiness.Ready.{Ready}
 use Rattle.states.specs.declared.readiness.Ready.TheVariants.{Empty, Used, Other}
 use Rattle.states.specs.States.{Has, Remains}
-use Rattle.books.specs.Book.{BookState, Stored, may_leave, nothing}
+use Rattle.books.specs.Book.{BookState, Stored, may_leave, never_opened}
 
 pub record IsFound (readiness : Ready) (left : Stored) (s : BookState) : Type 0 where
   pub ready : s.readiness ≡ readiness
@@ -25,7 +25,7 @@ IsReopened old new =
 
 -- nothing, or a registry that was opened
 abbrev pub IsBook : Ready → Stored → Type 0
-IsBook Empty held = held ≡ nothing
+IsBook Empty held = held ≡ never_opened
 IsBook Used held = (terms : Terms) × (held.terms ≡ Some terms)
 IsBook Other held = ⊥
 

@@ -15,7 +15,7 @@ use Rattle.objects.specs.declared.host.Host.{Host}
 use Rattle.decisions.specs.Changes.{host_renamed as registry_renamed, itself, may_rename, with_account}
 use Rattle.accounts.specs.declared.counters.Counters.{Counters}
 use Rattle.books.specs.Book.{Stored}
-use Rattle.books.specs.Ledgers.{put, with_counted, with_line, with_notice, without_line, without_notice}
+use Rattle.books.specs.Ledgers.{entry_set, with_counted, with_line_added, with_notice, without_line, without_notice}
 use Rattle.model.specs.Lapse.{put_or_drop}
 
 abbrev pub clock_set : ℕ → Stored → Stored
@@ -38,13 +38,13 @@ abbrev pub counters_set : ℕ → Counters → Stored → Stored
 counters_set r x s = with_accounts (with_counted s.registry.accounts r x) s
 
 abbrev pub line_added : ℕ → Line → Stored → Stored
-line_added r line s = with_accounts (with_line s.registry.accounts r line) s
+line_added r line s = with_accounts (with_line_added s.registry.accounts r line) s
 
 abbrev pub line_taken : ℕ → Line → Stored → Stored
 line_taken r line s = with_accounts (without_line s.registry.accounts r line) s
 
-abbrev pub message_put : ℕ → Message → Stored → Stored
-message_put r m s = with_accounts (with_notice s.registry.accounts r m) s
+abbrev pub message_added : ℕ → Message → Stored → Stored
+message_added r m s = with_accounts (with_notice s.registry.accounts r m) s
 
 abbrev pub message_taken : ℕ → Message → Stored → Stored
 message_taken r m s = with_accounts (without_notice s.registry.accounts r m) s
@@ -60,19 +60,19 @@ message_acked r id (Some oldest) s = if bytes_eq (message_id oldest) id then mes
 
 -- ---- objects: the name has this one, or none
 
-abbrev pub contact_put : List ℕ → Option Contact → Stored → Stored
-contact_put name value s =
-    record s { registry = record s.registry { contacts = put s.registry.contacts name value } }
+abbrev pub contact_set : List ℕ → Option Contact → Stored → Stored
+contact_set name value s =
+    record s { registry = record s.registry { contacts = entry_set s.registry.contacts name value } }
 
-abbrev pub host_put : List ℕ → Option Host → Stored → Stored
-host_put name value s =
-    record s { registry = record s.registry { hosts = put s.registry.hosts name value } }
+abbrev pub host_set : List ℕ → Option Host → Stored → Stored
+host_set name value s =
+    record s { registry = record s.registry { hosts = entry_set s.registry.hosts name value } }
 
 abbrev pub with_domains : FinMap (slice_cmp nat_cmp) Domain → Stored → Stored
 with_domains domains s = record s { registry = record s.registry { domains = domains } }
 
-abbrev pub domain_put : List ℕ → Option Domain → Stored → Stored
-domain_put name value s = with_domains (put s.registry.domains name value) s
+abbrev pub domain_set : List ℕ → Option Domain → Stored → Stored
+domain_set name value s = with_domains (entry_set s.registry.domains name value) s
 
 -- what time left under a name
 abbrev pub contact_left : List ℕ → Option Contact → Stored → Stored
@@ -86,6 +86,6 @@ abbrev pub host_moved : List ℕ → Host → Stored → Stored
 host_moved from host s = record s { registry = registry_renamed from host s.registry }
 
 -- the same where there is such a host, and no other has that name
-abbrev pub host_renamed : List ℕ → Host → Stored → Stored
-host_renamed from host s =
+abbrev pub host_renamed_if_there : List ℕ → Host → Stored → Stored
+host_renamed_if_there from host s =
     record s { registry = if may_rename s.registry.hosts from host.name then registry_renamed from host s.registry else s.registry }

@@ -2,7 +2,7 @@
 ghost use Rattle.std.specs.Prelude.{◌≡◌, ◌∷◌, [], true, max, Some};
 ghost use Rattle.books.specs.Book.{with_changes};
 ghost use Rattle.states.specs.States.{Makes};
-ghost use Rattle.books.specs.Tables.{clock_set, contact_left, contact_put, domain_left, domain_put};
+ghost use Rattle.books.specs.Tables.{clock_set, contact_left, contact_set, domain_left, domain_set};
 
 use crate::grouping::{first_account, moved_up};
 use crate::posting::post;
@@ -84,7 +84,7 @@ fn move_clock<R: Records>(records: &mut R, moment: Moment) -> Result<(), BookFau
 /// The contact is under its name.
 fn put_contact<R: Records>(records: &mut R, contact: Contact) -> Result<(), BookFault>
     requires { (R.kept records.old).is_open ≡ true }
-    ensures { Makes result (contact_put contact.name (Some contact) (R.kept records.old).content)
+    ensures { Makes result (contact_set contact.name (Some contact) (R.kept records.old).content)
         (R.kept records.old) (R.kept records.new) }
 {
     let name = contact.name.clone()?;
@@ -94,7 +94,7 @@ fn put_contact<R: Records>(records: &mut R, contact: Contact) -> Result<(), Book
 /// The domain is under its name.
 fn put_domain<R: Records>(records: &mut R, domain: Domain, policy: &Policy) -> Result<(), BookFault>
     requires { (R.kept records.old).is_open ≡ true }
-    ensures { Makes result (domain_put domain.name (Some domain) (R.kept records.old).content)
+    ensures { Makes result (domain_set domain.name (Some domain) (R.kept records.old).content)
         (R.kept records.old) (R.kept records.new) }
 {
     let name = domain.name.clone()?;

@@ -70,7 +70,7 @@ fn objects_for<R: Records>(
     policy: &Policy,
 ) -> Result<(Seq<ContactFacts>, Seq<DomainFacts>, Seq<HostFacts>), BookFault>
     ensures { Finds result
-        (lookups.objects_in (facts.facts policy.now caller command.now
+        (lookups.objects_known (facts.facts policy.now caller command.now
         (R.kept records.old).content.registry)) (R.kept records.old) (R.kept records.new) }
 {
     let hosts = hosts_for(records, command)?;

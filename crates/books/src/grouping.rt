@@ -34,14 +34,14 @@ pub(crate) fn moved_up(
 
 /// Whether a change is of this account, or of none.
 fn is_in(change: &Change, account: &Option<RegistrarNo>) -> bool
-    ensures { result ≡ spec.is_in account.now change.now }
+    ensures { result ≡ spec.is_of_account account.now change.now }
 {
     account_in(change) == *account
 }
 
 /// The account that a change is of.
 fn account_in(change: &Change) -> Option<RegistrarNo>
-    ensures { result ≡ spec.account_in change.now }
+    ensures { result ≡ spec.account_of_change change.now }
 {
     match change {
         Change::OpenAccount(registrar) | Change::Post(registrar, _) => Some(*registrar),

@@ -216,7 +216,7 @@ pub trait Records {
     /// Puts a message into a registrar's queue. What was never opened is opened.
     fn put_message(&mut self, registrar: RegistrarNo, message: Message) -> Result<(), BookFault>
         requires { (kept self.old).is_open ≡ true }
-        ensures { MakesOf result (tables.message_put registrar message)
+        ensures { MakesOf result (tables.message_added registrar message)
             (kept self.old) (kept self.new) };
 
     /// Takes a message out of a registrar's queue, if it is there.
@@ -228,39 +228,39 @@ pub trait Records {
     /// The contact is under this name.
     fn put_contact(&mut self, name: Text, contact: Contact) -> Result<(), BookFault>
         requires { (kept self.old).is_open ≡ true }
-        ensures { MakesOf result (tables.contact_put name (Some contact))
+        ensures { MakesOf result (tables.contact_set name (Some contact))
             (kept self.old) (kept self.new) };
 
     fn drop_contact(&mut self, name: Text) -> Result<(), BookFault>
         requires { (kept self.old).is_open ≡ true }
-        ensures { MakesOf result (tables.contact_put name None) (kept self.old) (kept self.new) };
+        ensures { MakesOf result (tables.contact_set name None) (kept self.old) (kept self.new) };
 
     /// The domain is under this name.
     fn put_domain(&mut self, name: Text, domain: Domain, policy: &Policy) -> Result<(), BookFault>
         requires { (kept self.old).is_open ≡ true }
-        ensures { MakesOf result (tables.domain_put name (Some domain))
+        ensures { MakesOf result (tables.domain_set name (Some domain))
             (kept self.old) (kept self.new) };
 
     /// No domain is under this name.
     fn drop_domain(&mut self, name: Text, policy: &Policy) -> Result<(), BookFault>
         requires { (kept self.old).is_open ≡ true }
-        ensures { MakesOf result (tables.domain_put name None) (kept self.old) (kept self.new) };
+        ensures { MakesOf result (tables.domain_set name None) (kept self.old) (kept self.new) };
 
     /// The host is under its name.
     fn put_host(&mut self, host: Host) -> Result<(), BookFault>
         requires { (kept self.old).is_open ≡ true }
-        ensures { MakesOf result (tables.host_put host.name (Some host))
+        ensures { MakesOf result (tables.host_set host.name (Some host))
             (kept self.old) (kept self.new) };
 
     fn drop_host(&mut self, name: Text) -> Result<(), BookFault>
         requires { (kept self.old).is_open ≡ true }
-        ensures { MakesOf result (tables.host_put name None) (kept self.old) (kept self.new) };
+        ensures { MakesOf result (tables.host_set name None) (kept self.old) (kept self.new) };
 
     /// A host goes from one name to that of its own, and each domain that named it names it by that. Where there is
     /// no host of the one name, or one of the other, nothing is changed.
     fn rename_host(&mut self, from: Text, host: Host, policy: &Policy) -> Result<(), BookFault>
         requires { (kept self.old).is_open ≡ true }
-        ensures { MakesOf result (tables.host_renamed from host) (kept self.old) (kept self.new) };
+        ensures { MakesOf result (tables.host_renamed_if_there from host) (kept self.old) (kept self.new) };
 
     // ---- transactions
 

@@ -19,12 +19,12 @@ abbrev pub hosts_in : Asks → List (List ℕ)
 hosts_in a = ((a.hosts ++ listed a.new_host) ++ a.adds.hosts) ++ a.removes.hosts
 
 -- the superordinate domains of hosts (RFC 5732, 1)
-abbrev pub above : List (List ℕ) → List (List ℕ)
-above hosts = filter_map last_two_of hosts
+abbrev pub superordinates : List (List ℕ) → List (List ℕ)
+superordinates hosts = filter_map last_two_of hosts
 
 -- what it asks for, and the superordinate domains of its hosts
 abbrev pub named_in : Asks → Names
-named_in a = record { contacts = contacts_in a; domains = a.domains ++ above (hosts_in a); hosts = hosts_in a }
+named_in a = record { contacts = contacts_in a; domains = a.domains ++ superordinates (hosts_in a); hosts = hosts_in a }
 
 abbrev pub no_names : Names
 no_names = record { contacts = []; domains = []; hosts = [] }
@@ -37,4 +37,4 @@ named_by c = asked no_names (λ q. named_in (asks_of q)) c
 abbrev pub named_of : ObjectKind → List ℕ → Names
 named_of kinds.Contact name = record { contacts = name ∷ []; domains = []; hosts = [] }
 named_of kinds.Domain name = record { contacts = []; domains = name ∷ []; hosts = [] }
-named_of kinds.Host name = record { contacts = []; domains = above (name ∷ []); hosts = name ∷ [] }
+named_of kinds.Host name = record { contacts = []; domains = superordinates (name ∷ []); hosts = name ∷ [] }

@@ -99,7 +99,7 @@ fn hosts_in(alloc: Global, request: &Request) -> Result<Seq<Text>, AllocError>
 
 /// Those that it acts on, and those above these hosts.
 fn domains_in(alloc: Global, request: &Request, hosts: &[Text]) -> Result<Seq<Text>, AllocError>
-    ensures { IfOk result (λ names. names ≡ (asks_of request.now).domains ++ spec.above hosts.now) }
+    ensures { IfOk result (λ names. names ≡ (asks_of request.now).domains ++ spec.superordinates hosts.now) }
 {
     let names = with_given(Seq::new(alloc), request.domains())?;
     with_above(alloc, names, hosts)
@@ -107,13 +107,13 @@ fn domains_in(alloc: Global, request: &Request, hosts: &[Text]) -> Result<Seq<Te
 
 /// The superordinate domains of hosts.
 fn above(alloc: Global, hosts: &[Text]) -> Result<Seq<Text>, AllocError>
-    ensures { IfOk result (λ names. names ≡ spec.above hosts.now) }
+    ensures { IfOk result (λ names. names ≡ spec.superordinates hosts.now) }
 {
     with_above(alloc, Seq::new(alloc), hosts)
 }
 
 fn with_above(alloc: Global, names: Seq<Text>, hosts: &[Text]) -> Result<Seq<Text>, AllocError>
-    ensures { IfOk result (λ all. all ≡ names ++ spec.above hosts.now) }
+    ensures { IfOk result (λ all. all ≡ names ++ spec.superordinates hosts.now) }
 {
     let mut names = names;
     for host in hosts {

@@ -16,15 +16,15 @@ use Rattle.decisions.specs.declared.change.Change.TheVariants.{LapseContact, Lap
 abbrev pub posting_change : Posting → Change
 posting_change x = Post x.registrar (Lapse x.what)
 
-abbrev pub contact_changes : List ℕ → Lapsed Contact → List Change
-contact_changes name l = LapseContact name l.object ∷ map posting_change l.postings
+abbrev pub contact_lapse_changes : List ℕ → Lapsed Contact → List Change
+contact_lapse_changes name l = LapseContact name l.object ∷ map posting_change l.postings
 
-abbrev pub domain_changes : List ℕ → Lapsed Domain → List Change
-domain_changes name l = LapseDomain name l.object ∷ map posting_change l.postings
+abbrev pub domain_lapse_changes : List ℕ → Lapsed Domain → List Change
+domain_lapse_changes name l = LapseDomain name l.object ∷ map posting_change l.postings
 
 -- what is under a name lapses up to a moment; a host doesn't
 abbrev pub lapse_changes : PolicyRules → ℕ → List ℕ → Option Object → List Change
 lapse_changes p t name None = []
-lapse_changes p t name (Some (objects.Contact c)) = contact_changes name (lapse_contact t c)
-lapse_changes p t name (Some (objects.Domain d)) = domain_changes name (lapse p t d)
+lapse_changes p t name (Some (objects.Contact c)) = contact_lapse_changes name (lapse_contact t c)
+lapse_changes p t name (Some (objects.Domain d)) = domain_lapse_changes name (lapse p t d)
 lapse_changes p t name (Some (objects.Host h)) = []

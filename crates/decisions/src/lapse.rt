@@ -39,7 +39,7 @@ fn contact_changes(
     moment: Moment,
 ) -> Result<Seq<Change>, AllocError>
     ensures { IfOk result (λ changes. changes
-        ≡ spec.contact_changes name.now (lapse_contact moment contact.now)) }
+        ≡ spec.contact_lapse_changes name.now (lapse_contact moment contact.now)) }
 {
     let name = name.clone()?;
     let lapsed = lapse_contact(alloc, contact, moment)?;
@@ -55,7 +55,7 @@ fn domain_changes(
     policy: &Policy,
 ) -> Result<Seq<Change>, AllocError>
     ensures { IfOk result (λ changes. changes
-        ≡ spec.domain_changes name.now (lapse policy.now moment domain.now)) }
+        ≡ spec.domain_lapse_changes name.now (lapse policy.now moment domain.now)) }
 {
     let name = name.clone()?;
     let lapsed = lapse(alloc, domain, moment, policy)?;

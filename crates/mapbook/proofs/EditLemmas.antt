@@ -24,7 +24,7 @@ use Rattle.accounts.specs.declared.message.Message.{Message}
 use Rattle.accounts.proofs.LineLaws.{lines_in_order}
 use Rattle.accounts.proofs.QueueLaws.{dropped-put}
 use Rattle.accounts.specs.declared.counters.Counters.{Counters}
-use Rattle.books.specs.Ledgers.{changed_if_there, put, with_changed, with_counted, with_line, with_notice}
+use Rattle.books.specs.Ledgers.{changed_if_there, entry_set, with_changed, with_counted, with_line_added, with_notice}
 use Rattle.accounts.specs.Counters.{counters_of, with_counters}
 use Rattle.mapbook.specs.inner.Edits.{counters_back, inverse, line_back, notice_back}
 use Rattle.mapbook.specs.Edits.{edited, undone_all}
@@ -46,11 +46,11 @@ module _ (r : ℕ) (x : Counters) (m : FinMap nat_cmp Account) where
 
   counters-back : (s : Stored) (o : Option Account) → get m r ≡ o → edited (counters_back r (option_map counters_of o)) (with_accounts s (with_counted m r x)) ≡ with_accounts s m
   unfolding with_accounts
-  counters-back s None e = ap (with_accounts s) (ap (put (with_counted m r x) r) (sym e) ∙ put-back nat_cmp nat_cmp_total nat_cmp-IsAntisymmetric m r (Some (with_counters x (unwrap_or (get m r) empty_account))))
+  counters-back s None e = ap (with_accounts s) (ap (entry_set (with_counted m r x) r) (sym e) ∙ put-back nat_cmp nat_cmp_total nat_cmp-IsAntisymmetric m r (Some (with_counters x (unwrap_or (get m r) empty_account))))
   counters-back s (Some a) e =
       ap (with_accounts s)
       (ap (λ (b : Account). insert (with_counted m r x) r (with_counters (counters_of a) b)) (counted-there a e)
-      ∙ ap (put (with_counted m r x) r) (sym e)
+      ∙ ap (entry_set (with_counted m r x) r) (sym e)
       ∙ put-back nat_cmp nat_cmp_total nat_cmp-IsAntisymmetric m r (Some (with_counters x (unwrap_or (get m r) empty_account))))
 
 -- ---- a change of an account, taken back
@@ -67,19 +67,19 @@ module _ (f : Account → Account) (r : ℕ) (m : FinMap nat_cmp Account) where
       ∙ ap (λ (b : Bool). cond b (Some (f (unwrap_or (get m r) empty_account))) (get m r)) ((eq_by_cmp_equiv nat_cmp_total).refl r)
 
   -- by what stood there
-  as-it-was : (o : Option Account) → get m r ≡ o → put (with_changed f m r) r o ≡ m
+  as-it-was : (o : Option Account) → get m r ≡ o → entry_set (with_changed f m r) r o ≡ m
   unfolding changed
-  as-it-was o e = ap (put (with_changed f m r) r) (sym e) ∙ put-back nat_cmp nat_cmp_total nat_cmp-IsAntisymmetric m r (changed (get m r))
+  as-it-was o e = ap (entry_set (with_changed f m r) r) (sym e) ∙ put-back nat_cmp nat_cmp_total nat_cmp-IsAntisymmetric m r (changed (get m r))
 
   -- by the change's inverse
   changed-back : (g : Account → Account) (a : Account) → get m r ≡ Some a → g (f a) ≡ a → changed_if_there g (with_changed f m r) r ≡ m
   unfolding changed
   changed-back g a e is =
-      ap (λ (o : Option Account). put (with_changed f m r) r (option_map g o)) (changed-there ∙ ap changed e)
-      ∙ ap (λ (b : Account). put (with_changed f m r) r (Some b)) is
+      ap (λ (o : Option Account). entry_set (with_changed f m r) r (option_map g o)) (changed-there ∙ ap changed e)
+      ∙ ap (λ (b : Account). entry_set (with_changed f m r) r (Some b)) is
       ∙ as-it-was (Some a) e
 
-line-back : (r : ℕ) (line : Line) (m : FinMap nat_cmp Account) (s : Stored) (o : Option Account) → get m r ≡ o → edited (line_back r line o) (with_accounts s (with_line m r line)) ≡ with_accounts s m
+line-back : (r : ℕ) (line : Line) (m : FinMap nat_cmp Account) (s : Stored) (o : Option Account) → get m r ≡ o → edited (line_back r line o) (with_accounts s (with_line_added m r line)) ≡ with_accounts s m
 unfolding with_accounts
 line-back r line m s None e = ap (with_accounts s) (as-it-was (with_lines (add in_order line)) r m None e)
 line-back r line m s (Some a) e =

@@ -16,14 +16,14 @@ use Rattle.basis.specs.Bag.{add, taken}
 use Rattle.accounts.specs.Account.{empty_account}
 use Rattle.basis.proofs.MapLemmas.{get-map_values}
 use Rattle.accounts.specs.declared.counters.Counters.{Counters}
-use Rattle.books.specs.Ledgers.{accounts_of, changed_if_there, counted, lacks, lines_of, put, queue_of, with_changed, with_counted, with_line, with_notice, without_line, without_notice}
+use Rattle.books.specs.Ledgers.{accounts_with_counters, changed_if_there, counted, entry_set, lacks_message, lines_if_any, queue_if_any, with_changed, with_counted, with_line_added, with_notice, without_line, without_notice}
 use Rattle.accounts.specs.Counters.{counters_of, with_counters}
 use Rattle.books.proofs.PutLemmas.{put-again}
 
 abbrev Accounts : Type 0
 Accounts = FinMap nat_cmp Account
 
-pub get-accounts : (m : Accounts) (x : FinMap nat_cmp Counters) (q : ℕ) → get (accounts_of m x) q ≡ option_map (counted (get x q)) (get m q)
+pub get-accounts : (m : Accounts) (x : FinMap nat_cmp Counters) (q : ℕ) → get (accounts_with_counters m x) q ≡ option_map (counted (get x q)) (get m q)
 get-accounts m x q = get-map_values nat_cmp nat_cmp_total nat_cmp-IsAntisymmetric (λ r a. counted (get x r) a) m q
 
 same-accounts : (a b : Accounts) → ((q : ℕ) → get a q ≡ get b q) → a ≡ b
@@ -33,18 +33,18 @@ uncounted : (v : Option Account) → option_map (counted None) v ≡ v
 uncounted None = refl
 uncounted (Some a) = refl
 
-get-put : (m : Accounts) (r : ℕ) (v : Option Account) (q : ℕ) → get (put m r v) q ≡ cond (eq_by_cmp nat_cmp q r) v (get m q)
+get-put : (m : Accounts) (r : ℕ) (v : Option Account) (q : ℕ) → get (entry_set m r v) q ≡ cond (eq_by_cmp nat_cmp q r) v (get m q)
 get-put m r None q = get-remove nat_cmp_total m r q
 get-put m r (Some a) q = get-insert nat_cmp_total m r a q
 
 -- what is put has its own counters
-pub accounts-put : (m : Accounts) (x : FinMap nat_cmp Counters) (r : ℕ) (v : Option Account) → accounts_of (put m r v) (remove x r) ≡ put (accounts_of m x) r v
+pub accounts-put : (m : Accounts) (x : FinMap nat_cmp Counters) (r : ℕ) (v : Option Account) → accounts_with_counters (entry_set m r v) (remove x r) ≡ entry_set (accounts_with_counters m x) r v
 accounts-put m x r v = same-accounts _ _ (λ q.
-    get-accounts (put m r v) (remove x r) q
+    get-accounts (entry_set m r v) (remove x r) q
     ∙ (λ i. option_map (counted (get-remove nat_cmp_total x r q i)) (get-put m r v q i))
     ∙ by q (eq_by_cmp nat_cmp q r)
     ∙ ap (λ (o : Option Account). cond (eq_by_cmp nat_cmp q r) v o) (sym (get-accounts m x q))
-    ∙ sym (get-put (accounts_of m x) r v q))
+    ∙ sym (get-put (accounts_with_counters m x) r v q))
   where
     by : (q : ℕ) (b : Bool) → option_map (counted (cond b None (get x q))) (cond b v (get m q)) ≡ cond b v (option_map (counted (get x q)) (get m q))
     by q true = uncounted v
@@ -56,19 +56,19 @@ recounted c (Some x) a = refl
 
 -- an account gets other counters
 pub accounts-counted : (m : Accounts) (x : FinMap nat_cmp Counters) (r : ℕ) (c : Counters) (a : Account) → get m r ≡ Some a
-    → accounts_of m (insert x r c) ≡ with_counted (accounts_of m x) r c
+    → accounts_with_counters m (insert x r c) ≡ with_counted (accounts_with_counters m x) r c
 accounts-counted m x r c a found = same-accounts _ _ (λ q.
     get-accounts m (insert x r c) q
     ∙ ap (λ (o : Option Counters). option_map (counted o) (get m q)) (get-insert nat_cmp_total x r c q)
     ∙ by q (eq_by_cmp nat_cmp q r) refl
-    ∙ ap (λ (o : Option Account). cond (eq_by_cmp nat_cmp q r) (Some (with_counters c (unwrap_or (get (accounts_of m x) r) empty_account))) o) (sym (get-accounts m x q))
-    ∙ sym (get-insert nat_cmp_total (accounts_of m x) r (with_counters c (unwrap_or (get (accounts_of m x) r) empty_account)) q))
+    ∙ ap (λ (o : Option Account). cond (eq_by_cmp nat_cmp q r) (Some (with_counters c (unwrap_or (get (accounts_with_counters m x) r) empty_account))) o) (sym (get-accounts m x q))
+    ∙ sym (get-insert nat_cmp_total (accounts_with_counters m x) r (with_counters c (unwrap_or (get (accounts_with_counters m x) r) empty_account)) q))
   where
-    at : with_counters c (unwrap_or (get (accounts_of m x) r) empty_account) ≡ with_counters c a
+    at : with_counters c (unwrap_or (get (accounts_with_counters m x) r) empty_account) ≡ with_counters c a
     at = ap (λ (o : Option Account). with_counters c (unwrap_or o empty_account)) (get-accounts m x r ∙ ap (option_map (counted (get x r))) found) ∙ recounted c (get x r) a
 
     by : (q : ℕ) (b : Bool) → eq_by_cmp nat_cmp q r ≡ b
-        → option_map (counted (cond b (Some c) (get x q))) (get m q) ≡ cond b (Some (with_counters c (unwrap_or (get (accounts_of m x) r) empty_account))) (option_map (counted (get x q)) (get m q))
+        → option_map (counted (cond b (Some c) (get x q))) (get m q) ≡ cond b (Some (with_counters c (unwrap_or (get (accounts_with_counters m x) r) empty_account))) (option_map (counted (get x q)) (get m q))
     by q true e =
         ap (λ (o : Option Account). option_map (with_counters c) o) (ap (get m) (nat_cmp-IsAntisymmetric q r ((Equal-is (nat_cmp q r)).0 e)) ∙ found)
         ∙ ap (λ (b : Account). Some b) (sym at)
@@ -88,26 +88,26 @@ requeued f (Some x) a = refl
 
 -- an account is changed in all but its counters
 pub accounts-changed : (f : Account → Account) → LeavesCounters f → (m : Accounts) (x : FinMap nat_cmp Counters) (r : ℕ) (a : Account) → get m r ≡ Some a
-    → accounts_of (insert m r (f a)) x ≡ with_changed f (accounts_of m x) r
+    → accounts_with_counters (insert m r (f a)) x ≡ with_changed f (accounts_with_counters m x) r
 accounts-changed f leaves m x r a found = same-accounts _ _ (λ q.
     get-accounts (insert m r (f a)) x q
     ∙ ap (λ (o : Option Account). option_map (counted (get x q)) o) (get-insert nat_cmp_total m r (f a) q)
     ∙ by q (eq_by_cmp nat_cmp q r) refl
-    ∙ ap (λ (o : Option Account). cond (eq_by_cmp nat_cmp q r) (Some (f (unwrap_or (get (accounts_of m x) r) empty_account))) o) (sym (get-accounts m x q))
-    ∙ sym (get-insert nat_cmp_total (accounts_of m x) r (f (unwrap_or (get (accounts_of m x) r) empty_account)) q))
+    ∙ ap (λ (o : Option Account). cond (eq_by_cmp nat_cmp q r) (Some (f (unwrap_or (get (accounts_with_counters m x) r) empty_account))) o) (sym (get-accounts m x q))
+    ∙ sym (get-insert nat_cmp_total (accounts_with_counters m x) r (f (unwrap_or (get (accounts_with_counters m x) r) empty_account)) q))
   where
-    at : f (unwrap_or (get (accounts_of m x) r) empty_account) ≡ f (counted (get x r) a)
+    at : f (unwrap_or (get (accounts_with_counters m x) r) empty_account) ≡ f (counted (get x r) a)
     at = ap (λ (o : Option Account). f (unwrap_or o empty_account)) (get-accounts m x r ∙ ap (option_map (counted (get x r))) found)
 
     by : (q : ℕ) (b : Bool) → eq_by_cmp nat_cmp q r ≡ b
-        → option_map (counted (get x q)) (cond b (Some (f a)) (get m q)) ≡ cond b (Some (f (unwrap_or (get (accounts_of m x) r) empty_account))) (option_map (counted (get x q)) (get m q))
+        → option_map (counted (get x q)) (cond b (Some (f a)) (get m q)) ≡ cond b (Some (f (unwrap_or (get (accounts_with_counters m x) r) empty_account))) (option_map (counted (get x q)) (get m q))
     by q true e =
         ap (λ (b : Account). Some b)
         (leaves (get x q) a ∙ ap (λ (k : ℕ). f (counted (get x k) a)) (nat_cmp-IsAntisymmetric q r ((Equal-is (nat_cmp q r)).0 e)) ∙ sym at)
     by q false e = refl
 
 -- no account, no counters
-pub accounts-none : accounts_of empty empty ≡ empty
+pub accounts-none : accounts_with_counters empty empty ≡ empty
 accounts-none = same-accounts _ _ (λ q. get-accounts empty empty q ∙ ap (option_map (counted (get empty q))) (get-empty nat_cmp q) ∙ sym (get-empty nat_cmp q))
 
 -- what holds where a value was found
@@ -150,18 +150,18 @@ if-ok (Err g) f p = tt
 
 -- ---- by the fields of the accounts
 
-module _ (m : Accounts) (x : FinMap nat_cmp Counters) (now : Accounts) (view : accounts_of m x ≡ now) (r : ℕ) where
+module _ (m : Accounts) (x : FinMap nat_cmp Counters) (now : Accounts) (view : accounts_with_counters m x ≡ now) (r : ℕ) where
   pub found : (o : Option Account) → o ≡ get m r → option_map (counted (get x r)) o ≡ get now r
   found o e = ap (option_map (counted (get x r))) e ∙ sym (get-accounts m x r) ∙ ap (λ (a : Accounts). get a r) view
 
-  pub lines-found : (o : Option Account) → o ≡ get m r → lines_of o ≡ lines_of (get now r)
-  lines-found o e = sym (as-read (λ (a : Account). a.lines) lines-kept (get x r) o) ∙ ap (λ (p : Option Account). lines_of p) (found o e)
+  pub lines-found : (o : Option Account) → o ≡ get m r → lines_if_any o ≡ lines_if_any (get now r)
+  lines-found o e = sym (as-read (λ (a : Account). a.lines) lines-kept (get x r) o) ∙ ap (λ (p : Option Account). lines_if_any p) (found o e)
 
-  pub queue-found : (o : Option Account) → o ≡ get m r → queue_of o ≡ queue_of (get now r)
-  queue-found o e = sym (as-read (λ (a : Account). a.queue) queue-kept (get x r) o) ∙ ap (λ (p : Option Account). queue_of p) (found o e)
+  pub queue-found : (o : Option Account) → o ≡ get m r → queue_if_any o ≡ queue_if_any (get now r)
+  queue-found o e = sym (as-read (λ (a : Account). a.queue) queue-kept (get x r) o) ∙ ap (λ (p : Option Account). queue_if_any p) (found o e)
 
   -- a line or a message of an account that is there can be taken out and put back
-  pub line-again : (line : Line) (a : Account) → Some a ≡ get m r → add in_order line (taken in_order line a.lines) ≡ a.lines → with_line (without_line now r line) r line ≡ now
+  pub line-again : (line : Line) (a : Account) → Some a ≡ get m r → add in_order line (taken in_order line a.lines) ≡ a.lines → with_line_added (without_line now r line) r line ≡ now
   line-again line a e is =
       let b = counted (get x r) a in
       let kept : b.lines ≡ a.lines = lines-kept (get x r) a in
@@ -182,16 +182,16 @@ module _ (m : Accounts) (x : FinMap nat_cmp Counters) (now : Accounts) (view : a
   pub has-found : (o : Option (Bor Account)) → option_copied o ≡ get m r → is_some o ≡ is_some (get now r)
   has-found o e = some-copied (counted (get x r)) o ∙ ap (λ (p : Option Account). is_some p) (found (option_copied o) e)
 
-  pub put-found : (v : Option Account) (m' : Accounts) (x' : FinMap nat_cmp Counters) → m' ≡ put m r v → x' ≡ remove x r → accounts_of m' x' ≡ put now r v
-  put-found v m' x' e f = (λ i. accounts_of (e i) (f i)) ∙ accounts-put m x r v ∙ ap (λ (a : Accounts). put a r v) view
+  pub put-found : (v : Option Account) (m' : Accounts) (x' : FinMap nat_cmp Counters) → m' ≡ entry_set m r v → x' ≡ remove x r → accounts_with_counters m' x' ≡ entry_set now r v
+  put-found v m' x' e f = (λ i. accounts_with_counters (e i) (f i)) ∙ accounts-put m x r v ∙ ap (λ (a : Accounts). entry_set a r v) view
 
   there : (o : Option Account) → get m r ≡ o → is_some (get now r) ≡ true → (a : Account) × (get m r ≡ Some a)
   there None e h = absurd (let never : true ≡ false = sym h ∙ ap (λ (p : Option Account). is_some p) (sym (found None (sym e))) in cc)
   there (Some a) e h = (a, e)
 
   pub counted-found : {E : Type 0} (result : Result (Unit {0}) E) (c : Counters) (x' : FinMap nat_cmp Counters) → is_some (get now r) ≡ true → OnOk result (x' ≡ insert x r c)
-      → OnOk result (accounts_of m x' ≡ with_counted now r c)
-  counted-found (Ok u) c x' h e = ap (λ (y : FinMap nat_cmp Counters). accounts_of m y) e ∙ accounts-counted m x r c (there (get m r) refl h).0 (there (get m r) refl h).1 ∙ ap (λ (a : Accounts). with_counted a r c) view
+      → OnOk result (accounts_with_counters m x' ≡ with_counted now r c)
+  counted-found (Ok u) c x' h e = ap (λ (y : FinMap nat_cmp Counters). accounts_with_counters m y) e ∙ accounts-counted m x r c (there (get m r) refl h).0 (there (get m r) refl h).1 ∙ ap (λ (a : Accounts). with_counted a r c) view
   counted-found (Err f) c x' h e = tt
 
   pub has-not-found : get m r ≡ None → is_some (get now r) ≡ false
@@ -205,27 +205,27 @@ module _ (m : Accounts) (x : FinMap nat_cmp Counters) (now : Accounts) (view : a
       by q false t = refl
 
   -- an account that is there stays as it is, where there is no memory for a change
-  pub changed-kept : {E : Type 0} (result : Result (Unit {0}) E) (a b : Account) (m' : Accounts) → get m r ≡ Some a → OnErr result (b ≡ a) → m' ≡ insert m r b → OnErr result (accounts_of m' x ≡ now)
+  pub changed-kept : {E : Type 0} (result : Result (Unit {0}) E) (a b : Account) (m' : Accounts) → get m r ≡ Some a → OnErr result (b ≡ a) → m' ≡ insert m r b → OnErr result (accounts_with_counters m' x ≡ now)
   changed-kept (Ok u) a b m' e err n = tt
-  changed-kept (Err g) a b m' e err n = ap (λ (n : Accounts). accounts_of n x) (n ∙ ap (insert m r) err ∙ again a e) ∙ view
+  changed-kept (Err g) a b m' e err n = ap (λ (n : Accounts). accounts_with_counters n x) (n ∙ ap (insert m r) err ∙ again a e) ∙ view
 
   module _ (f : Account → Account) (leaves : LeavesCounters f) where
     pub changed-found : {E : Type 0} (result : Result (Unit {0}) E) (a b : Account) (m' : Accounts) → get m r ≡ Some a → OnOk result (b ≡ f a) → m' ≡ insert m r b
-        → OnOk result (accounts_of m' x ≡ with_changed f now r)
+        → OnOk result (accounts_with_counters m' x ≡ with_changed f now r)
     changed-found (Ok u) a b m' e ok n =
-        ap (λ (n : Accounts). accounts_of n x) (n ∙ ap (insert m r) ok) ∙ accounts-changed f leaves m x r a e ∙ ap (λ (o : Accounts). with_changed f o r) view
+        ap (λ (n : Accounts). accounts_with_counters n x) (n ∙ ap (insert m r) ok) ∙ accounts-changed f leaves m x r a e ∙ ap (λ (o : Accounts). with_changed f o r) view
     changed-found (Err g) a b m' e ok n = tt
 
-    pub changed-there : (a b : Account) (m' : Accounts) → get m r ≡ Some a → b ≡ f a → m' ≡ insert m r b → accounts_of m' x ≡ changed_if_there f now r
+    pub changed-there : (a b : Account) (m' : Accounts) → get m r ≡ Some a → b ≡ f a → m' ≡ insert m r b → accounts_with_counters m' x ≡ changed_if_there f now r
     changed-there a b m' e is n =
-        ap (λ (n : Accounts). accounts_of n x) (n ∙ ap (insert m r) is) ∙ accounts-changed f leaves m x r a e ∙ ap (λ (o : Accounts). with_changed f o r) view
+        ap (λ (n : Accounts). accounts_with_counters n x) (n ∙ ap (insert m r) is) ∙ accounts-changed f leaves m x r a e ∙ ap (λ (o : Accounts). with_changed f o r) view
         ∙ by (get now r) (found (Some a) (sym e))
       where
-        by : (o : Option Account) → Some (counted (get x r) a) ≡ o → insert now r (f (unwrap_or o empty_account)) ≡ put now r (option_map f o)
+        by : (o : Option Account) → Some (counted (get x r) a) ≡ o → insert now r (f (unwrap_or o empty_account)) ≡ entry_set now r (option_map f o)
         by None t = cc
         by (Some c) t = refl
 
-    pub changed-none : get m r ≡ None → accounts_of m x ≡ changed_if_there f now r
+    pub changed-none : get m r ≡ None → accounts_with_counters m x ≡ changed_if_there f now r
     changed-none e = view ∙ by (get now r) (found None (sym e))
       where
         gone : remove now r ≡ now
@@ -235,15 +235,15 @@ module _ (m : Accounts) (x : FinMap nat_cmp Counters) (now : Accounts) (view : a
             at q true t = found None (sym e) ∙ ap (get now) (sym (nat_cmp-IsAntisymmetric q r ((Equal-is (nat_cmp q r)).0 t)))
             at q false t = refl
 
-        by : (o : Option Account) → None ≡ o → now ≡ put now r (option_map f o)
+        by : (o : Option Account) → None ≡ o → now ≡ entry_set now r (option_map f o)
         by None t = sym gone
         by (Some c) t = cc
 
   -- a message is looked for in the queue, whatever the counters are
-  pub lacks-found : (message : Message) (o : Option Account) → o ≡ get m r → lacks message o ≡ lacks message (get now r)
-  lacks-found message o e = sym (by (get x r) o) ∙ ap (λ (p : Option Account). lacks message p) (found o e)
+  pub lacks-found : (message : Message) (o : Option Account) → o ≡ get m r → lacks_message message o ≡ lacks_message message (get now r)
+  lacks-found message o e = sym (by (get x r) o) ∙ ap (λ (p : Option Account). lacks_message message p) (found o e)
     where
-      by : (c : Option Counters) (o : Option Account) → lacks message (option_map (counted c) o) ≡ lacks message o
+      by : (c : Option Counters) (o : Option Account) → lacks_message message (option_map (counted c) o) ≡ lacks_message message o
       by c None = refl
       by c (Some a) = ap (λ (ms : List Message). not (queue.has message ms)) (queue-kept c a)
 

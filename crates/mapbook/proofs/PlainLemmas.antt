@@ -3,7 +3,7 @@ use Rattle.std.proofs.Common.{◌≡◌, ℕ, [], Bool, true, refl, sym, ap, ◌
 use Rattle.std.specs.Prelude.{is_some}
 use Rattle.std.specs.FinMap.{get}
 use Rattle.books.specs.Book.{Stored}
-use Rattle.mapbook.specs.Plain.{readiness_of}
+use Rattle.mapbook.specs.Plain.{readiness_if_used}
 use Rattle.books.specs.Records.{RecordsState}
 use Rattle.states.specs.States.{Writes}
 use Rattle.states.proofs.LeavingLemmas.{leaves-refl}
@@ -18,7 +18,7 @@ in_memory h f b u = record {
   is_open = b;
   is_clean = true;
   is_honest = true;
-  readiness = readiness_of u;
+  readiness = readiness_if_used u;
   crash_leaves = [];
 }
 

@@ -27,7 +27,7 @@ use Rattle.books.specs.Book.{Stored}
 use Rattle.mapbook.specs.Edits.{edited}
 use Rattle.mapbook.specs.Quiet.{HasDaysOf, IsQuiet, NoneBefore}
 use Rattle.mapbook.specs.inner.Quiet.{quiet_after, sooner, sooner_with, until_contacts, until_domains}
-use Rattle.books.specs.Tables.{domain_put}
+use Rattle.books.specs.Tables.{domain_set}
 
 -- ---- under any policy with the same lengths
 
@@ -129,10 +129,10 @@ quiet-edited known (edit.Terms value) s is = nothing-known (edited (edit.Terms v
 
 -- what is known once a domain is put
 pub quiet-put : (r : PolicyRules) (known : Option ℕ) (until : ℕ) (s : Stored) (d : Domain) → IsQuiet known s → known ≡ Some until → HasDaysOf s.terms r
-    → (result : ℕ) → result ≡ sooner until (passed until (due_at r d)) → (k : List ℕ) → IsQuiet (Some result) (domain_put k (Some d) s)
+    → (result : ℕ) → result ≡ sooner until (passed until (due_at r d)) → (k : List ℕ) → IsQuiet (Some result) (domain_set k (Some d) s)
 quiet-put r known until s d is e own result made k =
-    subst (λ m. IsQuiet (Some m) (domain_put k (Some d) s)) (sym made)
-    (known-from (sooner until (passed until (due_at r d))) (domain_put k (Some d) s)
+    subst (λ m. IsQuiet (Some m) (domain_set k (Some d) s)) (sym made)
+    (known-from (sooner until (passed until (due_at r d))) (domain_set k (Some d) s)
     (λ p days. domain-put until s.registry p (is until e p days) r (same-ends s.terms p r days own) k d))
 
 -- ---- nothing is due before

@@ -20,10 +20,10 @@ use Rattle.mapbook.specs.declared.plain.Plain.{Plain}
 use Rattle.mapbook.specs.Plain.{at_begin, content_of, plain_records, registry_in}
 use Rattle.books.specs.Book.{Stored}
 use Rattle.objects.specs.declared.host.Host.{Host}
-use Rattle.books.specs.Tables.{host_moved, host_put, with_domains}
+use Rattle.books.specs.Tables.{host_moved, host_set, with_domains}
 use Rattle.mapbook.specs.declared.edit.Edit.TheVariants as edit
 use Rattle.mapbook.specs.Edits.{edited}
-use Rattle.mapbook.specs.Renaming.{amended, domains_naming, host_renamed_at, host_renamed_in}
+use Rattle.mapbook.specs.Renaming.{amended_entry, domains_naming, host_renamed_at, host_renamed_in}
 
 -- ---- entries in order
 
@@ -95,7 +95,7 @@ not-linked old new d e = ap (λ (b : Bool). record d { links = record d.links { 
 -- domains amended by name, one after another
 amended_all : (Domain → Domain) → FinMap (slice_cmp nat_cmp) Domain → List (List ℕ) → FinMap (slice_cmp nat_cmp) Domain
 amended_all f m [] = m
-amended_all f m (name ∷ names) = amended_all f (amended f m name (get m name)) names
+amended_all f m (name ∷ names) = amended_all f (amended_entry f m name (get m name)) names
 
 -- where each stands as it is listed
 named-after : (test : Domain → Bool) (f : Domain → Domain) (es : List (List ℕ × Domain)) → T (is_sorted (slice_cmp nat_cmp) es) → (n : FinMap (slice_cmp nat_cmp) Domain)
@@ -122,7 +122,7 @@ named-after test f (e ∷ es) h n at = by (test e.1) refl (named-after test f es
     by : (b : Bool) → test e.1 ≡ b
         → ((n : FinMap (slice_cmp nat_cmp) Domain) → ((q : List ℕ) (d : Domain) → find (slice_cmp nat_cmp) q es ≡ Some d → get n q ≡ Some d) → amended_all f n (map (λ (e : List ℕ × Domain). e.0) (filter (λ (e : List ℕ × Domain). test e.1) es)) ≡ domains_after test f es n)
         → amended_all f n (map (λ (e : List ℕ × Domain). e.0) (filter (λ (e : List ℕ × Domain). test e.1) (e ∷ es))) ≡ domains_after test f (e ∷ es) n
-    by true t more = rw t (ap (λ (o : Option Domain). amended_all f (amended f n e.0 o) (map (λ (e : List ℕ × Domain). e.0) (filter (λ (e : List ℕ × Domain). test e.1) es))) here
+    by true t more = rw t (ap (λ (o : Option Domain). amended_all f (amended_entry f n e.0 o) (map (λ (e : List ℕ × Domain). e.0) (filter (λ (e : List ℕ × Domain). test e.1) es))) here
         ∙ more (insert n e.0 (f e.1)) (λ q d found. put q d found (eq_by_cmp (slice_cmp nat_cmp) q e.0) refl))
     by false t more = rw t (more n (λ q d found. kept q d found (eq_by_cmp (slice_cmp nat_cmp) q e.0) refl))
 
@@ -141,10 +141,10 @@ all-renamed old new s =
 
 -- then it is taken from under the one name and put under the other
 pub moved : (from : List ℕ) (names : List (List ℕ)) (h : Host) (s : Stored) → names ≡ domains_naming from s.registry
-    → host_put h.name (Some h) (edited (edit.Host from None) (host_renamed_in from h.name names s)) ≡ host_moved from h s
+    → host_set h.name (Some h) (edited (edit.Host from None) (host_renamed_in from h.name names s)) ≡ host_moved from h s
 moved from names h s named =
-    (λ i. host_put h.name (Some h) (edited (edit.Host from None) (host_renamed_in from h.name (named i) s)))
-    ∙ ap (λ (x : Stored). host_put h.name (Some h) (edited (edit.Host from None) x)) (all-renamed from h.name s)
+    (λ i. host_set h.name (Some h) (edited (edit.Host from None) (host_renamed_in from h.name (named i) s)))
+    ∙ ap (λ (x : Stored). host_set h.name (Some h) (edited (edit.Host from None) x)) (all-renamed from h.name s)
 
 -- ---- while a transaction is open
 

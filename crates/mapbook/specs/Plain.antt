@@ -16,8 +16,8 @@ abbrev pub at_begin : Plain → Stored
 at_begin b = undone_all b.undo (content_of b.content)
 
 -- there is a book in ordered maps once a transaction was kept
-abbrev pub readiness_of : Bool → Ready
-readiness_of used = if used then Used else Empty
+abbrev pub readiness_if_used : Bool → Ready
+readiness_if_used used = if used then Used else Empty
 
 abbrev pub held_by : Plain → Stored
 held_by b = if b.is_open then content_of b.content else at_begin b
@@ -30,7 +30,7 @@ plain_records b = record {
   is_open = b.is_open;
   is_clean = true;
   is_honest = true;
-  readiness = readiness_of b.is_used;
+  readiness = readiness_if_used b.is_used;
   crash_leaves = [];
 }
 

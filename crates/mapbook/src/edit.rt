@@ -1,7 +1,7 @@
 //! Values at keys.
 ghost use Rattle.std.specs.Prelude.{◌≡◌, IfOk, OnErr, OnOk};
 ghost use Rattle.std.specs.Option.{option_copied};
-ghost use Rattle.books.specs.Ledgers.{put};
+ghost use Rattle.books.specs.Ledgers.{entry_set};
 ghost use Rattle.mapbook.specs.declared.edit.Edit.TheVariants as edits;
 
 use accounts::{
@@ -115,7 +115,7 @@ pub(crate) fn put_named<V: Drop>(
     name: Text,
     value: Option<V>,
 ) -> Result<(), AllocError>
-    ensures ok { OnOk result (map.new ≡ put map.old name value) }
+    ensures ok { OnOk result (map.new ≡ entry_set map.old name value) }
     ensures err { OnErr result (map.new ≡ map.old) }
 {
     match value {

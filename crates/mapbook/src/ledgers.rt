@@ -10,7 +10,7 @@ ghost use Rattle.accounts.specs.Lines as lines;
 ghost use Rattle.accounts.specs.Lines.{in_order, swapped_all};
 ghost use Rattle.basis.specs.Bag.{bag_of, remade};
 ghost use Rattle.books.specs.Ledgers as spec;
-ghost use Rattle.books.specs.Ledgers.{put};
+ghost use Rattle.books.specs.Ledgers.{entry_set};
 
 use crate::edit::{account_clone, copy_message};
 use accounts::{Account, Counters, Line, LineChange, LineSwap, Lines, Message, Queue};
@@ -36,13 +36,13 @@ impl Model for Ledgers {
     ghost use Rattle.std.specs.FinMap as map;
     ghost use Rattle.std.specs.Coded.{coded_ℕ};
     ghost use Rattle.accounts.specs.contracts.account.Account as account;
-    ghost use Rattle.books.specs.Ledgers.{accounts_of};
+    ghost use Rattle.books.specs.Ledgers.{accounts_with_counters};
 
     ghost coded = { map.code coded_ℕ account.the_row.coded };
 
     ghost Value = { FinMap nat_cmp Account };
 
-    ghost view = { λ l. accounts_of l.accounts l.counters };
+    ghost view = { λ l. accounts_with_counters l.accounts l.counters };
 }
 
 impl Ledgers {
@@ -57,15 +57,15 @@ impl Ledgers {
 
     /// A registrar's account, for its lines and messages: its counters may be old.
     pub fn ledger(&self, registrar: RegistrarNo) -> Option<&Account>
-        ensures { spec.lines_of (option_copied result)
-            ≡ spec.lines_of (map.get self.now registrar) }
+        ensures { spec.lines_if_any (option_copied result)
+            ≡ spec.lines_if_any (map.get self.now registrar) }
     {
         self.accounts.get(registrar)
     }
 
     /// The messages that wait for a registrar, if it has an account.
     pub fn queue(&self, registrar: RegistrarNo) -> Option<&Queue>
-        ensures { unwrap_or (option_copied result) [] ≡ spec.queue_of (map.get self.now registrar) }
+        ensures { unwrap_or (option_copied result) [] ≡ spec.queue_if_any (map.get self.now registrar) }
     {
         match self.accounts.get(registrar) {
             None => None,
@@ -76,7 +76,7 @@ impl Ledgers {
     /// What a registrar's account has, in whole cents.
     #[tactic(auto, unfolding(accounts::specs::Lines::balance))]
     pub fn balance(&self, registrar: RegistrarNo) -> i128
-        ensures { result ≡ lines.balance (spec.lines_of (map.get self.now registrar)) }
+        ensures { result ≡ lines.balance (spec.lines_if_any (map.get self.now registrar)) }
     {
         match self.ledger(registrar) {
             None => 0,
@@ -86,7 +86,7 @@ impl Ledgers {
 
     /// A registrar's lines.
     pub fn lines(&self, alloc: Global, registrar: RegistrarNo) -> Result<Lines, AllocError>
-        ensures { IfOk result (λ lines. lines ≡ spec.lines_of (map.get self.now registrar)) }
+        ensures { IfOk result (λ lines. lines ≡ spec.lines_if_any (map.get self.now registrar)) }
     {
         match self.ledger(registrar) {
             None => Ok(Lines::new(alloc)),
@@ -102,7 +102,7 @@ impl Ledgers {
         roid: &Roid,
     ) -> Result<Lines, AllocError>
         ensures { IfOk result (λ on. on
-            ≡ filter (lines.is_on roid.now) (spec.lines_of (map.get self.now registrar))) }
+            ≡ filter (lines.is_on roid.now) (spec.lines_if_any (map.get self.now registrar))) }
     {
         match self.ledger(registrar) {
             None => Ok(Lines::new(alloc)),
@@ -113,7 +113,7 @@ impl Ledgers {
     /// The message that has waited longest for a registrar.
     pub fn oldest(&self, registrar: RegistrarNo) -> Result<Option<Message>, AllocError>
         ensures { IfOk result (λ oldest. oldest
-            ≡ slice_get (spec.queue_of (map.get self.now registrar)) 0) }
+            ≡ slice_get (spec.queue_if_any (map.get self.now registrar)) 0) }
     {
         match self.queue(registrar) {
             None => Ok(None),
@@ -123,7 +123,7 @@ impl Ledgers {
 
     /// How many messages wait for a registrar.
     pub fn waiting(&self, registrar: RegistrarNo) -> u64
-        ensures { result ≡ length (spec.queue_of (map.get self.now registrar)) }
+        ensures { result ≡ length (spec.queue_if_any (map.get self.now registrar)) }
     {
         match self.queue(registrar) {
             None => 0,
@@ -139,8 +139,8 @@ impl Ledgers {
         change: &C,
     ) -> Result<Vec<LineSwap>, AllocError>
         ensures { IfOk result (λ swaps. swapped_all swaps.items
-            (spec.lines_of (map.get self.now registrar)) ≡ remade in_order (C.changed change.now)
-            (spec.lines_of (map.get self.now registrar))) }
+            (spec.lines_if_any (map.get self.now registrar)) ≡ remade in_order (C.changed change.now)
+            (spec.lines_if_any (map.get self.now registrar))) }
     {
         match self.accounts.get(registrar) {
             None => Ok(Vec::new(alloc)),
@@ -151,7 +151,7 @@ impl Ledgers {
     /// Whether a registrar has a line, so that it can be taken out and put back.
     pub fn has_line(&self, registrar: RegistrarNo, line: &Line) -> bool
         ensures { result ≡ true
-            → spec.with_line (spec.without_line self.now registrar line.now) registrar line.now
+            → spec.with_line_added (spec.without_line self.now registrar line.now) registrar line.now
             ≡ self.now }
     {
         match self.accounts.get(registrar) {
@@ -235,7 +235,7 @@ impl Ledgers {
 
     /// Puts a registrar's account, or takes it away.
     pub fn put(&mut self, registrar: RegistrarNo, value: Option<Account>) -> Result<(), AllocError>
-        ensures ok { OnOk result (self.new ≡ put self.old registrar value) }
+        ensures ok { OnOk result (self.new ≡ entry_set self.old registrar value) }
         ensures err { OnErr result (self.new ≡ self.old) }
     {
         match value {
@@ -254,7 +254,7 @@ impl Ledgers {
         registrar: RegistrarNo,
         line: Line,
     ) -> Result<(), AllocError>
-        ensures ok { OnOk result (self.new ≡ spec.with_line self.old registrar line) }
+        ensures ok { OnOk result (self.new ≡ spec.with_line_added self.old registrar line) }
         ensures err { OnErr result (self.new ≡ self.old) }
     {
         if let Some(account) = self.accounts.get_mut(registrar) {
@@ -305,7 +305,7 @@ impl Ledgers {
 
     /// Whether a registrar has an account, and this message isn't in its queue.
     pub fn lacks(&self, registrar: RegistrarNo, message: &Message) -> bool
-        ensures { result ≡ spec.lacks message.now (map.get self.now registrar) }
+        ensures { result ≡ spec.lacks_message message.now (map.get self.now registrar) }
     {
         match self.accounts.get(registrar) {
             None => false,

@@ -21,7 +21,7 @@ use std::alloc::Global;
 
 /// Records in ordered maps are a book's once a transaction was kept.
 fn readiness_of(is_used: bool) -> Ready
-    ensures { result ≡ spec.readiness_of is_used }
+    ensures { result ≡ spec.readiness_if_used is_used }
 {
     if is_used { Ready::Used } else { Ready::Empty }
 }

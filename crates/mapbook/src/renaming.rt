@@ -2,7 +2,7 @@
 ghost use Rattle.std.specs.Prelude.{◌≡◌, true, Some};
 ghost use Rattle.mapbook.specs.Plain.{plain_records};
 ghost use Rattle.mapbook.specs.Renaming as spec;
-ghost use Rattle.books.specs.Tables.{host_moved, host_put, host_renamed};
+ghost use Rattle.books.specs.Tables.{host_moved, host_renamed_if_there, host_set};
 ghost use Rattle.states.specs.States.{Makes};
 
 use crate::edit::Edit;
@@ -22,7 +22,7 @@ impl Plain {
         policy: &Policy,
     ) -> Result<(), BookFault>
         requires { self.old.is_open ≡ true }
-        ensures { Makes result (host_renamed from host (plain_records self.old).content)
+        ensures { Makes result (host_renamed_if_there from host (plain_records self.old).content)
             (plain_records self.old) (plain_records self.new) }
     {
         if !self.content.may_rename(&from, &host.name) {
@@ -46,7 +46,7 @@ impl Plain {
     /// A host is under its name.
     pub(crate) fn put_named(&mut self, host: Host) -> Result<(), BookFault>
         requires { self.old.is_open ≡ true }
-        ensures { Makes result (host_put host.name (Some host) (plain_records self.old).content)
+        ensures { Makes result (host_set host.name (Some host) (plain_records self.old).content)
             (plain_records self.old) (plain_records self.new) }
     {
         let name = host.name.clone()?;

@@ -8,7 +8,7 @@ ghost use Rattle.mapbook.specs.Plain.{IsSettled, LatestUndoes, content_of, at_be
 ghost use Rattle.mapbook.specs.Quiet.{IsQuiet};
 ghost use Rattle.states.specs.States.{Makes, Stays};
 ghost use Rattle.books.specs.Records.{FindsIn};
-ghost use Rattle.books.specs.Tables.{domain_put};
+ghost use Rattle.books.specs.Tables.{domain_set};
 
 use crate::content::Content;
 use crate::edit::Edit;
@@ -178,7 +178,7 @@ impl Plain {
         policy: &Policy,
     ) -> Result<(), BookFault>
         requires { self.old.is_open ≡ true }
-        ensures { Makes result (domain_put name (Some domain) (plain_records self.old).content)
+        ensures { Makes result (domain_set name (Some domain) (plain_records self.old).content)
             (plain_records self.old) (plain_records self.new) }
     {
         let quiet = self.quiet_put(&domain, policy);
@@ -188,7 +188,7 @@ impl Plain {
     /// Until when nothing is due once a domain is put, where that is known.
     fn quiet_put(&self, domain: &Domain, policy: &Policy) -> Option<Moment>
         ensures { (name : List ℕ)
-            → IsQuiet result (domain_put name (Some domain.now) (content_of self.now.content)) }
+            → IsQuiet result (domain_set name (Some domain.now) (content_of self.now.content)) }
     {
         let until = self.quiet?;
         if !has_days_of(&self.content.terms, policy) {

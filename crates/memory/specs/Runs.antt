@@ -9,11 +9,11 @@ use Rattle.registry.specs.Opening.{opened}
 use Rattle.script.specs.declared.exit.Exit.{Exit}
 use Rattle.script.specs.declared.exit.Exit.TheVariants as exits
 use Rattle.script.specs.Runs.{EndsRun}
-use Rattle.books.specs.Book.{nothing}
+use Rattle.books.specs.Book.{never_opened}
 
 -- a registry that was never used, opened under a policy
 abbrev pub start : PolicyRules → Registry
-start p = (opened p nothing).registry
+start p = (opened p never_opened).registry
 
 -- how a run under a policy ends; a book in memory that can't be opened ends it with nothing printed
 abbrev pub EndsUnder : PolicyRules → List ℕ → Option (List ℕ) → Option (List ℕ) → Exit → Type 0

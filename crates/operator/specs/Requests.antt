@@ -19,14 +19,14 @@ use Rattle.operator.specs.declared.token.TokenFault.TheVariants.{Short, Byte, Me
 -- ---- fields, as names and values
 
 -- names are compared without regard to case (RFC 9110, 5.1)
-abbrev pub is_named : List ℕ → List ℕ × List ℕ → Bool
-is_named name f = bytes_eq (map to_ascii_lowercase f.0) (map to_ascii_lowercase name)
+abbrev pub is_field_named : List ℕ → List ℕ × List ℕ → Bool
+is_field_named name f = bytes_eq (map to_ascii_lowercase f.0) (map to_ascii_lowercase name)
 
 -- the value of the only field of a name
 abbrev pub only_value : List ℕ → List (List ℕ × List ℕ) → Option (List ℕ)
 only_value name [] = None
 only_value name (f ∷ fields) =
-    if is_named name f then (if list_any (is_named name) fields then None else Some f.1) else only_value name fields
+    if is_field_named name f then (if list_any (is_field_named name) fields then None else Some f.1) else only_value name fields
 
 -- ---- the token
 

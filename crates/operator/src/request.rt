@@ -218,7 +218,7 @@ fn only_value<'b>(bytes: &'b [u8], fields: &[HeaderSpan], name: &[u8]) -> Option
 /// Whether there is a field of a name.
 fn has_named(bytes: &[u8], fields: &[HeaderSpan], name: &[u8]) -> bool
     requires { All (IsHeaderWithin (length bytes.now)) fields.now }
-    ensures { result ≡ list_any (spec.is_named name.now) (map (header_bytes bytes.now) fields.now) }
+    ensures { result ≡ list_any (spec.is_field_named name.now) (map (header_bytes bytes.now) fields.now) }
 {
     match fields.split_first() {
         Some((first, others)) => is_named(bytes, first, name) || has_named(bytes, others, name),
@@ -228,7 +228,7 @@ fn has_named(bytes: &[u8], fields: &[HeaderSpan], name: &[u8]) -> bool
 
 fn is_named(bytes: &[u8], field: &HeaderSpan, name: &[u8]) -> bool
     requires { IsHeaderWithin (length bytes.now) field.now }
-    ensures { result ≡ spec.is_named name.now (header_bytes bytes.now field.now) }
+    ensures { result ≡ spec.is_field_named name.now (header_bytes bytes.now field.now) }
 {
     field.name.of(bytes).eq_ignore_ascii_case(name)
 }

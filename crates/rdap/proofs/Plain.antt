@@ -16,7 +16,7 @@ use Rattle.objects.specs.Graces.{states_of}
 use Rattle.policy.specs.Rules.{PolicyRules, id_at}
 use Rattle.rdap.specs.declared.domain.Role.{Role}
 use Rattle.rdap.specs.declared.domain.Role.TheVariants.{Registrar}
-use Rattle.rdap.specs.Bodies.{address_members, addresses_value, members_of_entity, entity_object, event_if_dated, events_value, nameserver_members, nameserver_value, of_version_4, of_version_6, shown, some_texts, contact_entity, contact_names, members_of_domain, domain_object, entities, members_of_host, host_object, registrar_entity, role_members, role_text, role_value, roles_of}
+use Rattle.rdap.specs.Bodies.{address_members, addresses_value, members_of_entity, entity_object, event_if_dated, events_value, nameserver_members, nameserver_value, of_version_4, of_version_6, text_if_valid, some_texts, contact_entity, contact_names, members_of_domain, domain_object, entities, members_of_host, host_object, registrar_entity, role_members, role_text, role_value, roles_of}
 use Rattle.rdap.specs.StatusWords.{status_words}
 
 or_first : (a b : Bool) → (a || b) ≡ false → a ≡ false
@@ -50,7 +50,7 @@ events_plain created expires updated transferred =
     let three = append_plain (first ++ second) third two (dated_plain (codes "last changed") updated) in
     append_plain ((first ++ second) ++ third) (event_if_dated (codes "transfer") transferred) three (dated_plain (codes "transfer") transferred)
 
-pub shown_plain : (read : Result (List ℕ) NameFault) → IfSome (shown read) IsPlain
+pub shown_plain : (read : Result (List ℕ) NameFault) → IfSome (text_if_valid read) IsPlain
 shown_plain (Ok text) = refl
 shown_plain (Err fault) = tt
 

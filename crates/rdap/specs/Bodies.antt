@@ -54,12 +54,12 @@ events_value created expires updated transferred =
 
 -- ---- names in Unicode (RFC 9083, 3)
 
-abbrev pub shown : Result (List ℕ) NameFault → Option Data
-shown (Ok text) = Some (string text)
-shown (Err fault) = None
+abbrev pub text_if_valid : Result (List ℕ) NameFault → Option Data
+text_if_valid (Ok text) = Some (string text)
+text_if_valid (Err fault) = None
 
 abbrev pub unicode_value : List ℕ → Option Data
-unicode_value name = shown (or_syntax (unicode_of name))
+unicode_value name = text_if_valid (or_syntax (unicode_of name))
 
 -- ---- nameservers (RFC 9083, 5.2), by their names
 

@@ -58,15 +58,15 @@ abbrev pub nameserver_at : Option (List ℕ) → Request → Request
 nameserver_at None other = other
 nameserver_at (Some name) other = Nameserver name
 
-abbrev pub domain_at : Option (List ℕ) → Request → Request
-domain_at None other = other
-domain_at (Some name) other = Domain name
+abbrev pub domain_or : Option (List ℕ) → Request → Request
+domain_or None other = other
+domain_or (Some name) other = Domain name
 
 -- the paths that there are
 abbrev pub request_at : List ℕ → Request
 request_at path =
     if bytes_eq path (codes "/help") then Help
-    else domain_at (name_below (codes "/domain/") path)
+    else domain_or (name_below (codes "/domain/") path)
     (nameserver_at (name_below (codes "/nameserver/") path)
     (entity_at (name_below (codes "/entity/") path)))
 

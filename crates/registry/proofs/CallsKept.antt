@@ -16,7 +16,7 @@ use Rattle.registry.specs.declared.fault.Fault.TheVariants as faults
 use Rattle.registry.specs.Calls.{CallKeeps, StepKeeps}
 use Rattle.registry.specs.Crashes.{GivesUpTo, Makes}
 use Rattle.registry.specs.Faults.{of_book}
-use Rattle.registry.specs.inner.Steps.{Keeps}
+use Rattle.registry.specs.inner.Steps.{KeepsStep}
 use Rattle.registry.specs.Money.{CallKeepsMoney}
 use Rattle.registry.specs.WellFormed.{CallKeepsWellFormed, KeepsWellFormed, StaysWellFormed}
 use Rattle.decisions.specs.Askable.{CanBeAsked}
@@ -110,7 +110,7 @@ begun old mid counted stays = record { clean = stays.clean; counted = omega (ari
 
 -- a transaction was begun, and a step was taken in it and kept
 pub step_kept : {A : Type 0} (p : PolicyRules) (step : Registry → Registry → A → Type 0) (it : A)
-    (old mid new : BookState) → BookStarts old mid × BookStays old mid → Keeps (Ok it) step mid new
+    (old mid new : BookState) → BookStarts old mid × BookStays old mid → KeepsStep (Ok it) step mid new
     → StepKeeps p (Makes step) (Ok it) p old new
 step_kept p step it old mid new begins keeps = record {
   policy = refl;
@@ -123,7 +123,7 @@ step_kept p step it old mid new begins keeps = record {
 -- or it went back
 pub step_went_back : {A : Type 0} (p : PolicyRules) (step : Registry → Registry → A → Type 0)
     (fault : BookFault) (old mid new : BookState)
-    → BookStarts old mid × BookStays old mid → Keeps {A = A} (Err fault) step mid new
+    → BookStarts old mid × BookStays old mid → KeepsStep {A = A} (Err fault) step mid new
     → StepKeeps {A = A} p (Makes step) (Err (of_book fault)) p old new
 step_went_back p step fault old mid new begins keeps =
     let follows : Follows old mid = begun old mid begins.0.counted begins.1 in

@@ -6,7 +6,7 @@ use Rattle.model.specs.WellFormed.{HasNumbersLeft, IsRegistry}
 use Rattle.policy.specs.Rules.{PolicyRules}
 use Rattle.policy.specs.Terms.{terms_of}
 use Rattle.isolation.specs.Runs.{Question, command, date, inspection, look_up, order}
-use Rattle.books.specs.Book.{BookState, Stored, nothing}
+use Rattle.books.specs.Book.{BookState, Stored, never_opened}
 
 -- A registrar's call on a well formed registry leaves one, where its numbers are far from the greatest.
 abbrev pub StaysWellFormed : PolicyRules → ℕ → Registry → Registry → Type 0
@@ -21,7 +21,7 @@ KeepsWellFormed p before after = IsRegistry p (now p before) → IsRegistry p (n
 -- was opened
 abbrev pub HoldsRegistry : Stored → Type 0
 HoldsRegistry held =
-    (held ≡ nothing)
+    (held ≡ never_opened)
     ⊎ ((q : PolicyRules) × (held.terms ≡ Some (terms_of q)) × IsRegistry q (now q held.registry))
 
 -- such a book, once it is opened under a policy, holds a well formed registry of that policy

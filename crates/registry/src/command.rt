@@ -2,7 +2,7 @@
 ghost use Rattle.std.specs.Prelude.{◌≡◌, true, IfOk};
 ghost use Rattle.accounts.specs.Account.{saturating_next};
 ghost use Rattle.registry.specs.Execution.{IsPrepared, IsStep};
-ghost use Rattle.registry.specs.inner.Steps.{FindsSome, IsMade, Works};
+ghost use Rattle.registry.specs.inner.Steps.{BookFindsSome, IsMade, Works};
 ghost use Rattle.decisions.specs.Steps.{reply_of};
 ghost use Rattle.facts.specs.Facts.{facts};
 ghost use Rattle.rules.specs.ResponseData.{id_of};
@@ -66,7 +66,7 @@ fn prepare<B: Book>(
     policy: &Policy,
 ) -> Result<Prepared, BookFault>
     requires { (B.state book.old).is_open ≡ true }
-    ensures { FindsSome result (IsPrepared policy.now caller command.now now (facts policy.now
+    ensures { BookFindsSome result (IsPrepared policy.now caller command.now now (facts policy.now
         caller command.now (B.state book.old).content.registry)) (B.state book.old)
         (B.state book.new) }
 {

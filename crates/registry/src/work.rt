@@ -1,6 +1,6 @@
 //! What calls of a registry do in a transaction, and the one step that keeps it.
 ghost use Rattle.std.specs.Prelude.{◌≡◌, true};
-ghost use Rattle.registry.specs.inner.Steps.{Keeps};
+ghost use Rattle.registry.specs.inner.Steps.{KeepsStep};
 
 use books::{Book, BookFault};
 use policy::Policy;
@@ -39,7 +39,7 @@ pub(crate) fn keep<B: Book, W: Work>(
     policy: &Policy,
 ) -> Result<W::Answer, BookFault>
     requires { (B.state book.old).is_open ≡ true }
-    ensures { Keeps result (W.step work.now policy.now) (B.state book.old) (B.state book.new) }
+    ensures { KeepsStep result (W.step work.now policy.now) (B.state book.old) (B.state book.new) }
 {
     let answer = work.work(book, alloc, policy)?;
     match book.commit() {

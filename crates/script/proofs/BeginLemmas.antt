@@ -13,7 +13,7 @@ use Rattle.policy.specs.Rules.{PolicyRules}
 use Rattle.script.specs.declared.exit.Exit.{Exit}
 use Rattle.script.specs.declared.exit.Exit.TheVariants as exits
 use Rattle.script.specs.Exits.{exit_of}
-use Rattle.script.specs.Runs.{Answers, BeginsBehind, Begins, EndsIn, Prints, Writes, lines_of, printed}
+use Rattle.script.specs.Runs.{Answers, BeginsBehind, BeginsReplies, EndsIn, Prints, Writes, lines_of, printed}
 use Rattle.script.specs.inner.Runs.{AppendsFront, BeginsLine, BreaksAt, EndsBehind}
 use Rattle.streams.specs.Moves.{AppendsLess}
 use Rattle.script.proofs.RunLemmas.{ArePrinted, Prints-told, Reads, next_lines, under}
@@ -143,7 +143,7 @@ fault_by exit kind is = subst IsFault (sym is) (fault_of_kind kind)
 
 -- ---- a run that a fault ends before its first line
 
-nothing_begun : (p : PolicyRules) (before : Registry) (input : List ℕ) → Begins p before before input []
+nothing_begun : (p : PolicyRules) (before : Registry) (input : List ℕ) → BeginsReplies p before before input []
 nothing_begun p before input = record { lines = []; others = lines_of input; split = refl; replies = []; prints = (refl, refl); rest = []; text = refl }
 
 pub never_begun : (A : Type 0) (exit : Exit) (p : PolicyRules) (before : Registry) (a old : Option (List ℕ)) → IsFault exit → IfSome a (λ input. A → EndsIn p before before input old old exit)
@@ -166,7 +166,7 @@ pub Ends-between : (A : Type 0) (exit : Exit) (p : PolicyRules) (lines : List (L
 Ends-between A exit p lines before after a b old new pending is r is_printed = under A a _ (λ given. faults_end exit p before after a old pending new is (begun_between p lines before after a b old new pending r (is_printed given)))
 
 -- what was printed in a run, however it ended
-pub begun_by : (exit : Exit) (p : PolicyRules) (before after : Registry) (input : List ℕ) (a new : Option (List ℕ)) → EndsBehind p before after input a [] new exit → Writes a new (Begins p before after input)
+pub begun_by : (exit : Exit) (p : PolicyRules) (before after : Registry) (input : List ℕ) (a new : Option (List ℕ)) → EndsBehind p before after input a [] new exit → Writes a new (BeginsReplies p before after input)
 begun_by exits.Done p before after input a new (written, wrote, ends) = (
   written,
   known_pending a new [] written wrote,
@@ -182,7 +182,7 @@ begun_by exits.Memory p before after input a new begun = begun
 begun_by _ p before after input a new ends = absurd ends
 
 -- of that all is written
-all_out : (p : PolicyRules) (before after : Registry) (input : List ℕ) (a b c d : Option (List ℕ)) (pending : List ℕ) → Writes a (append_known b pending) (Begins p before after input) → Appends b c pending → Keeps c d → Writes a d (Begins p before after input)
+all_out : (p : PolicyRules) (before after : Registry) (input : List ℕ) (a b c d : Option (List ℕ)) (pending : List ℕ) → Writes a (append_known b pending) (BeginsReplies p before after input) → Appends b c pending → Keeps c d → Writes a d (BeginsReplies p before after input)
 all_out p before after input a b c d pending (written, wrote, begins) q k = (written, by a b c d wrote q k, begins)
   where
     by : (a b c d : Option (List ℕ)) → Appends a (append_known b pending) written → Appends b c pending → Keeps c d → Appends a d written
@@ -192,13 +192,13 @@ all_out p before after input a b c d pending (written, wrote, begins) q k = (wri
     by (Some x) (Some y) (Some z) None wrote q k = absurd k
     by (Some x) (Some y) (Some z) (Some w) wrote q k = k ∙ q ∙ wrote
 
-pub fault_out : (exit : Exit) (p : PolicyRules) (before after : Registry) (input : List ℕ) (a b c d : Option (List ℕ)) (pending : List ℕ) → IsFault exit → Writes a (append_known b pending) (Begins p before after input)
+pub fault_out : (exit : Exit) (p : PolicyRules) (before after : Registry) (input : List ℕ) (a b c d : Option (List ℕ)) (pending : List ℕ) → IsFault exit → Writes a (append_known b pending) (BeginsReplies p before after input)
     → Appends b c pending → Keeps c d → EndsIn p before after input a d exit
 fault_out exit p before after input a b c d pending (inl is) begun q k = rw is (all_out p before after input a b c d pending begun q k)
 fault_out exit p before after input a b c d pending (inr is) begun q k = rw is (all_out p before after input a b c d pending begun q k)
 
 -- or the front of it
-front_out : (p : PolicyRules) (before after : Registry) (input : List ℕ) (a b c : Option (List ℕ)) (pending sent : List ℕ) → Writes a (append_known b pending) (Begins p before after input) → Appends a b sent → AppendsFront b c pending → Writes a c (Begins p before after input)
+front_out : (p : PolicyRules) (before after : Registry) (input : List ℕ) (a b c : Option (List ℕ)) (pending sent : List ℕ) → Writes a (append_known b pending) (BeginsReplies p before after input) → Appends a b sent → AppendsFront b c pending → Writes a c (BeginsReplies p before after input)
 front_out p before after input None b c pending sent (written, wrote, begins) s front = (written, tt, begins)
 front_out p before after input (Some x) None c pending sent (written, wrote, begins) s front = absurd s
 front_out p before after input (Some x) (Some y) c pending sent (written, wrote, begins) s (front, rest, went, is) =
@@ -216,7 +216,7 @@ front_out p before after input (Some x) (Some y) c pending sent (written, wrote,
       },
     )
 
-pub fault_cut : (exit : Exit) (p : PolicyRules) (before after : Registry) (input : List ℕ) (a b c : Option (List ℕ)) (pending sent : List ℕ) → IsFault exit → Writes a (append_known b pending) (Begins p before after input)
+pub fault_cut : (exit : Exit) (p : PolicyRules) (before after : Registry) (input : List ℕ) (a b c : Option (List ℕ)) (pending sent : List ℕ) → IsFault exit → Writes a (append_known b pending) (BeginsReplies p before after input)
     → Appends a b sent → AppendsFront b c pending → EndsIn p before after input a c exit
 fault_cut exit p before after input a b c pending sent (inl is) begun s front = rw is (front_out p before after input a b c pending sent begun s front)
 fault_cut exit p before after input a b c pending sent (inr is) begun s front = rw is (front_out p before after input a b c pending sent begun s front)

@@ -162,8 +162,8 @@ pub record BeginsBehind (pending : List ℕ) (p : PolicyRules) (before after : R
   pub text : pending ++ printed replies ≡ written ++ rest
 
 -- the front of the replies to some first lines is written
-abbrev pub Begins : PolicyRules → (before after : Registry) → (input written : List ℕ) → Type 0
-Begins p before after input written = BeginsBehind [] p before after input written
+abbrev pub BeginsReplies : PolicyRules → (before after : Registry) → (input written : List ℕ) → Type 0
+BeginsReplies p before after input written = BeginsBehind [] p before after input written
 
 -- the known bytes grew by some that P holds of
 abbrev pub Writes : Option (List ℕ) → Option (List ℕ) → (List ℕ → Type 0) → Type 0
@@ -177,8 +177,8 @@ abbrev pub EndsIn : PolicyRules → (before after : Registry) → List ℕ → O
 EndsIn p before after input old new exits.Done = Writes old new (Finishes p before after input)
 EndsIn p before after input old new (exits.Script n) =
     Writes old new (λ written. Stops p before after input written n)
-EndsIn p before after input old new exits.File = Writes old new (Begins p before after input)
-EndsIn p before after input old new exits.Memory = Writes old new (Begins p before after input)
+EndsIn p before after input old new exits.File = Writes old new (BeginsReplies p before after input)
+EndsIn p before after input old new exits.Memory = Writes old new (BeginsReplies p before after input)
 EndsIn p before after input old new _ = ⊥
 
 -- the same, whatever it leaves

@@ -18,8 +18,8 @@ use Rattle.sqltables.specs.Message as table
 use Rattle.sqltables.specs.declared.message.MessageRow.{MessageRow}
 use Rattle.sqlrows.specs.inner.Layouts.{by_then_key}
 use Rattle.sqlcolumns.specs.Codes.{subject_in}
-use Rattle.sqlcolumns.specs.Messages.{command_made, command_notice_in, lapse_made, lapse_notice_in, message_in, message_row, origin_columns, origin_in}
-use Rattle.sqlcolumns.specs.Numbers.{exact_in, is_exact, moment_in}
+use Rattle.sqlcolumns.specs.Messages.{command_made, command_notice_in, lapse_made, lapse_notice_in, message_of_columns, origin_columns, origin_in, row_of_message}
+use Rattle.sqlcolumns.specs.Numbers.{exact_in, is_exact, moment_in_column}
 use Rattle.sqlcolumns.specs.Steps.{◌>>=◌}
 use Rattle.sqlcolumns.proofs.CodeLemmas.{subject_written}
 use Rattle.sqlcolumns.proofs.MessageLemmas.{command_notice_written, lapse_notice_written, message_back}
@@ -74,9 +74,9 @@ pub record IsShown (row : MessageRow) (m : Message) : Type 0 where
   pub subject : row.subject ≡ pos (subject_rank m.subject)
   pub notice : row.notice ≡ pos (tie_of m.origin)
 
-pub shown : (row : MessageRow) (m : Message) → message_in row ≡ Some m → IsShown row m
+pub shown : (row : MessageRow) (m : Message) → message_of_columns row ≡ Some m → IsShown row m
 shown row m e =
-    let moment = step (moment_in row.moment) _ m e in
+    let moment = step (moment_in_column row.moment) _ m e in
     let origin = step (origin_at row) _ m moment.rest in
     let subject = step (subject_in row.subject) _ m origin.rest in
     let same : ◌≡◌ {A = Message} (record { moment = moment.given; origin = origin.given; name = row.name; subject = subject.given }) m = same_some _ _ subject.rest in
@@ -91,7 +91,7 @@ shown row m e =
     }
 
 -- a message is read from the row that is written of it
-pub written_row : (id account : ℤ) (m : Message) (row : MessageRow) → IsMoment m.moment → message_row id account m ≡ Some row → IsWritten account m row
+pub written_row : (id account : ℤ) (m : Message) (row : MessageRow) → IsMoment m.moment → row_of_message id account m ≡ Some row → IsWritten account m row
 written_row id account m row is e =
     let o = step (origin_columns m.origin) _ row e in
     let same = same_some _ row o.rest in
@@ -109,7 +109,7 @@ equal_name : (a b : List ℕ) → a ≡ b → bytes_eq a b ≡ true
 equal_name a b e = ap (bytes_eq a) (sym e) ∙ ap is_eq (tied_itself nat_list_cmp_total a)
 
 -- rows with the same columns read as the same message
-pub same_read : (r x : MessageRow) (m : Message) → message_in r ≡ Some m → table.is_same_message r x ≡ true → (message_in x ≡ Some m) × (x.account ≡ r.account)
+pub same_read : (r x : MessageRow) (m : Message) → message_of_columns r ≡ Some m → table.is_same_message r x ≡ true → (message_of_columns x ≡ Some m) × (x.account ≡ r.account)
 same_read r x m reads e =
     let first = and_parts _ _ e in
     let second = and_parts _ _ first.1 in
@@ -124,10 +124,10 @@ same_read r x m reads e =
     let name : x.name ≡ r.name = same_name x.name r.name fifth.0 in
     let subject : x.subject ≡ r.subject = same_int x.subject r.subject sixth.0 in
     let notice : x.notice ≡ r.notice = same_int x.notice r.notice sixth.1 in
-    ((λ i. message_in (record x { moment = moment i; class = class i; number = number i; name = name i; subject = subject i; notice = notice i })) ∙ reads, account)
+    ((λ i. message_of_columns (record x { moment = moment i; class = class i; number = number i; name = name i; subject = subject i; notice = notice i })) ∙ reads, account)
 
 -- and rows of one account that read as the same message have the same columns
-pub same_columns : (r x : MessageRow) (m : Message) → x.account ≡ r.account → message_in r ≡ Some m → message_in x ≡ Some m → table.is_same_message r x ≡ true
+pub same_columns : (r x : MessageRow) (m : Message) → x.account ≡ r.account → message_of_columns r ≡ Some m → message_of_columns x ≡ Some m → table.is_same_message r x ≡ true
 same_columns r x m account reads also =
     let a = shown x m also in
     let b = shown r m reads in
@@ -176,7 +176,7 @@ abbrev pub row_cmp : MessageRow → MessageRow → Ordering
 row_cmp = by_then_key table.messages table.message_order
 
 -- rows that read are in the order of their messages, and then of their numbers
-pub row_order : (a b : MessageRow) (m n : Message) → message_in a ≡ Some m → message_in b ≡ Some n → row_cmp a b ≡ ordering_then (message_cmp m n) (int_cmp a.id b.id)
+pub row_order : (a b : MessageRow) (m n : Message) → message_of_columns a ≡ Some m → message_of_columns b ≡ Some n → row_cmp a b ≡ ordering_then (message_cmp m n) (int_cmp a.id b.id)
 row_order a b m n e f =
     let x = shown a m e in
     let y = shown b n f in
@@ -211,5 +211,5 @@ not_past Equal b e = refl
 not_past Greater b e = e
 
 -- the message of a row that stands before another's row isn't after the other's
-pub message_first : (a b : MessageRow) (m n : Message) → message_in a ≡ Some m → message_in b ≡ Some n → is_gt (row_cmp a b) ≡ false → is_gt (message_cmp m n) ≡ false
+pub message_first : (a b : MessageRow) (m n : Message) → message_of_columns a ≡ Some m → message_of_columns b ≡ Some n → is_gt (row_cmp a b) ≡ false → is_gt (message_cmp m n) ≡ false
 message_first a b m n e f first = not_past (message_cmp m n) (int_cmp a.id b.id) (sym (ap is_gt (row_order a b m n e f)) ∙ first)

@@ -7,14 +7,14 @@ use Rattle.sqlite_keyed.proofs.ListLemmas.{filter_none}
 use Rattle.sqlite_rules.specs.Lists.{Has}
 use Rattle.accounts.specs.Lines.{in_order}
 use Rattle.basis.specs.Bag.{bag_of}
-use Rattle.sqlcolumns.specs.Lines.{line_in}
-use Rattle.sqlcolumns.specs.Messages.{message_in}
+use Rattle.sqlcolumns.specs.Lines.{line_of_columns}
+use Rattle.sqlcolumns.specs.Messages.{message_of_columns}
 use Rattle.sqltables.specs.Account as account_table
 use Rattle.sqltables.specs.Content.{Content}
 use Rattle.sqltables.specs.declared.line.LineRow.{LineRow}
 use Rattle.sqltables.specs.declared.message.MessageRow.{MessageRow}
 use Rattle.sqltables.specs.inner.Consistent.{IsConsistent, LeadsTo}
-use Rattle.sqlaccounts.specs.Accounts.{lines_of, put_all, queue_of, row_of}
+use Rattle.sqlaccounts.specs.Accounts.{lines_under, put_all, queue_under, row_of}
 use Rattle.sqlaccounts.proofs.BagLemmas.{bag-nil}
 use Rattle.sqlaccounts.proofs.FindingLemmas.{equal}
 
@@ -43,8 +43,8 @@ module _ {X Y : Type 0} (key : Y → ℤ) (column : X → ℤ) where
 -- ---- of an account that isn't there
 
 module _ (xs : Content) (id : ℤ) (consistent : IsConsistent xs) (none : row_of xs id ≡ None) where
-  pub lines-of-none : lines_of xs id ≡ []
-  lines-of-none = ap (λ rows. bag_of in_order (filter_map line_in rows)) (none-with account_table.accounts.key (λ (x : LineRow). x.account) xs.lines xs.accounts id consistent.linked.line_account none) ∙ bag-nil in_order
+  pub lines-of-none : lines_under xs id ≡ []
+  lines-of-none = ap (λ rows. bag_of in_order (filter_map line_of_columns rows)) (none-with account_table.accounts.key (λ (x : LineRow). x.account) xs.lines xs.accounts id consistent.linked.line_account none) ∙ bag-nil in_order
 
-  pub queue-of-none : queue_of xs id ≡ []
-  queue-of-none = ap (λ rows. put_all (filter_map message_in rows)) (none-with account_table.accounts.key (λ (x : MessageRow). x.account) xs.messages xs.accounts id consistent.linked.message_account none)
+  pub queue-of-none : queue_under xs id ≡ []
+  queue-of-none = ap (λ rows. put_all (filter_map message_of_columns rows)) (none-with account_table.accounts.key (λ (x : MessageRow). x.account) xs.messages xs.accounts id consistent.linked.message_account none)

@@ -18,8 +18,8 @@ use Rattle.accounts.specs.declared.line.Line.{Line}
 use Rattle.accounts.specs.Lines.{in_order, is_line, is_of, is_on, is_same_roid}
 use Rattle.accounts.proofs.LineLaws.{itself-roid, line-told, same-in_order, same-roids}
 use Rattle.basis.specs.Bag.{same}
-use Rattle.sqlcolumns.specs.Lines.{line_in, maybe_domain_in}
-use Rattle.sqlcolumns.specs.Numbers.{counter_column, exact_in, maybe_moment_in, moment_in, registrar_column, years_in}
+use Rattle.sqlcolumns.specs.Lines.{line_of_columns, maybe_domain_in}
+use Rattle.sqlcolumns.specs.Numbers.{counter_column, exact_in, maybe_moment_in, moment_in_column, registrar_column, years_in_column}
 use Rattle.sqlcolumns.specs.Codes.{kind_in}
 use Rattle.sqlcolumns.specs.Roids.{roid_in}
 use Rattle.sqlcolumns.specs.Steps.{◌>>=◌}
@@ -68,12 +68,12 @@ module _ (roid : Roid) (is : IsDomainRoid roid) where
       some_read (roid_in Domain c s) o (λ m. is_of roid m ≡ (int_eq c (registrar_column roid.creator) && int_eq s (counter_column roid.serial))) (λ x read. same_columns c s x read) e
 
 -- the domain that a row's line is on
-domain_read : (row : LineRow) (line : Line) → line_in row ≡ Some line → maybe_domain_in row.creator row.serial ≡ Some line.roid
+domain_read : (row : LineRow) (line : Line) → line_of_columns row ≡ Some line → maybe_domain_in row.creator row.serial ≡ Some line.roid
 domain_read row line e =
     let kind = step (kind_in row.kind) _ line e in
     let roid = step (maybe_domain_in row.creator row.serial) _ line kind.rest in
-    let recorded = step (moment_in row.recorded) _ line roid.rest in
-    let years = step (years_in row.years) _ line recorded.rest in
+    let recorded = step (moment_in_column row.recorded) _ line roid.rest in
+    let years = step (years_in_column row.years) _ line recorded.rest in
     let cents = step (exact_in row.cents) _ line years.rest in
     let started = step (maybe_moment_in row.grace.started) _ line cents.rest in
     let refunded = step (maybe_moment_in row.refunded) _ line started.rest in
@@ -81,12 +81,12 @@ domain_read row line e =
     roid.is ∙ λ i. Some ((same i).roid)
 
 -- a row that reads is on the domain by its columns
-pub on-row : (roid : Roid) → IsDomainRoid roid → (row : LineRow) (line : Line) → line_in row ≡ Some line
+pub on-row : (roid : Roid) → IsDomainRoid roid → (row : LineRow) (line : Line) → line_of_columns row ≡ Some line
     → is_on roid line ≡ (points_to row.creator (registrar_column roid.creator) && points_to row.serial (counter_column roid.serial))
 on-row roid is row line e = of_columns roid is row.creator row.serial line.roid (domain_read row line e)
 
 -- a line's row is among those that are looked at
-about : (r : ℕ) (o : Option Roid) (row : LineRow) (line : Line) → line.roid ≡ o → IfSome o IsDomainRoid → line_with_account (registrar_column r) row ≡ true → line_in row ≡ Some line
+about : (r : ℕ) (o : Option Roid) (row : LineRow) (line : Line) → line.roid ≡ o → IfSome o IsDomainRoid → line_with_account (registrar_column r) row ≡ true → line_of_columns row ≡ Some line
     → is_row_about r o row ≡ true
 about r None row line at is own e = own
 about r (Some roid) row line at is own e = and_from _ _ own (sym (on-row roid is row line e) ∙ ap (is_of roid) at ∙ itself-roid roid)
@@ -106,9 +106,9 @@ found p q row [] e = cc
 found p q row (x ∷ xs) e = found-at p q x row xs (q x) (p x) refl refl e (found p q row xs)
 
 module _ (line : Line) (p q a : LineRow → Bool)
-    (hits : (x : LineRow) → a x ≡ true → (l : Line) → line_in x ≡ Some l → same in_order line l ≡ true → (q x ≡ true) × (p x ≡ true)) where
+    (hits : (x : LineRow) → a x ≡ true → (l : Line) → line_of_columns x ≡ Some l → same in_order line l ≡ true → (q x ≡ true) × (p x ≡ true)) where
   abbrev lines : List LineRow → List Line
-  lines rows = filter_map line_in (filter a rows)
+  lines rows = filter_map line_of_columns (filter a rows)
 
   later : (x : LineRow) (xs : List LineRow) (b c : Bool) → p x ≡ c → find p (cond b (x ∷ filter q xs) (filter q xs)) ≡ None → find p (filter q xs) ≡ None
   later x xs true true is e = let no : Some x ≡ None = sym (ap (λ t. cond t (Some x) (find p (filter q xs))) is) ∙ e in cc
@@ -118,32 +118,32 @@ module _ (line : Line) (p q a : LineRow → Bool)
   hit : (x : LineRow) (xs : List LineRow) → q x ≡ true → p x ≡ true → find p (filter q (x ∷ xs)) ≡ Some x
   hit x xs at is = ap (λ b. find p (cond b (x ∷ filter q xs) (filter q xs))) at ∙ ap (λ t. cond t (Some x) (find p (filter q xs))) is
 
-  not_this : (x : LineRow) (l : Line) (xs : List LineRow) (b : Bool) → same in_order line l ≡ b → a x ≡ true → line_in x ≡ Some l → find p (filter q (x ∷ xs)) ≡ None
+  not_this : (x : LineRow) (l : Line) (xs : List LineRow) (b : Bool) → same in_order line l ≡ b → a x ≡ true → line_of_columns x ≡ Some l → find p (filter q (x ∷ xs)) ≡ None
       → list_any (same in_order line) (lines xs) ≡ false → (b || list_any (same in_order line) (lines xs)) ≡ false
   not_this x l xs true s own reads e rest = let it = hits x own l reads s in let no : Some x ≡ None = sym (hit x xs it.0 it.1) ∙ e in cc
   not_this x l xs false s own reads e rest = rest
 
-  missed-at : (x : LineRow) (xs : List LineRow) (b : Bool) (o : Option Line) → a x ≡ b → line_in x ≡ o → find p (filter q (x ∷ xs)) ≡ None
-      → list_any (same in_order line) (lines xs) ≡ false → list_any (same in_order line) (filter_map line_in (cond b (x ∷ filter a xs) (filter a xs))) ≡ false
+  missed-at : (x : LineRow) (xs : List LineRow) (b : Bool) (o : Option Line) → a x ≡ b → line_of_columns x ≡ o → find p (filter q (x ∷ xs)) ≡ None
+      → list_any (same in_order line) (lines xs) ≡ false → list_any (same in_order line) (filter_map line_of_columns (cond b (x ∷ filter a xs) (filter a xs))) ≡ false
   missed-at x xs false o own reads e rest = rest
   missed-at x xs true None own reads e rest = ap (λ m. list_any (same in_order line) (cons_option m (lines xs))) reads ∙ rest
   missed-at x xs true (Some l) own reads e rest = ap (λ m. list_any (same in_order line) (cons_option m (lines xs))) reads ∙ not_this x l xs (same in_order line l) refl own reads e rest
 
   missed : (rows : List LineRow) → find p (filter q rows) ≡ None → list_any (same in_order line) (lines rows) ≡ false
   missed [] e = refl
-  missed (x ∷ xs) e = missed-at x xs (a x) (line_in x) refl refl e (missed xs (later x xs (q x) (p x) refl e))
+  missed (x ∷ xs) e = missed-at x xs (a x) (line_of_columns x) refl refl e (missed xs (later x xs (q x) (p x) refl e))
 
 -- where no row is found, no line is there
 pub none-there : (r : ℕ) (line : Line) (rows : List LineRow) → IfSome line.roid IsDomainRoid → find (reads_as line) (filter (is_row_about r line.roid) rows) ≡ None
-    → list_any (same in_order line) (filter_map line_in (filter (line_with_account (registrar_column r)) rows)) ≡ false
+    → list_any (same in_order line) (filter_map line_of_columns (filter (line_with_account (registrar_column r)) rows)) ≡ false
 none-there r line rows is e =
     missed line (reads_as line) (is_row_about r line.roid) (line_with_account (registrar_column r))
-    (λ x own l reads s. let it : line_in x ≡ Some line = reads ∙ ap Some (sym (same-in_order line l s)) in
+    (λ x own l reads s. let it : line_of_columns x ≡ Some line = reads ∙ ap Some (sym (same-in_order line l s)) in
     (about r line.roid x line refl is own it, ap (λ (o : Option Line). option_map_or (is_line line) o false) reads ∙ line-told line l ∙ s))
     rows e
 
 -- what reads as a line
-pub reads : (line : Line) (row : LineRow) (o : Option Line) → line_in row ≡ o → option_map_or (is_line line) o false ≡ true → line_in row ≡ Some line
+pub reads : (line : Line) (row : LineRow) (o : Option Line) → line_of_columns row ≡ o → option_map_or (is_line line) o false ≡ true → line_of_columns row ≡ Some line
 reads line row None at e = absurd (true≢false (sym e))
 reads line row (Some l) at e = at ∙ ap Some (sym (same-in_order line l (sym (line-told line l) ∙ e)))
 

@@ -26,7 +26,7 @@ use Rattle.accounts.specs.Lines.{balance}
 use Rattle.accounts.specs.Messages.{message_cmp}
 use Rattle.accounts.specs.Queue.{dropped, has, put}
 use Rattle.accounts.proofs.MessageLaws.{message_cmp_only}
-use Rattle.sqlcolumns.specs.Messages.{message_in}
+use Rattle.sqlcolumns.specs.Messages.{message_of_columns}
 use Rattle.sqlcolumns.specs.Numbers.{is_place}
 use Rattle.sqltables.specs.Account as account_table
 use Rattle.sqltables.specs.declared.account.AccountRow.{AccountRow}
@@ -35,7 +35,7 @@ use Rattle.sqltables.specs.inner.Content.{accounts_to, messages_to}
 use Rattle.sqltables.specs.Message as table
 use Rattle.sqltables.specs.declared.message.MessageRow.{MessageRow}
 use Rattle.sqltables.specs.inner.Consistent.{IsConsistent}
-use Rattle.sqlaccounts.specs.Accounts.{account_in, accounts_of, balance_in, ident_and_held, lines_of, put_all, queue_of, row_of}
+use Rattle.sqlaccounts.specs.Accounts.{account_of_row, accounts_of, balance_in, ident_and_held, lines_under, put_all, queue_under, row_of}
 use Rattle.sqlaccounts.specs.inner.Changes.{IsChange}
 use Rattle.sqlaccounts.proofs.AccountLemmas.{changed, get-accounts_of, get-found}
 use Rattle.sqlaccounts.specs.declared.queue.Found.{Found}
@@ -52,7 +52,7 @@ is_nil (x ∷ xs) = false
 -- ---- rows and their messages
 
 abbrev messages_in : List MessageRow → List Message
-messages_in rows = filter_map message_in rows
+messages_in rows = filter_map message_of_columns rows
 
 has_cons : (o : Option Message) (m : Message) (ms : List Message) → Has ms m → Has (cons_option o ms) m
 has_cons None m ms has = has
@@ -62,25 +62,25 @@ has_head : (o : Option Message) (m : Message) (ms : List Message) → o ≡ Some
 has_head o m ms e = subst (λ o. Has (cons_option o ms) m) (sym e) (inl refl)
 
 -- a row that reads is one of the messages
-has_read : (rows : List MessageRow) (row : MessageRow) (m : Message) → Has rows row → message_in row ≡ Some m → Has (messages_in rows) m
+has_read : (rows : List MessageRow) (row : MessageRow) (m : Message) → Has rows row → message_of_columns row ≡ Some m → Has (messages_in rows) m
 has_read [] row m has e = absurd has
-has_read (x ∷ xs) row m (inl is) e = has_head (message_in x) m (messages_in xs) (ap message_in (sym is) ∙ e)
-has_read (x ∷ xs) row m (inr has) e = has_cons (message_in x) m (messages_in xs) (has_read xs row m has e)
+has_read (x ∷ xs) row m (inl is) e = has_head (message_of_columns x) m (messages_in xs) (ap message_of_columns (sym is) ∙ e)
+has_read (x ∷ xs) row m (inr has) e = has_cons (message_of_columns x) m (messages_in xs) (has_read xs row m has e)
 
 record IsRowOf (rows : List MessageRow) (m : Message) : Type 0 where
   pub row : MessageRow
   pub there : Has rows row
-  pub reads : message_in row ≡ Some m
+  pub reads : message_of_columns row ≡ Some m
 
 -- and each message is of a row
 read_from : (rows : List MessageRow) (m : Message) → Has (messages_in rows) m → IsRowOf rows m
 read_from [] m has = absurd has
-read_from (x ∷ xs) m has = go (message_in x) refl has (read_from xs m)
+read_from (x ∷ xs) m has = go (message_of_columns x) refl has (read_from xs m)
   where
     later : IsRowOf xs m → IsRowOf (x ∷ xs) m
     later it = record { row = it.row; there = inr it.there; reads = it.reads }
 
-    go : (o : Option Message) → message_in x ≡ o → Has (cons_option o (messages_in xs)) m → (Has (messages_in xs) m → IsRowOf xs m) → IsRowOf (x ∷ xs) m
+    go : (o : Option Message) → message_of_columns x ≡ o → Has (cons_option o (messages_in xs)) m → (Has (messages_in xs) m → IsRowOf xs m) → IsRowOf (x ∷ xs) m
     go None e has rest = later (rest has)
     go (Some n) e (inl is) rest = record { row = x; there = inl refl; reads = e ∙ ap Some (sym is) }
     go (Some n) e (inr has) rest = later (rest has)
@@ -90,14 +90,14 @@ of_account id rows = filter (table.message_with_account id) rows
 
 -- ---- the oldest message
 
-pub first_found : (xs : Content) (id : ℤ) (row : MessageRow) (m : Message) → slice_get (table.queue_of id xs.messages) 0 ≡ Some row → message_in row ≡ Some m → slice_get (queue_of xs id) 0 ≡ Some m
+pub first_found : (xs : Content) (id : ℤ) (row : MessageRow) (m : Message) → slice_get (table.queue_of id xs.messages) 0 ≡ Some row → message_of_columns row ≡ Some m → slice_get (queue_under xs id) 0 ≡ Some m
 first_found xs id row m first reads =
     let rows : List MessageRow = of_account id xs.messages in
     let least : IsLeast row_cmp row_cmp_total (Some row) rows = subst (λ o. IsLeast row_cmp row_cmp_total o rows) first (least-sort_by row_cmp row_cmp_total rows) in
     first-put_all m (messages_in rows) (has_read rows row m least.0 reads)
     (λ n has. let it = read_from rows n has in message_first row it.row m n reads it.reads (least.1 it.row it.there))
 
-pub none_found : (xs : Content) (id : ℤ) → slice_get (table.queue_of id xs.messages) 0 ≡ None → slice_get (queue_of xs id) 0 ≡ None
+pub none_found : (xs : Content) (id : ℤ) → slice_get (table.queue_of id xs.messages) 0 ≡ None → slice_get (queue_under xs id) 0 ≡ None
 none_found xs id none =
     let rows : List MessageRow = of_account id xs.messages in
     let empty : rows ≡ [] = subst (λ o. IsLeast row_cmp row_cmp_total o rows) none (least-sort_by row_cmp row_cmp_total rows) in
@@ -113,7 +113,7 @@ has_no_row (x ∷ xs) a id has at none = go (int_eq x.id id) refl has none (λ h
     go false e (inr has) none rest = rest has none
 
 -- where there is no account there is no message for it
-no_messages : (xs : Content) (id : ℤ) → IsConsistent xs → row_of xs id ≡ None → slice_get (queue_of xs id) 0 ≡ None
+no_messages : (xs : Content) (id : ℤ) → IsConsistent xs → row_of xs id ≡ None → slice_get (queue_under xs id) 0 ≡ None
 no_messages xs id consistent none = ap (λ rows. slice_get (put_all (messages_in rows)) 0) (go (of_account id xs.messages) (λ x has. has_filtered (table.message_with_account id) xs.messages x has))
   where
     go : (rows : List MessageRow) → ((x : MessageRow) → Has rows x → Has xs.messages x × (int_eq x.account id ≡ true)) → rows ≡ []
@@ -123,33 +123,33 @@ no_messages xs id consistent none = ap (λ rows. slice_get (put_all (messages_in
         let parent = consistent.linked.message_account x it.0 x.account refl in
         absurd (has_no_row xs.accounts parent.0 id parent.1 (parent.2 ∙ (Decides-int_eq x.account id).0 it.1) none)
 
-pub oldest-found : (xs : Content) (q : ℕ) (it : Option Message) → is_place q ≡ true → IsConsistent xs → slice_get (queue_of xs (pos q)) 0 ≡ it
+pub oldest-found : (xs : Content) (q : ℕ) (it : Option Message) → is_place q ≡ true → IsConsistent xs → slice_get (queue_under xs (pos q)) 0 ≡ it
     → it ≡ slice_get (unwrap_or (get (accounts_of xs) q) empty_account).queue 0
 oldest-found xs q it place consistent is =
     go (row_of xs (pos q)) refl
-    ∙ ap (λ b. slice_get (unwrap_or (cond b (option_map (account_in xs) (row_of xs (pos q))) None) empty_account).queue 0) (sym place)
+    ∙ ap (λ b. slice_get (unwrap_or (cond b (option_map (account_of_row xs) (row_of xs (pos q))) None) empty_account).queue 0) (sym place)
     ∙ ap (λ a. slice_get (unwrap_or a empty_account).queue 0) (sym (get-accounts_of xs q))
   where
-    go : (o : Option AccountRow) → row_of xs (pos q) ≡ o → it ≡ slice_get (unwrap_or (option_map (account_in xs) (row_of xs (pos q))) empty_account).queue 0
-    go None e = sym is ∙ no_messages xs (pos q) consistent e ∙ sym (ap (λ o. slice_get (unwrap_or (option_map (account_in xs) o) empty_account).queue 0) e)
+    go : (o : Option AccountRow) → row_of xs (pos q) ≡ o → it ≡ slice_get (unwrap_or (option_map (account_of_row xs) (row_of xs (pos q))) empty_account).queue 0
+    go None e = sym is ∙ no_messages xs (pos q) consistent e ∙ sym (ap (λ o. slice_get (unwrap_or (option_map (account_of_row xs) o) empty_account).queue 0) e)
     go (Some row) e =
-        sym is ∙ ap (λ id. slice_get (queue_of xs id) 0) (sym (key-get_by account_table.accounts.key xs.accounts (pos q) row e))
-        ∙ sym (ap (λ o. slice_get (unwrap_or (option_map (account_in xs) o) empty_account).queue 0) e)
+        sym is ∙ ap (λ id. slice_get (queue_under xs id) 0) (sym (key-get_by account_table.accounts.key xs.accounts (pos q) row e))
+        ∙ sym (ap (λ o. slice_get (unwrap_or (option_map (account_of_row xs) o) empty_account).queue 0) e)
 
 -- ---- an account that stays as it is
 
-unchanged : (xs : Content) (r : ℕ) (f : Account → Account) (row : AccountRow) → is_place r ≡ true → Some row ≡ row_of xs (pos r) → f (account_in xs row) ≡ account_in xs row → IsChange r f xs xs
+unchanged : (xs : Content) (r : ℕ) (f : Account → Account) (row : AccountRow) → is_place r ≡ true → Some row ≡ row_of xs (pos r) → f (account_of_row xs row) ≡ account_of_row xs row → IsChange r f xs xs
 unchanged xs r f row place found same =
-    let there : get (accounts_of xs) r ≡ Some (account_in xs row) = get-found xs r row place (sym found) in
+    let there : get (accounts_of xs) r ≡ Some (account_of_row xs row) = get-found xs r row place (sym found) in
     record {
-      there = (account_in xs row, there);
+      there = (account_of_row xs row, there);
       accounts = same_map nat_cmp_total nat_cmp-IsAntisymmetric _ _ (λ q. go there q (eq_by_cmp nat_cmp q r) refl ∙ sym (get-insert nat_cmp_total (accounts_of xs) r (f (unwrap_or (get (accounts_of xs) r) empty_account)) q));
       sums = refl;
       idents_and_held = λ id. refl;
       others = record { metas = refl; days = refl; contacts = refl; domains = refl; hosts = refl; addresses = refl; links = refl; transfers = refl };
     }
   where
-    go : get (accounts_of xs) r ≡ Some (account_in xs row) → (q : ℕ) (b : Bool) → eq_by_cmp nat_cmp q r ≡ b
+    go : get (accounts_of xs) r ≡ Some (account_of_row xs row) → (q : ℕ) (b : Bool) → eq_by_cmp nat_cmp q r ≡ b
         → get (accounts_of xs) q ≡ cond b (Some (f (unwrap_or (get (accounts_of xs) r) empty_account))) (get (accounts_of xs) q)
     go there q true e =
         ap (get (accounts_of xs)) (nat_cmp-IsAntisymmetric q r ((Equal-is (nat_cmp q r)).0 e)) ∙ there ∙ ap Some (sym same)
@@ -172,23 +172,23 @@ shifted a b step = go (int_eq (a +ℤ step) (b +ℤ step)) (int_eq a b) refl ref
 
 requeued : (xs : Content) (ms : List MessageRow) (r : ℕ) (f : List Message → List Message) (row new : AccountRow) (step : ℤ)
     → is_place r ≡ true → Some row ≡ row_of xs (pos r) → IsWaitingMore step row new
-    → ((id : ℤ) → int_eq (pos r) id ≡ false → put_all (messages_in (of_account id ms)) ≡ queue_of xs id)
-    → put_all (messages_in (of_account (pos r) ms)) ≡ f (queue_of xs (pos r))
-    → pos (length (f (queue_of xs (pos r)))) ≡ pos (length (queue_of xs (pos r))) +ℤ step
+    → ((id : ℤ) → int_eq (pos r) id ≡ false → put_all (messages_in (of_account id ms)) ≡ queue_under xs id)
+    → put_all (messages_in (of_account (pos r) ms)) ≡ f (queue_under xs (pos r))
+    → pos (length (f (queue_under xs (pos r)))) ≡ pos (length (queue_under xs (pos r))) +ℤ step
     → IsChange r (with_queue f) xs (accounts_to (λ rows. insert_by account_table.accounts.key rows new) (messages_to (λ _. ms) xs))
 requeued xs ms r f row new step place found more elsewhere here count =
     let ys : Content = accounts_to (λ rows. insert_by account_table.accounts.key rows new) (messages_to (λ _. ms) xs) in
     let at : row.id ≡ pos r = key-get_by account_table.accounts.key xs.accounts (pos r) row (sym found) in
     let same : new.id ≡ row.id = ap (λ (a : AccountRow). a.id) more.rest in
-    let queue : queue_of ys new.id ≡ f (queue_of xs row.id) = ap (queue_of ys) (same ∙ at) ∙ here ∙ sym (ap (λ id. f (queue_of xs id)) at) in
+    let queue : queue_under ys new.id ≡ f (queue_under xs row.id) = ap (queue_under ys) (same ∙ at) ∙ here ∙ sym (ap (λ id. f (queue_under xs id)) at) in
     let cents : new.balance ≡ row.balance = ap (λ (a : AccountRow). a.balance) more.rest in
     let waiting : new.waiting ≡ row.waiting +ℤ step = ap (λ (a : AccountRow). a.waiting) more.rest in
-    let counted : int_eq new.waiting (pos (length (queue_of ys new.id))) ≡ int_eq row.waiting (pos (length (queue_of xs row.id))) =
-    (λ i. int_eq (waiting i) (pos (length (queue i)))) ∙ ap (int_eq (row.waiting +ℤ step)) (ap (λ id. pos (length (f (queue_of xs id)))) at ∙ count ∙ sym (ap (λ id. pos (length (queue_of xs id)) +ℤ step) at))
-    ∙ shifted row.waiting (pos (length (queue_of xs row.id))) step in
+    let counted : int_eq new.waiting (pos (length (queue_under ys new.id))) ≡ int_eq row.waiting (pos (length (queue_under xs row.id))) =
+    (λ i. int_eq (waiting i) (pos (length (queue i)))) ∙ ap (int_eq (row.waiting +ℤ step)) (ap (λ id. pos (length (f (queue_under xs id)))) at ∙ count ∙ sym (ap (λ id. pos (length (queue_under xs id)) +ℤ step) at))
+    ∙ shifted row.waiting (pos (length (queue_under xs row.id))) step in
     changed xs ys r (with_queue f) row new place (sym found) refl same (ap ident_and_held more.rest) (λ id e. refl) elsewhere
-    (λ i. record { lines = lines_of xs (same i); queue = queue i; commands = (account_in xs (more.rest i)).commands; messages = (account_in xs (more.rest i)).messages; serial = (account_in xs (more.rest i)).serial })
-    (λ i. int_eq (balance_in (cents i)) (balance (lines_of xs (same i))) && counted i)
+    (λ i. record { lines = lines_under xs (same i); queue = queue i; commands = (account_of_row xs (more.rest i)).commands; messages = (account_of_row xs (more.rest i)).messages; serial = (account_of_row xs (more.rest i)).serial })
+    (λ i. int_eq (balance_in (cents i)) (balance (lines_under xs (same i))) && counted i)
     (record { metas = refl; days = refl; contacts = refl; domains = refl; hosts = refl; addresses = refl; links = refl; transfers = refl })
 
 -- ---- whether a message waits
@@ -237,13 +237,13 @@ module _ (xs : Content) (r : ℕ) (m : Message) (it : Found) (found : IsFound xs
   pub put_again : (length it.same == 0) ≡ false → IsChange r (with_queue (put m)) xs xs
   put_again some =
       unchanged xs r (with_queue (put m)) it.account found.place found.account
-      (λ i. record (account_in xs it.account) { queue = (ap (λ id. put m (queue_of xs id)) at ∙ put-there m (messages_in (of_account (pos r) xs.messages)) (waits false (nil_or it.same false some)) ∙ ap (queue_of xs) (sym at)) i })
+      (λ i. record (account_of_row xs it.account) { queue = (ap (λ id. put m (queue_under xs id)) at ∙ put-there m (messages_in (of_account (pos r) xs.messages)) (waits false (nil_or it.same false some)) ∙ ap (queue_under xs) (sym at)) i })
 
   pub nothing_taken : it.same ≡ [] → IsChange r (with_queue (dropped m)) xs xs
   nothing_taken none =
-      let lacks : has m (queue_of xs (pos r)) ≡ false = has-put_all m (messages_in (of_account (pos r) xs.messages)) ∙ waits true (sym (ap is_nil none)) in
+      let lacks : has m (queue_under xs (pos r)) ≡ false = has-put_all m (messages_in (of_account (pos r) xs.messages)) ∙ waits true (sym (ap is_nil none)) in
       unchanged xs r (with_queue (dropped m)) it.account found.place found.account
-      (λ i. record (account_in xs it.account) { queue = (ap (λ id. dropped m (queue_of xs id)) at ∙ dropped-lacking m (queue_of xs (pos r)) lacks ∙ ap (queue_of xs) (sym at)) i })
+      (λ i. record (account_of_row xs it.account) { queue = (ap (λ id. dropped m (queue_under xs id)) at ∙ dropped-lacking m (queue_under xs (pos r)) lacks ∙ ap (queue_under xs) (sym at)) i })
 
   -- the rows with one more
   one : ℤ → MessageRow
@@ -266,15 +266,15 @@ module _ (xs : Content) (r : ℕ) (m : Message) (it : Found) (found : IsFound xs
   put_in new none more =
       let ms : List MessageRow = xs.messages ++ one key_now ∷ [] in
       let before : List Message = messages_in (of_account (pos r) xs.messages) in
-      let lacks : has m (queue_of xs (pos r)) ≡ false = has-put_all m before ∙ waits true (nil_or it.same true none) in
+      let lacks : has m (queue_under xs (pos r)) ≡ false = has-put_all m before ∙ waits true (nil_or it.same true none) in
       requeued xs ms r (put m) it.account new (pos 1) found.place found.account more
       (λ id apart.
       ap (λ rows. put_all (messages_in rows)) (filter-append (table.message_with_account id) xs.messages (one key_now ∷ []) ∙ ap (λ rows. of_account id xs.messages ++ rows) (elsewhere id apart))
       ∙ ap (λ rows. put_all (messages_in rows)) (append-nil (of_account id xs.messages)))
       (ap (λ rows. put_all (messages_in rows)) (filter-append (table.message_with_account (pos r)) xs.messages (one key_now ∷ []) ∙ ap (λ rows. of_account (pos r) xs.messages ++ rows) here)
-      ∙ ap put_all (filter_map-append message_in (of_account (pos r) xs.messages) (one key_now ∷ []) ∙ ap (λ o. before ++ cons_option o []) found.written.reads)
+      ∙ ap put_all (filter_map-append message_of_columns (of_account (pos r) xs.messages) (one key_now ∷ []) ∙ ap (λ o. before ++ cons_option o []) found.written.reads)
       ∙ put_all-push before m)
-      (ap pos (length-put m (queue_of xs (pos r)) lacks))
+      (ap pos (length-put m (queue_under xs (pos r)) lacks))
 
 -- ---- a message is taken
 
@@ -337,9 +337,9 @@ module _ (xs : Content) (r : ℕ) (m : Message) (it : Found) (found : IsFound xs
 
   left : (rows : List MessageRow) → messages_in (of_account (pos r) (delete_where is_it rows)) ≡ without m (messages_in (of_account (pos r) rows))
   left [] = refl
-  left (y ∷ ys) = go (table.message_with_account (pos r) y) (is_it y) (message_in y) refl refl refl (left ys)
+  left (y ∷ ys) = go (table.message_with_account (pos r) y) (is_it y) (message_of_columns y) refl refl refl (left ys)
     where
-      go : (mine same : Bool) (o : Option Message) → table.message_with_account (pos r) y ≡ mine → is_it y ≡ same → message_in y ≡ o
+      go : (mine same : Bool) (o : Option Message) → table.message_with_account (pos r) y ≡ mine → is_it y ≡ same → message_of_columns y ≡ o
           → messages_in (of_account (pos r) (delete_where is_it ys)) ≡ without m (messages_in (of_account (pos r) ys))
           → messages_in (of_account (pos r) (cond (not same) (y ∷ delete_where is_it ys) (delete_where is_it ys))) ≡ without m (messages_in (cond mine (y ∷ of_account (pos r) ys) (of_account (pos r) ys)))
       go false true o a b e more = more
@@ -375,4 +375,4 @@ module _ (xs : Content) (r : ℕ) (m : Message) (it : Found) (found : IsFound xs
       requeued xs ms r (dropped m) it.account new (negsuc 0) found.place found.account more
       (λ id e. ap (λ rows. put_all (messages_in (of_account id rows))) same_removed ∙ ap (λ rows. put_all (messages_in rows)) (kept_elsewhere id e))
       (ap (λ rows. put_all (messages_in (of_account (pos r) rows))) same_removed ∙ ap put_all (left xs.messages) ∙ put_all-without m before)
-      (fewer (length (dropped m (queue_of xs (pos r)))) (length (queue_of xs (pos r))) (length-remove_key (tie m) (queue_of xs (pos r)) (has-put_all m before ∙ there)))
+      (fewer (length (dropped m (queue_under xs (pos r)))) (length (queue_under xs (pos r))) (length-remove_key (tie m) (queue_under xs (pos r)) (has-put_all m before ∙ there)))

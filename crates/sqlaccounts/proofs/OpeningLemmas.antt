@@ -11,7 +11,7 @@ use Rattle.sqltables.specs.declared.account.AccountRow.{AccountRow}
 use Rattle.sqltables.specs.Content.{Content}
 use Rattle.sqltables.specs.inner.Content.{accounts_to}
 use Rattle.sqltables.specs.inner.Consistent.{IsConsistent}
-use Rattle.sqlaccounts.specs.Accounts.{account_in, accounts_of, balance_in, has_right_sums, is_right, row_of}
+use Rattle.sqlaccounts.specs.Accounts.{account_of_row, accounts_of, balance_in, has_right_sums, is_right, row_of}
 use Rattle.sqlaccounts.specs.inner.Changes.{IsOpened, opened_row}
 use Rattle.sqlaccounts.proofs.AccountLemmas.{accounts-put, get-accounts_of, kept_accounts, row_here, row_there, sums-put}
 use Rattle.sqlaccounts.proofs.FindingLemmas.{equal}
@@ -28,13 +28,13 @@ module _ (xs : Content) (r : ℕ) (consistent : IsConsistent xs) (place : is_pla
   abbrev ys : Content
   ys = accounts_to (λ rows. insert_by account_table.accounts.key rows new) xs
 
-  empty : account_in ys new ≡ empty_account
+  empty : account_of_row ys new ≡ empty_account
   empty = λ i. record { lines = lines-of-none xs (pos r) consistent none i; queue = queue-of-none xs (pos r) consistent none i; commands = 0; messages = 0; serial = 0 }
 
   nothing : get (accounts_of xs) r ≡ None
-  nothing = get-accounts_of xs r ∙ (λ i. cond (place i) (option_map (account_in xs) (none i)) None)
+  nothing = get-accounts_of xs r ∙ (λ i. cond (place i) (option_map (account_of_row xs) (none i)) None)
 
-  here : account_in ys new ≡ unwrap_or (get (accounts_of xs) r) empty_account
+  here : account_of_row ys new ≡ unwrap_or (get (accounts_of xs) r) empty_account
   here = empty ∙ sym (ap (λ a. unwrap_or a empty_account) nothing)
 
   right : is_right ys new ≡ has_right_sums xs (pos r)

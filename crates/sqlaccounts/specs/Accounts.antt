@@ -13,8 +13,8 @@ use Rattle.accounts.specs.Account.{empty_account}
 use Rattle.accounts.specs.Lines.{balance, in_order}
 use Rattle.accounts.specs.Queue.{put}
 use Rattle.basis.specs.Bag.{bag_of}
-use Rattle.sqlcolumns.specs.Lines.{line_in}
-use Rattle.sqlcolumns.specs.Messages.{message_in}
+use Rattle.sqlcolumns.specs.Lines.{line_of_columns}
+use Rattle.sqlcolumns.specs.Messages.{message_of_columns}
 use Rattle.sqlcolumns.specs.Numbers.{counter_in, registrar_in}
 use Rattle.sqltables.specs.Account as account_table
 use Rattle.sqltables.specs.declared.account.AccountRow.{AccountRow}
@@ -23,22 +23,22 @@ use Rattle.sqltables.specs.Line.{line_with_account}
 use Rattle.sqltables.specs.Message.{message_with_account}
 
 -- the lines under an account's number, of the rows that read
-abbrev pub lines_of : Content → ℤ → List Line
-lines_of xs id = bag_of in_order (filter_map line_in (filter (line_with_account id) xs.lines))
+abbrev pub lines_under : Content → ℤ → List Line
+lines_under xs id = bag_of in_order (filter_map line_of_columns (filter (line_with_account id) xs.lines))
 
 -- the messages, each put where it belongs
 abbrev pub put_all : List Message → List Message
 put_all messages = fold (λ queue m. put m queue) [] messages
 
 -- the messages under an account's number, of the rows that read
-abbrev pub queue_of : Content → ℤ → List Message
-queue_of xs id = put_all (filter_map message_in (filter (message_with_account id) xs.messages))
+abbrev pub queue_under : Content → ℤ → List Message
+queue_under xs id = put_all (filter_map message_of_columns (filter (message_with_account id) xs.messages))
 
 -- the account of a row
-abbrev pub account_in : Content → AccountRow → Account
-account_in xs row = record {
-  lines = lines_of xs row.id;
-  queue = queue_of xs row.id;
+abbrev pub account_of_row : Content → AccountRow → Account
+account_of_row xs row = record {
+  lines = lines_under xs row.id;
+  queue = queue_under xs row.id;
   commands = counter_in row.commands;
   messages = counter_in row.messages;
   serial = counter_in row.serial;
@@ -47,14 +47,14 @@ account_in xs row = record {
 -- the accounts of the rows whose number is a registrar's place
 abbrev pub entries_of : Content → List AccountRow → List (ℕ × Account)
 entries_of xs [] = []
-entries_of xs (row ∷ rows) = option_map_or (λ place. (place, account_in xs row) ∷ entries_of xs rows) (registrar_in row.id) (entries_of xs rows)
+entries_of xs (row ∷ rows) = option_map_or (λ place. (place, account_of_row xs row) ∷ entries_of xs rows) (registrar_in row.id) (entries_of xs rows)
 
 abbrev pub accounts_of : Content → FinMap nat_cmp Account
 accounts_of xs = from_entries (entries_of xs xs.accounts)
 
 -- what a registrar's account has: nothing where it was never opened
-abbrev pub account_of : ℕ → Content → Account
-account_of r xs = unwrap_or (get (accounts_of xs) r) empty_account
+abbrev pub account_of_rows : ℕ → Content → Account
+account_of_rows r xs = unwrap_or (get (accounts_of xs) r) empty_account
 
 -- the first row with a number
 abbrev pub row_of : Content → ℤ → Option AccountRow
@@ -69,8 +69,8 @@ balance_in bytes = cast_signed w128 (from_be_bytes w128 bytes)
 -- the columns are what the lines add up to, and how many messages wait
 abbrev pub is_right : Content → AccountRow → Bool
 is_right xs row =
-    int_eq (balance_in row.balance) (balance (lines_of xs row.id))
-    && int_eq row.waiting (pos (length (queue_of xs row.id)))
+    int_eq (balance_in row.balance) (balance (lines_under xs row.id))
+    && int_eq row.waiting (pos (length (queue_under xs row.id)))
 
 -- those of the row with a number, if there is one
 abbrev pub has_right_sums : Content → ℤ → Bool

@@ -1,6 +1,6 @@
 //! What an account counts.
 ghost use Rattle.std.specs.Prelude.{◌≡◌, true};
-ghost use Rattle.sqlaccounts.specs.Accounts.{account_of, sums_are_right};
+ghost use Rattle.sqlaccounts.specs.Accounts.{account_of_rows, sums_are_right};
 ghost use Rattle.sqlaccounts.specs.inner.Changes.{IsChange, IsCounted, counters_in};
 ghost use Rattle.accounts.specs.Counters.{counters_of, with_counters};
 ghost use Rattle.sqlrows.specs.Meanings.{FindsIfRight, Changes};
@@ -19,7 +19,7 @@ pub fn counts<S: Alter>(
     registrar: RegistrarNo,
 ) -> Result<Counters, BookFault>
     ensures { FindsIfRight result (sums_are_right store.old.content)
-        (counters_of (account_of registrar store.old.content)) store.old store.new }
+        (counters_of (account_of_rows registrar store.old.content)) store.old store.new }
 {
     let row = maybe_row(store, registrar)?;
     Ok(counted(row))

@@ -6,8 +6,8 @@ ghost use Rattle.accounts.specs.Entries.{with_lines};
 ghost use Rattle.accounts.specs.Lines as lines;
 ghost use Rattle.accounts.specs.Lines.{in_order};
 ghost use Rattle.basis.specs.Bag.{add, taken};
-ghost use Rattle.sqlaccounts.specs.Accounts.{account_of, balance_in, sums_are_right};
-ghost use Rattle.sqlaccounts.specs.inner.Changes.{AddsLine, IsChange, without_line};
+ghost use Rattle.sqlaccounts.specs.Accounts.{account_of_rows, balance_in, sums_are_right};
+ghost use Rattle.sqlaccounts.specs.inner.Changes.{AddsLine, IsChange, without_line_row};
 ghost use Rattle.sqlcolumns.specs.Numbers.{maybe_moment_column};
 ghost use Rattle.sqlrows.specs.Meanings.{FindsIfRight, Changes};
 ghost use Rattle.states.specs.States.{Makes};
@@ -28,7 +28,7 @@ use states::BookFault;
 /// What a registrar's account has, in whole cents: 0 where it was never opened.
 pub fn balance<S: Alter>(store: &mut RowStore<S>, registrar: RegistrarNo) -> Result<i128, BookFault>
     ensures { FindsIfRight result (sums_are_right store.old.content)
-        (lines.balance (account_of registrar store.old.content).lines) store.old store.new }
+        (lines.balance (account_of_rows registrar store.old.content).lines) store.old store.new }
 {
     let row = maybe_row(store, registrar)?;
     Ok(cents_of(row))
@@ -97,7 +97,7 @@ fn remove<S: Alter>(
     account: &AccountRow,
 ) -> Result<(), BookFault>
     requires { store.old.is_open ≡ true }
-    ensures { Makes result (without_line number account.now store.old.content) store.old store.new }
+    ensures { Makes result (without_line_row number account.now store.old.content) store.old store.new }
 {
     store.remove_lines_by_id(number)?;
     store.put_account(account)?;

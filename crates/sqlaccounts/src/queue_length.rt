@@ -1,7 +1,7 @@
 //! How many messages wait for a registrar, in rows.
 ghost use Rattle.std.specs.Prelude.{◌≡◌, Some, pos, length};
 ghost use Rattle.std.specs.Option.{option_map_or};
-ghost use Rattle.sqlaccounts.specs.Accounts.{account_of, sums_are_right};
+ghost use Rattle.sqlaccounts.specs.Accounts.{account_of_rows, sums_are_right};
 ghost use Rattle.sqlrows.specs.Meanings.{FindsIfRight};
 ghost use Rattle.sqltables.specs.declared.account.AccountRow.{AccountRow};
 
@@ -15,7 +15,7 @@ use states::BookFault;
 /// How many messages wait for a registrar: none where its account was never opened.
 pub fn waiting<S: Alter>(store: &mut RowStore<S>, registrar: RegistrarNo) -> Result<u64, BookFault>
     ensures { FindsIfRight result (sums_are_right store.old.content)
-        (length (account_of registrar store.old.content).queue) store.old store.new }
+        (length (account_of_rows registrar store.old.content).queue) store.old store.new }
 {
     let row = maybe_row(store, registrar)?;
     match exact_of_column(waiting_of(row)) {

@@ -5,8 +5,8 @@ ghost use Rattle.accounts.specs.Lines as lines;
 ghost use Rattle.accounts.specs.Lines.{in_order, swapped_all};
 ghost use Rattle.accounts.specs.declared.line.LineSwap.{LineSwap};
 ghost use Rattle.basis.specs.Bag.{bag_of, remade};
-ghost use Rattle.sqlcolumns.specs.Lines.{line_in};
-ghost use Rattle.sqlaccounts.specs.Accounts.{account_of};
+ghost use Rattle.sqlcolumns.specs.Lines.{line_of_columns};
+ghost use Rattle.sqlaccounts.specs.Accounts.{account_of_rows};
 ghost use Rattle.states.specs.States.{Finds, FindsSome};
 
 use crate::finding::{rows_of, rows_on};
@@ -29,7 +29,7 @@ pub fn lines_on<S: Alter>(
     roid: &Roid,
 ) -> Result<Lines, BookFault>
     ensures { Finds result
-        (filter (lines.is_on roid.now) (account_of registrar store.old.content).lines) store.old
+        (filter (lines.is_on roid.now) (account_of_rows registrar store.old.content).lines) store.old
         store.new }
 {
     let rows = rows_on(store, registrar, roid)?;
@@ -44,7 +44,7 @@ pub fn lines<S: Alter>(
     alloc: Global,
     registrar: RegistrarNo,
 ) -> Result<Lines, BookFault>
-    ensures { Finds result (account_of registrar store.old.content).lines store.old store.new }
+    ensures { Finds result (account_of_rows registrar store.old.content).lines store.old store.new }
 {
     let rows = rows_of(store, registrar)?;
     store.show_consistent();
@@ -54,7 +54,7 @@ pub fn lines<S: Alter>(
 
 /// The lines that rows read as. One that doesn't read is refused.
 fn read(alloc: Global, rows: &[LineRow]) -> Result<Lines, BookFault>
-    ensures { IfOk result (λ lines. lines ≡ bag_of in_order (filter_map line_in rows.now)) }
+    ensures { IfOk result (λ lines. lines ≡ bag_of in_order (filter_map line_of_columns rows.now)) }
 {
     let mut lines = Lines::new(alloc);
     for row in rows {
@@ -75,8 +75,8 @@ pub fn swaps<C: LineChange, S: Alter>(
     change: &C,
 ) -> Result<Seq<LineSwap>, BookFault>
     ensures { FindsSome result
-        (λ swaps. swapped_all swaps (account_of registrar store.old.content).lines
-        ≡ remade in_order (C.changed change.now) (account_of registrar store.old.content).lines)
+        (λ swaps. swapped_all swaps (account_of_rows registrar store.old.content).lines
+        ≡ remade in_order (C.changed change.now) (account_of_rows registrar store.old.content).lines)
         store.old store.new }
 {
     let roid = change.domain();

@@ -25,7 +25,7 @@ use Rattle.sqldomains.specs.Domains.{domains_of}
 use Rattle.sqldomains.proofs.SponsorLemmas.{sponsors-kept}
 use Rattle.sqlterms.specs.Clock.{clock_of}
 use Rattle.sqlterms.specs.Meta.{meta_of}
-use Rattle.sqlterms.specs.Terms.{ids_behind, ids_in, is_unnamed, prices_in, reserved_in, schedule_in, terms_in, terms_made, terms_of}
+use Rattle.sqlterms.specs.Terms.{ids_behind, ids_in, is_unnamed, prices_in, reserved_in, schedule_in, terms_in, terms_made, terms_of_rows}
 use Rattle.sqlderived.specs.Dues.{dues_are_right}
 use Rattle.sqlbook.specs.Meaning.{are_right, stored_of}
 
@@ -101,9 +101,9 @@ same-ids (a ∷ xs) (b ∷ bs) ua ub same ids =
 -- ---- an account is changed
 
 module _ (r : ℕ) (f : Account → Account) (old new : Content) (consistent : IsConsistent old) (after : IsConsistent new) (it : IsChange r f old new) where
-  terms-kept : terms_of new ≡ terms_of old
+  terms-kept : terms_of_rows new ≡ terms_of_rows old
   terms-kept =
-      (λ i. terms_of (record new { metas = it.others.metas i; days = it.others.days i }))
+      (λ i. terms_of_rows (record new { metas = it.others.metas i; days = it.others.days i }))
       ∙ go (meta_of old)
     where
       named-so : (n o : Option AccountRow) → option_map ident_and_held n ≡ option_map ident_and_held o → ident_in n ≡ ident_in o

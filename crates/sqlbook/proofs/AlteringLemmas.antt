@@ -5,7 +5,7 @@ use Rattle.std.specs.Option.{unwrap_or}
 use Rattle.accounts.specs.declared.account.Account.{Account}
 use Rattle.accounts.specs.Account.{empty_account}
 use Rattle.books.specs.Book.{Stored}
-use Rattle.books.specs.Ledgers.{changed_if_there, put}
+use Rattle.books.specs.Ledgers.{changed_if_there, entry_set}
 use Rattle.books.specs.Tables.{with_accounts}
 use Rattle.sqltables.specs.Content.{Content}
 use Rattle.sqltables.specs.inner.Consistent.{IsConsistent}
@@ -37,6 +37,6 @@ pub changed-there : (r : ℕ) (f : Account → Account) (old new : Content) → 
     → (stored_of new ≡ with_accounts (changed_if_there f (accounts_of old) r) (stored_of old)) × (are_right new ≡ are_right old)
 changed-there r f old new consistent after it = (
   account-changed r f old new consistent after it ∙ ap (λ o. with_accounts (insert (accounts_of old) r (f (unwrap_or o empty_account))) (stored_of old)) it.there.1
-      ∙ sym (ap (λ o. with_accounts (put (accounts_of old) r (option_map f o)) (stored_of old)) it.there.1),
+      ∙ sym (ap (λ o. with_accounts (entry_set (accounts_of old) r (option_map f o)) (stored_of old)) it.there.1),
   right-kept r f old new consistent after it,
 )

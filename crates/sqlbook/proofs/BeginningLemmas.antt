@@ -5,7 +5,7 @@ use Rattle.sqlite.proofs.ListingLemmas.{empty_is_sound}
 use Rattle.sqlite_trees.specs.Objects.{catalog_tree}
 use Rattle.sqlite_trees.specs.Tree.{Trees}
 use Rattle.sqlrows.specs.Columns.{no_schema}
-use Rattle.books.specs.Book.{BookState, Stored, nothing}
+use Rattle.books.specs.Book.{BookState, Stored, never_opened}
 use Rattle.books.specs.Kept.{book_state}
 use Rattle.sqltables.specs.Adoption.{IsAdopted, IsTakenAs}
 use Rattle.sqltables.specs.Content.{Content}
@@ -18,7 +18,7 @@ use Rattle.states.specs.declared.readiness.Ready.TheVariants.{Empty, Used, Other
 use Rattle.states.specs.States.{Remains, StateOf}
 use Rattle.sqlbook.specs.Beginning.{IsAdoptedBook, IsFoundNew, IsTaken, IsTakenFrom}
 use Rattle.sqlbook.specs.Meaning.{are_right, stored_of}
-use Rattle.sqlbook.specs.AsBook.{are_all_right, meant, as_book}
+use Rattle.sqlbook.specs.AsBook.{are_all_right, remains_meant, as_book}
 use Rattle.sqlbook.specs.BetweenCalls.{IsBetweenCalls}
 
 taken-as : (r : Ready) (trees : Trees) (x : Content) → IsTakenAs r trees x → IsTaken r trees (stored_of x)
@@ -62,12 +62,12 @@ module _ (trees : Trees) (rows : StateOf Content) (adopted : IsAdopted trees row
     answers = λ e.
         let parts = and_parts rows.is_honest (are_all_right are_right rows.crash_leaves) e in
         clean_if_right parts.0 (right-rows (adopted.answers parts.0) parts.1);
-    leaves = λ e. ap (map (meant stored_of)) (adopted.leaves (clean-rows e));
+    leaves = λ e. ap (map (remains_meant stored_of)) (adopted.leaves (clean-rows e));
   }
 
 -- ---- where no table was ever made
 
-nothing-known : (r : Ready) (trees : Trees) (held : Stored) → trees catalog_tree ≡ [] → IsKnownAs r trees → IsTaken r trees held → (r ≡ Empty) × (held ≡ nothing)
+nothing-known : (r : Ready) (trees : Trees) (held : Stored) → trees catalog_tree ≡ [] → IsKnownAs r trees → IsTaken r trees held → (r ≡ Empty) × (held ≡ never_opened)
 nothing-known Empty trees held none known taken = (refl, taken)
 nothing-known Used trees held none known taken = absurd (some-tables (schema_once trees registry no_schema known.0 (empty_is_sound trees none)))
 nothing-known Other trees held none known taken = absurd (known.0 (empty_is_sound trees none))

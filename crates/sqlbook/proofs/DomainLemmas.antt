@@ -6,7 +6,7 @@ use Rattle.sqlite_rules.specs.Lists.{Has}
 use Rattle.sqlite_typed.specs.Tests.{bytes_eq}
 use Rattle.objects.specs.declared.domain.Domain.{Domain}
 use Rattle.books.specs.Ledgers as store
-use Rattle.books.specs.Tables.{domain_put}
+use Rattle.books.specs.Tables.{domain_set}
 use Rattle.sqltables.specs.declared.account.AccountRow.{AccountRow}
 use Rattle.sqltables.specs.Content.{Content}
 use Rattle.sqltables.specs.declared.domain.DomainRow.{DomainRow}
@@ -14,7 +14,7 @@ use Rattle.sqltables.specs.declared.meta.MetaRow.{MetaRow}
 use Rattle.sqltables.specs.inner.Consistent.{IsConsistent}
 use Rattle.sqlaccounts.specs.Accounts.{accounts_of, row_of, sums_are_right}
 use Rattle.sqldomains.specs.inner.Changes.{IsDomainPut}
-use Rattle.sqldomains.specs.Domains.{domain_of, domains_of}
+use Rattle.sqldomains.specs.Domains.{domain_read, domains_of}
 use Rattle.sqlobjects.proofs.VerdictLemmas.{same-verdict}
 use Rattle.sqlderived.specs.inner.Recounts.{AreAlike, IsRecounted}
 use Rattle.sqlderived.specs.Held.{helds_are_right}
@@ -22,7 +22,7 @@ use Rattle.sqlderived.proofs.KeptLemmas.{held-kept}
 use Rattle.sqlobjects.specs.Objects.{contacts_of, hosts_of}
 use Rattle.sqlterms.specs.Clock.{clock_of}
 use Rattle.sqlterms.specs.Meta.{meta_of}
-use Rattle.sqlterms.specs.Terms.{ids_in, prices_in, reserved_in, schedule_in, terms_in, terms_made, terms_of}
+use Rattle.sqlterms.specs.Terms.{ids_in, prices_in, reserved_in, schedule_in, terms_in, terms_made, terms_of_rows}
 use Rattle.sqlbook.specs.Meaning.{stored_of}
 use Rattle.sqlbook.proofs.AccountLemmas.{ident_in, same-ids}
 use Rattle.sqlbook.proofs.ObjectLemmas.{IsOfReading, same-put}
@@ -31,8 +31,8 @@ use Rattle.sqlbook.proofs.ObjectLemmas.{IsOfReading, same-put}
 
 module _ (name : List ℕ) (before after : Option Domain) (due : Option ℕ) (old mid new : Content) (consistent : IsConsistent old) (counted : IsRecounted before after old mid) (there : get (domains_of old) name ≡ before)
     (it : IsDomainPut name after due mid new) where
-  reads-mid : (row : DomainRow) → domain_of mid row ≡ domain_of old row
-  reads-mid row = ap (λ (xs : Content). domain_of xs row) counted.rest
+  reads-mid : (row : DomainRow) → domain_read mid row ≡ domain_read old row
+  reads-mid row = ap (λ (xs : Content). domain_read xs row) counted.rest
 
   domains-mid : mid.domains ≡ old.domains
   domains-mid = ap (λ (xs : Content). xs.domains) counted.rest
@@ -67,9 +67,9 @@ module _ (name : List ℕ) (before after : Option Domain) (due : Option ℕ) (ol
   ids-mid : ids_in mid.accounts ≡ ids_in old.accounts
   ids-mid = same-ids mid.accounts old.accounts it.consistent.0.keyed.accounts consistent.keyed.accounts (λ id. alike-ident (row_of old id) (row_of mid id) (counted.rows id)) []
 
-  terms-mid : terms_of new ≡ terms_of old
+  terms-mid : terms_of_rows new ≡ terms_of_rows old
   terms-mid =
-      (λ i. terms_of (record new { metas = metas-now i; days = days-now i }))
+      (λ i. terms_of_rows (record new { metas = metas-now i; days = days-now i }))
       ∙ ap (λ rows. terms_in (meta_of old) old.days rows) it.accounts
       ∙ go (meta_of old)
     where
@@ -77,12 +77,12 @@ module _ (name : List ℕ) (before after : Option Domain) (due : Option ℕ) (ol
       go None = refl
       go (Some row) = λ i. cond (length row.zone == 0) None (terms_made row.zone (reserved_in row.reserved) (schedule_in row old.days) (prices_in row) (ids-mid i))
 
-  pub domain-changed : stored_of new ≡ domain_put name after (stored_of old)
+  pub domain-changed : stored_of new ≡ domain_set name after (stored_of old)
   domain-changed = λ i. record {
     registry = record {
       contacts = (it.contacts ∙ ap contacts_of counted.rest) i;
       hosts = (it.hosts ∙ ap hosts_of counted.rest) i;
-      domains = (it.domains ∙ same-put (domains_of mid) name after ∙ ap (λ m. store.put m name after) (ap domains_of counted.rest)) i;
+      domains = (it.domains ∙ same-put (domains_of mid) name after ∙ ap (λ m. store.entry_set m name after) (ap domains_of counted.rest)) i;
       accounts = ((λ k. accounts_of (record new { accounts = it.accounts k; lines = it.lines k; messages = it.messages k })) ∙ counted.accounts) i;
       clock = clock_of (record new { metas = metas-now i });
     };

@@ -17,25 +17,25 @@ use Rattle.objects.specs.declared.domain.Domain.{Domain}
 use Rattle.objects.specs.declared.host.Host.{Host}
 use Rattle.policy.specs.declared.schedule.Schedule.{Schedule}
 use Rattle.books.specs.Ledgers as store
-use Rattle.books.specs.Tables.{contact_put, host_put}
+use Rattle.books.specs.Tables.{contact_set, host_set}
 use Rattle.sqltables.specs.Content.{Content}
 use Rattle.sqltables.specs.Readiness.{may_be_numbered}
 use Rattle.sqltables.specs.declared.domain.DomainRow.{DomainRow}
 use Rattle.sqlaccounts.specs.Accounts.{accounts_of, sums_are_right}
-use Rattle.sqldomains.specs.Domains.{domain_of}
+use Rattle.sqldomains.specs.Domains.{domain_read}
 use Rattle.sqldomains.proofs.FrameLemmas.{contact-leaves-domains, contact-leaves-reading, host-leaves-domains, host-leaves-reading}
 use Rattle.sqldomains.proofs.SponsorLemmas.{contact-sponsors, host-sponsors}
 use Rattle.sqlderived.proofs.KeptLemmas.{accounts-kept}
-use Rattle.sqlobjects.specs.inner.Changes.{IsContactPut, IsHostPut, put}
+use Rattle.sqlobjects.specs.inner.Changes.{IsContactPut, IsHostPut, with_named}
 use Rattle.sqlobjects.proofs.VerdictLemmas.{all-alike}
 use Rattle.sqlterms.specs.Clock.{clock_of}
-use Rattle.sqlterms.specs.Terms.{days_of, terms_of}
+use Rattle.sqlterms.specs.Terms.{days_of_rows, terms_of_rows}
 use Rattle.sqlderived.specs.Dues.{dues_are_right, has_right_due, is_due_right}
 use Rattle.sqlderived.specs.Redates.{is_live_right}
 use Rattle.sqlbook.specs.Meaning.{are_right, stored_of}
 
 -- a put over rows is a put of a map by name
-pub same-put : {X : Type 0} (m : FinMap (slice_cmp nat_cmp) X) (name : List ℕ) (value : Option X) → put m name value ≡ store.put m name value
+pub same-put : {X : Type 0} (m : FinMap (slice_cmp nat_cmp) X) (name : List ℕ) (value : Option X) → with_named m name value ≡ store.entry_set m name value
 same-put m name None = refl
 same-put m name (Some x) = refl
 
@@ -44,11 +44,11 @@ same-put m name (Some x) = refl
 -- whether a row is right hangs on what it reads as, and on the lengths that were put down
 abbrev pub IsOfReading : (Content → DomainRow → Bool) → Type 0
 IsOfReading right =
-    (old new : Content) → new.metas ≡ old.metas → new.days ≡ old.days → (row : DomainRow) → domain_of new row ≡ domain_of old row → right new row ≡ right old row
+    (old new : Content) → new.metas ≡ old.metas → new.days ≡ old.days → (row : DomainRow) → domain_read new row ≡ domain_read old row → right new row ≡ right old row
 
 pub due-of-reading : IsOfReading has_right_due
 due-of-reading old new metas days row reads = λ i.
-    option_map_or (λ ds. option_map_or (λ d. int_eq row.due (pos (capped (due_at (rules_with ds) d)))) (reads i) false) (days_of (record new { metas = metas i; days = days i })) true
+    option_map_or (λ ds. option_map_or (λ d. int_eq row.due (pos (capped (due_at (rules_with ds) d)))) (reads i) false) (days_of_rows (record new { metas = metas i; days = days i })) true
 
 pub live-of-reading : IsOfReading is_live_right
 live-of-reading old new metas days row reads =
@@ -56,18 +56,18 @@ live-of-reading old new metas days row reads =
 
 -- where the rows are the same and read as before
 pub rights-where : (right : Content → DomainRow → Bool) → IsOfReading right → (old new : Content) → new.metas ≡ old.metas → new.days ≡ old.days → new.domains ≡ old.domains
-    → ((row : DomainRow) → Has old.domains row → domain_of new row ≡ domain_of old row) → list_all (right new) new.domains ≡ list_all (right old) old.domains
+    → ((row : DomainRow) → Has old.domains row → domain_read new row ≡ domain_read old row) → list_all (right new) new.domains ≡ list_all (right old) old.domains
 rights-where right by old new metas days domains reads =
     ap (list_all (right new)) domains ∙ all-alike (right old) (right new) old.domains (λ row there. by old new metas days row (reads row there))
 
-pub dues-where : (old new : Content) → new.metas ≡ old.metas → new.days ≡ old.days → new.domains ≡ old.domains → ((row : DomainRow) → Has old.domains row → domain_of new row ≡ domain_of old row) → dues_are_right new ≡ dues_are_right old
+pub dues-where : (old new : Content) → new.metas ≡ old.metas → new.days ≡ old.days → new.domains ≡ old.domains → ((row : DomainRow) → Has old.domains row → domain_read new row ≡ domain_read old row) → dues_are_right new ≡ dues_are_right old
 dues-where = rights-where has_right_due due-of-reading
 
 -- and where each is due as before
 pub dues-alike : (old new : Content) → new.metas ≡ old.metas → new.days ≡ old.days → new.domains ≡ old.domains → ((days : Schedule) (row : DomainRow) → is_due_right days new row ≡ is_due_right days old row) → dues_are_right new ≡ dues_are_right old
 dues-alike old new metas days domains alike =
     ap (list_all (has_right_due new)) domains
-    ∙ all-alike (has_right_due old) (has_right_due new) old.domains (λ row there i. option_map_or (λ ds. alike ds row i) (days_of (record new { metas = metas i; days = days i })) true)
+    ∙ all-alike (has_right_due old) (has_right_due new) old.domains (λ row there i. option_map_or (λ ds. alike ds row i) (days_of_rows (record new { metas = metas i; days = days i })) true)
 
 module _ (name : List ℕ) (value : Option Contact) (old new : Content) (it : IsContactPut name value old new) where
   pub contact-right : are_right new ≡ are_right old
@@ -76,7 +76,7 @@ module _ (name : List ℕ) (value : Option Contact) (old new : Content) (it : Is
       && (sums_are_right (record new { accounts = it.accounts i; lines = it.lines i; messages = it.messages i })
       && (accounts-kept old new (contact-leaves-domains name value old new it) it.accounts i && (dues-where old new it.metas it.days it.domains (contact-leaves-reading name value old new it) i && contact-sponsors name value old new it i)))
 
-  pub contact-changed : stored_of new ≡ contact_put name value (stored_of old)
+  pub contact-changed : stored_of new ≡ contact_set name value (stored_of old)
   contact-changed = λ i. record {
     registry = record {
       contacts = (it.contacts ∙ same-put _ name value) i;
@@ -85,7 +85,7 @@ module _ (name : List ℕ) (value : Option Contact) (old new : Content) (it : Is
       accounts = accounts_of (record new { accounts = it.accounts i; lines = it.lines i; messages = it.messages i });
       clock = clock_of (record new { metas = it.metas i });
     };
-    terms = terms_of (record new { metas = it.metas i; days = it.days i; accounts = it.accounts i });
+    terms = terms_of_rows (record new { metas = it.metas i; days = it.days i; accounts = it.accounts i });
   }
 
 module _ (name : List ℕ) (value : Option Host) (old new : Content) (it : IsHostPut name value old new) where
@@ -95,7 +95,7 @@ module _ (name : List ℕ) (value : Option Host) (old new : Content) (it : IsHos
       && (sums_are_right (record new { accounts = it.accounts i; lines = it.lines i; messages = it.messages i })
       && (accounts-kept old new (host-leaves-domains name value old new it) it.accounts i && (dues-where old new it.metas it.days it.domains (host-leaves-reading name value old new it) i && host-sponsors name value old new it i)))
 
-  pub host-changed : stored_of new ≡ host_put name value (stored_of old)
+  pub host-changed : stored_of new ≡ host_set name value (stored_of old)
   host-changed = λ i. record {
     registry = record {
       contacts = it.contacts i;
@@ -104,5 +104,5 @@ module _ (name : List ℕ) (value : Option Host) (old new : Content) (it : IsHos
       accounts = accounts_of (record new { accounts = it.accounts i; lines = it.lines i; messages = it.messages i });
       clock = clock_of (record new { metas = it.metas i });
     };
-    terms = terms_of (record new { metas = it.metas i; days = it.days i; accounts = it.accounts i });
+    terms = terms_of_rows (record new { metas = it.metas i; days = it.days i; accounts = it.accounts i });
   }

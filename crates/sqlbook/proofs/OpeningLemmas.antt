@@ -18,7 +18,7 @@ use Rattle.sqlderived.proofs.KeptLemmas.{opening-kept}
 use Rattle.sqlobjects.specs.Objects.{contacts_of, hosts_of}
 use Rattle.sqlterms.specs.Clock.{clock_of}
 use Rattle.sqlterms.specs.Meta.{meta_of}
-use Rattle.sqlterms.specs.Terms.{ids_behind, ids_in, is_unnamed, prices_in, reserved_in, schedule_in, terms_in, terms_made, terms_of}
+use Rattle.sqlterms.specs.Terms.{ids_behind, ids_in, is_unnamed, prices_in, reserved_in, schedule_in, terms_in, terms_made, terms_of_rows}
 use Rattle.sqlderived.specs.Dues.{dues_are_right}
 use Rattle.sqlbook.specs.Meaning.{are_right, stored_of}
 use Rattle.sqlbook.proofs.AccountLemmas.{ident_in, key, not-there, same-ids}
@@ -96,8 +96,8 @@ module _ (r : ℕ) (old new : Content) (consistent : IsConsistent old) (after : 
       (λ id. ap ident_in (get-filter new.accounts id after.keyed.accounts) ∙ named-at id (int_eq (pos r) id) refl ∙ sym (ap ident_in (get-filter old.accounts id consistent.keyed.accounts))) []
       ∙ ids-named old.accounts []
 
-  terms-opened : terms_of new ≡ terms_of old
-  terms-opened = (λ i. terms_of (record new { metas = it.others.metas i; days = it.others.days i })) ∙ go (meta_of old)
+  terms-opened : terms_of_rows new ≡ terms_of_rows old
+  terms-opened = (λ i. terms_of_rows (record new { metas = it.others.metas i; days = it.others.days i })) ∙ go (meta_of old)
     where
       go : (m : Option MetaRow) → terms_in m old.days new.accounts ≡ terms_in m old.days old.accounts
       go None = refl

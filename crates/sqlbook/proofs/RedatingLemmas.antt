@@ -13,13 +13,13 @@ use Rattle.objects.specs.Domains.{expiry}
 use Rattle.objects.specs.declared.domain.Deletion.{Deletion}
 use Rattle.objects.specs.declared.domain.Domain.{Domain}
 use Rattle.policy.specs.declared.schedule.Schedule.{Schedule}
-use Rattle.books.specs.Ledgers.{put}
+use Rattle.books.specs.Ledgers.{entry_set}
 use Rattle.books.specs.Tables.{with_domains}
 use Rattle.books.proofs.PutLemmas.{put-back, put-put}
 use Rattle.sqltables.specs.Content.{Content}
 use Rattle.sqltables.specs.declared.domain.DomainRow.{DomainRow}
 use Rattle.sqltables.specs.inner.Consistent.{IsConsistent}
-use Rattle.sqldomains.specs.Domains.{domain_of, domains_of}
+use Rattle.sqldomains.specs.Domains.{domain_read, domains_of}
 use Rattle.sqlderived.specs.Redates.{is_live_right}
 use Rattle.sqlbook.specs.Meaning.{stored_of}
 use Rattle.sqlbook.specs.inner.Replacing.{IsCheckedDomain, IsReplaced}
@@ -28,14 +28,14 @@ use Rattle.sqlbook.proofs.ObjectLemmas.{live-of-reading}
 use Rattle.sqlbook.proofs.ReplacingLemmas.{reading-is, reads-after, replaced, replaced-days, replaced-lines, replaced-right}
 
 -- what is put where it stands
-found-put : (m : FinMap (slice_cmp nat_cmp) Domain) (name : List ℕ) (d : Domain) → get m name ≡ Some d → put m name (Some d) ≡ m
+found-put : (m : FinMap (slice_cmp nat_cmp) Domain) (name : List ℕ) (d : Domain) → get m name ≡ Some d → entry_set m name (Some d) ≡ m
 found-put m name d is =
     sym (put-put (slice_cmp nat_cmp) nat_list_cmp_total (slice_cmp-IsAntisymmetric nat_cmp-IsAntisymmetric) m name (Some d) (Some d))
-    ∙ ap (put (put m name (Some d)) name) (sym is)
+    ∙ ap (entry_set (entry_set m name (Some d)) name) (sym is)
     ∙ put-back (slice_cmp nat_cmp) nat_list_cmp_total (slice_cmp-IsAntisymmetric nat_cmp-IsAntisymmetric) m name (Some d)
 
 -- the row of a deleted domain is right by any lengths
-deleted-right : (xs : Content) (row : DomainRow) (o : Option Domain) → domain_of xs row ≡ o → IsDeleted o → is_live_right xs row ≡ true
+deleted-right : (xs : Content) (row : DomainRow) (o : Option Domain) → domain_read xs row ≡ o → IsDeleted o → is_live_right xs row ≡ true
 deleted-right xs row None reads is = absurd is
 deleted-right xs row (Some d) reads is =
     ap (λ o. option_map_or (λ (x : Domain). is_some x.deletion || int_eq row.due (pos (capped (earlier (expiry x) (completes_at x.transfer))))) o false) reads

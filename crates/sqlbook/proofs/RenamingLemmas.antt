@@ -17,19 +17,19 @@ use Rattle.objects.specs.declared.host.Host.{Host}
 use Rattle.objects.specs.Sight.{is_party}
 use Rattle.policy.specs.declared.schedule.Schedule.{Schedule}
 use Rattle.decisions.specs.Changes.{renamed, with_host_renamed}
-use Rattle.books.specs.Tables.{host_moved, host_put, with_domains}
+use Rattle.books.specs.Tables.{host_moved, host_set, with_domains}
 use Rattle.sqltables.specs.declared.account.AccountRow.{AccountRow}
 use Rattle.sqltables.specs.Content.{Content}
 use Rattle.sqltables.specs.declared.domain.DomainRow.{DomainRow}
 use Rattle.sqltables.specs.Readiness.{may_be_numbered}
 use Rattle.sqlaccounts.specs.Accounts.{accounts_of, row_of, sums_are_right}
-use Rattle.sqldomains.specs.Domains.{domain_of, domains_of}
+use Rattle.sqldomains.specs.Domains.{domain_read, domains_of}
 use Rattle.sqldomains.proofs.RenamedLemmas.{domains-after, reading-after}
 use Rattle.sqlderived.specs.Dues.{dues_are_right}
 use Rattle.sqlderived.specs.Held.{held_of, helds_are_right}
 use Rattle.sqlobjects.specs.inner.Changes.{IsRowRenamed}
 use Rattle.sqlterms.specs.Clock.{clock_of}
-use Rattle.sqlterms.specs.Terms.{terms_of}
+use Rattle.sqlterms.specs.Terms.{terms_of_rows}
 use Rattle.sqlbook.specs.Meaning.{are_right, stored_of}
 use Rattle.sqlbook.proofs.ObjectLemmas.{dues-alike}
 use Rattle.sqlbook.proofs.PlacedLemmas.{IsInPlaces, none-placed, one-placed, renamed-placed}
@@ -43,7 +43,7 @@ module _ (from : List ℕ) (h : Host) (xs ys : Content) (it : IsRowRenamed from 
   abbrev after : Domain → Domain
   after d = with_host_renamed from h.name d
 
-  reading : (row : DomainRow) → domain_of ys row ≡ option_map after (domain_of xs row)
+  reading : (row : DomainRow) → domain_read ys row ≡ option_map after (domain_read xs row)
   reading = reading-after from h xs ys it (renamed from h.name) (IsInPlaces h.name) (none-placed h.name) refl (λ n l before other. one-placed h.name n l before other) (λ n l before other. renamed-placed from h.name l before n other)
 
   domains : domains_of ys ≡ map_values (λ name. after) (domains_of xs)
@@ -75,7 +75,7 @@ module _ (from : List ℕ) (h : Host) (xs ys : Content) (it : IsRowRenamed from 
 
   -- and each is due when it was
   dues : dues_are_right ys ≡ dues_are_right xs
-  dues = dues-alike xs ys it.metas it.days it.domains (λ days row. ap (λ o. option_map_or (λ d. int_eq row.due (pos (capped (due_at (rules_with days) d)))) o false) (reading row) ∙ go days row (domain_of xs row))
+  dues = dues-alike xs ys it.metas it.days it.domains (λ days row. ap (λ o. option_map_or (λ d. int_eq row.due (pos (capped (due_at (rules_with days) d)))) o false) (reading row) ∙ go days row (domain_read xs row))
     where
       same : (days : Schedule) (d : Domain) (o : Option Deletion) → due_of (rules_with days) o (after d) ≡ due_of (rules_with days) o d
       same days d None = refl
@@ -90,7 +90,7 @@ module _ (from : List ℕ) (h : Host) (xs ys : Content) (it : IsRowRenamed from 
       may_be_numbered (it.metas i)
       && (sums_are_right (record ys { accounts = it.accounts i; lines = it.lines i; messages = it.messages i }) && (helds i && (dues i && it.sponsors i)))
 
-  row-changed : stored_of ys ≡ with_domains (map_values (λ name. after) (domains_of xs)) (host_put h.name (Some h) (host_put from None (stored_of xs)))
+  row-changed : stored_of ys ≡ with_domains (map_values (λ name. after) (domains_of xs)) (host_set h.name (Some h) (host_set from None (stored_of xs)))
   row-changed = λ i. record {
     registry = record {
       contacts = it.contacts i;
@@ -99,7 +99,7 @@ module _ (from : List ℕ) (h : Host) (xs ys : Content) (it : IsRowRenamed from 
       accounts = accounts_of (record ys { accounts = it.accounts i; lines = it.lines i; messages = it.messages i });
       clock = clock_of (record ys { metas = it.metas i });
     };
-    terms = terms_of (record ys { metas = it.metas i; days = it.days i; accounts = it.accounts i });
+    terms = terms_of_rows (record ys { metas = it.metas i; days = it.days i; accounts = it.accounts i });
   }
 
 pub row-renamed : (from : List ℕ) (h : Host) (xs ys : Content) → IsRowRenamed from h xs ys → stored_of ys ≡ host_moved from h (stored_of xs)

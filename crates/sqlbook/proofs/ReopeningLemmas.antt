@@ -23,25 +23,25 @@ use Rattle.sqltables.proofs.ReopeningLemmas.{reopened}
 use Rattle.states.specs.declared.readiness.Ready.{Ready}
 use Rattle.states.specs.declared.readiness.Ready.TheVariants.{Empty, Used, Other}
 use Rattle.states.specs.States.{Has, Remains, StateOf}
-use Rattle.sqlterms.specs.Terms.{terms_of}
+use Rattle.sqlterms.specs.Terms.{terms_of_rows}
 use Rattle.sqlbook.specs.Files.{IsFoundIn}
 use Rattle.sqlbook.specs.Meaning.{are_right, stored_of}
 use Rattle.books.specs.Reopening.{IsFoundAgain, IsReopened}
-use Rattle.sqlbook.specs.AsBook.{are_all_right, meant, as_book}
+use Rattle.sqlbook.specs.AsBook.{are_all_right, remains_meant, as_book}
 
 one-right : (leaves : List (Remains Content)) (left : Remains Content) → Has leaves left → are_all_right are_right leaves ≡ true → are_right left.content ≡ true
 one-right [] left h e = absurd h
 one-right (one ∷ leaves) left (inl is) e = ap (λ (r : Remains Content). are_right r.content) is ∙ (and_parts (are_right one.content) (are_all_right are_right leaves) e).0
 one-right (one ∷ leaves) left (inr h) e = one-right leaves left h (and_parts (are_right one.content) (are_all_right are_right leaves) e).1
 
-has-meant : (leaves : List (Remains Content)) (left : Remains Content) → Has leaves left → Has (map (meant stored_of) leaves) (meant stored_of left)
+has-meant : (leaves : List (Remains Content)) (left : Remains Content) → Has leaves left → Has (map (remains_meant stored_of) leaves) (remains_meant stored_of left)
 has-meant [] left h = absurd h
-has-meant (one ∷ leaves) left (inl is) = inl (ap (meant stored_of) is)
+has-meant (one ∷ leaves) left (inl is) = inl (ap (remains_meant stored_of) is)
 has-meant (one ∷ leaves) left (inr h) = inr (has-meant leaves left h)
 
 -- a registry that was opened has a row of meta, so the row has the number
-numbered-if : (xs : Content) (terms : Terms) (metas : List MetaRow) → xs.metas ≡ metas → may_be_numbered metas ≡ true → terms_of xs ≡ Some terms → is_numbered metas ≡ true
-numbered-if xs terms [] is e some = absurd (let never : ◌≡◌ {A = Option Terms} None (Some terms) = sym (ap (λ rows. terms_of (record xs { metas = rows })) is) ∙ some in cc)
+numbered-if : (xs : Content) (terms : Terms) (metas : List MetaRow) → xs.metas ≡ metas → may_be_numbered metas ≡ true → terms_of_rows xs ≡ Some terms → is_numbered metas ≡ true
+numbered-if xs terms [] is e some = absurd (let never : ◌≡◌ {A = Option Terms} None (Some terms) = sym (ap (λ rows. terms_of_rows (record xs { metas = rows })) is) ∙ some in cc)
 numbered-if xs terms (meta ∷ more) is e some = e
 
 found-again : (new : StateOf Content) (refused : ℕ) (left : Remains Content) → are_right left.content ≡ true → new.is_clean ≡ true → new.before ≡ new.content
@@ -66,7 +66,7 @@ pub book-reopened : (old : StateOf Content) (may_leave : Trees → Type 0) (refu
 book-reopened old may_leave refused again covers honest trees may new adopted sure =
     let it = reopened old.crash_leaves may_leave trees new covers may adopted sure in
     let right = one-right old.crash_leaves it.0 it.1 (and_parts old.is_honest (are_all_right are_right old.crash_leaves) honest).1 in
-    (meant stored_of it.0, has-meant old.crash_leaves it.0 it.1, found-again new again it.0 right sure adopted.before it.2)
+    (remains_meant stored_of it.0, has-meant old.crash_leaves it.0 it.1, found-again new again it.0 right sure adopted.before it.2)
 
 -- The same of files: where they hold what a crash could leave, and were opened, and adopted.
 pub file-reopened : {D : Type 0} {g : Ghosts D} (it : FileStore D g) → IsTrue (view it).is_numbered → AreDatabases (recovers it)

@@ -16,7 +16,7 @@ use Rattle.lifecycle.specs.Lapse.{due_at}
 use Rattle.lifecycle.specs.Periods.{rules_with}
 use Rattle.objects.specs.declared.domain.Domain.{Domain}
 use Rattle.policy.specs.declared.schedule.Schedule.{Schedule}
-use Rattle.books.specs.Tables.{domain_put}
+use Rattle.books.specs.Tables.{domain_set}
 use Rattle.sqltables.specs.Content.{Content}
 use Rattle.sqltables.specs.Readiness.{may_be_numbered}
 use Rattle.sqltables.specs.Domain as table
@@ -24,7 +24,7 @@ use Rattle.sqltables.specs.declared.domain.DomainRow.{DomainRow}
 use Rattle.sqltables.specs.declared.host.HostRow.{HostRow}
 use Rattle.sqltables.specs.inner.Consistent.{IsConsistent}
 use Rattle.sqlrows.specs.Read.{first_read, or_else}
-use Rattle.sqldomains.specs.Domains.{domain_of, domains_of}
+use Rattle.sqldomains.specs.Domains.{domain_read, domains_of}
 use Rattle.sqldomains.specs.inner.Changes.{IsDomainPut, sponsor_in}
 use Rattle.sqldomains.proofs.FoundLemmas.{domain-named}
 use Rattle.sqldomains.proofs.FrameLemmas.{sponsors-leave-domains, sponsors-leave-reading}
@@ -33,12 +33,12 @@ use Rattle.sqlaccounts.specs.Accounts.{accounts_of, sums_are_right}
 use Rattle.sqlderived.specs.Held.{helds_are_right}
 use Rattle.sqlderived.proofs.KeptLemmas.{accounts-kept}
 use Rattle.sqlobjects.proofs.PutLemmas.{only_named}
-use Rattle.sqlobjects.specs.inner.Changes.{put}
+use Rattle.sqlobjects.specs.inner.Changes.{with_named}
 use Rattle.sqlobjects.specs.Objects.{contacts_of}
 use Rattle.sqlobjects.specs.Sponsors.{sponsors_are_right}
 use Rattle.sqlterms.specs.Clock.{clock_of}
 use Rattle.sqlderived.specs.Dues.{has_right_due, is_due_right}
-use Rattle.sqlterms.specs.Terms.{days_of, terms_of}
+use Rattle.sqlterms.specs.Terms.{days_of_rows, terms_of_rows}
 use Rattle.sqlbook.specs.Meaning.{are_right, stored_of}
 use Rattle.states.specs.declared.fault.BookFault.{BookFault}
 use Rattle.states.specs.States.{FindsSome, Reads, StateOf}
@@ -50,10 +50,10 @@ use Rattle.sqlbook.proofs.ObjectLemmas.{IsOfReading, due-of-reading, rights-wher
 
 -- ---- what the row of a name reads as
 
-pub reading-is : (xs : Content) (row : DomainRow) → IsConsistent xs → Has xs.domains row → domain_of xs row ≡ get (domains_of xs) row.name
+pub reading-is : (xs : Content) (row : DomainRow) → IsConsistent xs → Has xs.domains row → domain_read xs row ≡ get (domains_of xs) row.name
 reading-is xs row consistent there =
     let alone = only_named table.domains.key (λ (r : DomainRow). r.name) xs.domains row consistent.keyed.domains consistent.named.domains there in
-    sym (alone-read (domain_of xs row)) ∙ sym (ap (first_read (domain_of xs)) alone) ∙ domain-named xs row.name
+    sym (alone-read (domain_read xs row)) ∙ sym (ap (first_read (domain_read xs)) alone) ∙ domain-named xs row.name
   where
     alone-read : (o : Option Domain) → or_else o None ≡ o
     alone-read None = refl
@@ -62,7 +62,7 @@ reading-is xs row consistent there =
 at-itself : (name : List ℕ) → eq_by_cmp (slice_cmp nat_cmp) name name ≡ true
 at-itself name = (eq_by_cmp_equiv nat_list_cmp_total).refl name
 
-get-put : (m : FinMap (slice_cmp nat_cmp) Domain) (name : List ℕ) (value : Option Domain) → get (put m name value) name ≡ value
+get-put : (m : FinMap (slice_cmp nat_cmp) Domain) (name : List ℕ) (value : Option Domain) → get (with_named m name value) name ≡ value
 get-put m name None = get-remove nat_list_cmp_total m name name ∙ ap (λ b. cond b None (get m name)) (at-itself name)
 get-put m name (Some d) = get-insert nat_list_cmp_total m name d name ∙ ap (λ b. cond b (Some d) (get m name)) (at-itself name)
 
@@ -78,7 +78,7 @@ module _ (name : List ℕ) (right : Content → DomainRow → Bool) (after : Opt
   put-it : IsDomainPut name after (due_with after due) there.exchanged.mid new
   put-it = there.exchanged.put
 
-  pub reads-after : (row : DomainRow) → Has new.domains row → row.name ≡ name → domain_of new row ≡ after
+  pub reads-after : (row : DomainRow) → Has new.domains row → row.name ≡ name → domain_read new row ≡ after
   reads-after row here named = reading-is new row put-it.consistent.1 here ∙ ap (get (domains_of new)) named ∙ ap (λ m. get m name) put-it.domains ∙ get-put (domains_of there.exchanged.mid) name after
 
   pub due-after : (row : DomainRow) → Has new.domains row → row.name ≡ name → Some row.due ≡ option_map moment_column (due_with after due)
@@ -103,7 +103,7 @@ module _ (name : List ℕ) (right : Content → DomainRow → Bool) (after : Opt
       accounts = accounts_of (it.followed.rest i);
       clock = clock_of (it.followed.rest i);
     };
-    terms = terms_of (it.followed.rest i);
+    terms = terms_of_rows (it.followed.rest i);
   }
 
   sponsors-right : sponsors_are_right new ≡ sponsors_are_right old
@@ -129,11 +129,11 @@ module _ (name : List ℕ) (right : Content → DomainRow → Bool) (after : Opt
     pub replaced-right : are_right_by right new ≡ are_right_by right old
     replaced-right = λ i. may_be_numbered (metas-same i) && (sums-same i && (held-same i && (rights-same i && sponsors-right i)))
 
-  pub replaced : stored_of new ≡ domain_put name after (stored_of old)
-  replaced = domain-changed name there.before after (due_with after due) moved there.exchanged.mid new there.consistent there.exchanged.counted there.checked.domain_is put-it ∙ ap (domain_put name after) stored-moved
+  pub replaced : stored_of new ≡ domain_set name after (stored_of old)
+  replaced = domain-changed name there.before after (due_with after due) moved there.exchanged.mid new there.consistent there.exchanged.counted there.checked.domain_is put-it ∙ ap (domain_set name after) stored-moved
 
-  pub replaced-days : days_of new ≡ days_of old
-  replaced-days = λ i. days_of (record new {
+  pub replaced-days : days_of_rows new ≡ days_of_rows old
+  replaced-days = λ i. days_of_rows (record new {
     metas = (put-it.metas ∙ ap (λ (xs : Content). xs.metas) there.exchanged.counted.rest ∙ ap (λ (xs : Content). xs.metas) it.followed.rest) i;
     days = (put-it.days ∙ ap (λ (xs : Content). xs.days) there.exchanged.counted.rest ∙ ap (λ (xs : Content). xs.days) it.followed.rest) i;
   })
@@ -144,7 +144,7 @@ module _ (name : List ℕ) (right : Content → DomainRow → Bool) (after : Opt
 -- ---- a domain that is due when its row says
 
 pub under-right : (days : Schedule) (xs : Content) (row : DomainRow) → IsUnder days xs → is_due_right days xs row ≡ true → has_right_due xs row ≡ true
-under-right days xs row under is = go (days_of xs) under
+under-right days xs row under is = go (days_of_rows xs) under
   where
     go : (o : Option Schedule) → IfSome o (λ d. d ≡ days) → option_map_or (λ ds. is_due_right ds xs row) o true ≡ true
     go None e = refl

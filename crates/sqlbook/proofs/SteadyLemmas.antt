@@ -4,7 +4,7 @@ use Rattle.std.proofs.lemmas.Bool.{and_parts}
 use Rattle.states.specs.declared.fault.BookFault.{BookFault}
 use Rattle.states.specs.States.{Closes, Ends, Fails, Has, IsIdle, Keeps, Notes, Remains, StateOf, holding}
 use Rattle.states.proofs.LeavingLemmas.{has-alone, has-either}
-use Rattle.sqlbook.specs.AsBook.{are_all_right, meant, as_book}
+use Rattle.sqlbook.specs.AsBook.{are_all_right, remains_meant, as_book}
 use Rattle.sqlbook.specs.BetweenCalls.{UndoneIfFault, IsBetweenCalls}
 
 both-true : (a b : Bool) → a ≡ true → b ≡ true → (a && b) ≡ true
@@ -27,9 +27,9 @@ module _ {C : Type 0} (right : C → Bool) where
       three true b c = refl
       three false b c = refl
 
-meant-more : {C X : Type 0} (means : C → X) (leaves : List (Remains C)) (left : Remains C) → map (meant means) (leaves ++ left ∷ []) ≡ map (meant means) leaves ++ meant means left ∷ []
+meant-more : {C X : Type 0} (means : C → X) (leaves : List (Remains C)) (left : Remains C) → map (remains_meant means) (leaves ++ left ∷ []) ≡ map (remains_meant means) leaves ++ remains_meant means left ∷ []
 meant-more means [] left = refl
-meant-more means (one ∷ leaves) left = ap (λ l. meant means one ∷ l) (meant-more means leaves left)
+meant-more means (one ∷ leaves) left = ap (λ l. remains_meant means one ∷ l) (meant-more means leaves left)
 
 module _ {C X : Type 0} (means : C → X) (right : C → Bool) (is_made : Bool) (old : StateOf C) (steady : IsBetweenCalls is_made right old) where
   -- ---- what was held is kept
@@ -63,7 +63,7 @@ module _ {C X : Type 0} (means : C → X) (right : C → Bool) (is_made : Bool) 
           let p = and_parts new.is_honest (are_all_right right new.crash_leaves) e in
           let was = keeps.answered p.0 in
           both-true old.is_clean (right old.before) was (sym (steady.sums was) ∙ sym right-kept ∙ p.1);
-      leaves = λ left h. has-alone (holding (means old.content)) left (subst (λ l. Has (map (meant means) l) left) noted h);
+      leaves = λ left h. has-alone (holding (means old.content)) left (subst (λ l. Has (map (remains_meant means) l) left) noted h);
       ready = keeps.ready;
     }
 
@@ -104,9 +104,9 @@ module _ {C X : Type 0} (means : C → X) (right : C → Bool) (is_made : Bool) 
           let was = fails.answered (closes.leaves.honest p.0) in
           both-true old.is_clean (right old.before) was (sym (steady.leaves was) ∙ right-before p.1);
       leaves = λ left h. elim noted [
-        | inl same ↦ inl (subst (λ l. Has (map (meant means) l) left) (closes.leaves.same ∙ same) h)
-        | inr more ↦ has-either (map (meant means) old.crash_leaves) (holding (means old.content)) left
-            (subst (λ l. Has l left) (meant-more means old.crash_leaves (holding old.content)) (subst (λ l. Has (map (meant means) l) left) (closes.leaves.same ∙ more) h))
+        | inl same ↦ inl (subst (λ l. Has (map (remains_meant means) l) left) (closes.leaves.same ∙ same) h)
+        | inr more ↦ has-either (map (remains_meant means) old.crash_leaves) (holding (means old.content)) left
+            (subst (λ l. Has l left) (meant-more means old.crash_leaves (holding old.content)) (subst (λ l. Has (map (remains_meant means) l) left) (closes.leaves.same ∙ more) h))
       ];
       ready = closes.leaves.ready ∙ fails.ready;
     }

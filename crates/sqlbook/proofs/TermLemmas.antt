@@ -18,7 +18,7 @@ use Rattle.sqlderived.proofs.KeptLemmas.{columns-kept}
 use Rattle.sqlobjects.specs.Objects.{contacts_of, hosts_of}
 use Rattle.sqlobjects.specs.Sponsors.{sponsors_are_right}
 use Rattle.sqlterms.specs.inner.Changes.{IsClockSet, IsTermsSet, nameless}
-use Rattle.sqlterms.specs.Terms.{days_of}
+use Rattle.sqlterms.specs.Terms.{days_of_rows}
 use Rattle.sqlderived.specs.Dues.{dues_are_right, has_right_due, is_due_right}
 use Rattle.sqlbook.specs.Meaning.{are_right, stored_of}
 use Rattle.sqlderived.proofs.RedateLemmas.{dues-live}
@@ -112,11 +112,11 @@ module _ (value : Terms) (old new : Content) (it : IsTermsSet value old new) whe
 -- ---- other days, where domains are there
 
 -- where deleted domains' columns are the ends of their deletions all sums are right if those are that hang on no length
-ends-right : (days : Schedule) (xs : Content) → ends_are days xs ≡ true → days_of xs ≡ Some days → are_right xs ≡ are_right_by is_live_right xs
+ends-right : (days : Schedule) (xs : Content) → ends_are days xs ≡ true → days_of_rows xs ≡ Some days → are_right xs ≡ are_right_by is_live_right xs
 ends-right days xs are put_down = λ i. may_be_numbered xs.metas && (sums_are_right xs && (helds_are_right xs && (dues-live days xs are put_down i && sponsors_are_right xs)))
 
 -- rows that mean the same are put down under
-set-between : (before : Schedule) (value : Terms) (a b c : Content) → ends_are before a ≡ true → days_of a ≡ Some before → MeansSame a b → IsTermsSet value b c → ends_are value.days c ≡ true → IsSetDown value a c
+set-between : (before : Schedule) (value : Terms) (a b c : Content) → ends_are before a ≡ true → days_of_rows a ≡ Some before → MeansSame a b → IsTermsSet value b c → ends_are value.days c ≡ true → IsSetDown value a c
 set-between before value a b c were put_down same it are = record {
   stored = terms-changed value b c it ∙ ap (with_terms value) same.stored;
   sums = ends-right value.days c are it.days ∙ lives-same value b c it ∙ same.sums ∙ sym (ends-right before a were put_down);
@@ -126,7 +126,7 @@ set-between before value a b c were put_down same it are = record {
 
 -- deleted domains are looked at, put again, and after the terms were put down looked at again
 pub others-set : (before : Schedule) (value : Terms) (a b c d e : StateOf Content) → Reads a b × (b.is_clean ≡ true → ends_are before a.content ≡ true) → HasChanged MeansSame b c → HasChanged (IsTermsSet value) c d
-    → Reads d e × (e.is_clean ≡ true → ends_are value.days d.content ≡ true) → HasChanged (λ x y. days_of x ≡ Some before → IsSetOver (Some before) value x y) a e
+    → Reads d e × (e.is_clean ≡ true → ends_are value.days d.content ≡ true) → HasChanged (λ x y. days_of_rows x ≡ Some before → IsSetOver (Some before) value x y) a e
 others-set before value a b c d e first redated set last = record {
   clean = λ t. first.0.clean (redated.clean (set.clean (last.0.clean t)));
   before = λ t. let w = last.0.clean t in let w2 = set.clean w in last.0.before t ∙ set.before w ∙ redated.before w2 ∙ first.0.before (redated.clean w2);
@@ -151,9 +151,9 @@ turned (Ok done) one two a b made so = record { clean = made.clean; before = mad
 turned (Err fault) one two a b stays so = stays
 
 -- what was put down before is asked, and then terms are put down over it
-module _ (value : Terms) (before : Option Schedule) (old mid new : StateOf Content) (asked : Reads old mid × (mid.is_clean ≡ true → before ≡ days_of old.content)) where
+module _ (value : Terms) (before : Option Schedule) (old mid new : StateOf Content) (asked : Reads old mid × (mid.is_clean ≡ true → before ≡ days_of_rows old.content)) where
   abbrev pub Over : Content → Content → Type 0
-  Over a b = days_of a ≡ before → IsSetOver before value a b
+  Over a b = days_of_rows a ≡ before → IsSetOver before value a b
 
   pub set-over : {A : Type 0} (r : Result A BookFault) → Changes r Over mid new → Changes r (IsSetOver before value) old new
   set-over r made = asked-turns r Over (IsSetOver before value) old mid new asked.0 made (λ w it. it (sym (asked.1 w)))
@@ -162,6 +162,6 @@ module _ (value : Terms) (before : Option Schedule) (old mid new : StateOf Conte
   over-lines (Ok done) made = λ t. ((set-over (Ok done) made).content t).set.lines
   over-lines (Err fault) made = tt
 
-  pub over-ends : {A : Type 0} (r : Result A BookFault) → Changes r Over mid new → IfOk r (λ done. new.is_clean ≡ true → AreRedated (days_of old.content) value.days new.content)
+  pub over-ends : {A : Type 0} (r : Result A BookFault) → Changes r Over mid new → IfOk r (λ done. new.is_clean ≡ true → AreRedated (days_of_rows old.content) value.days new.content)
   over-ends (Ok done) made = λ t. subst (λ o. AreRedated o value.days new.content) (asked.1 (made.clean t)) ((set-over (Ok done) made).content t).ends
   over-ends (Err fault) made = tt

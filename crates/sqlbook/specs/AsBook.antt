@@ -6,8 +6,8 @@ use Rattle.states.specs.declared.fault.BookFault.{BookFault}
 use Rattle.states.specs.States.{Answers, LeavesSame, Remains, StateOf, Stays}
 
 -- what rows that a crash leaves mean
-abbrev pub meant : {C X : Type 0} → (C → X) → Remains C → Remains X
-meant means left = record { readiness = left.readiness; content = means left.content }
+abbrev pub remains_meant : {C X : Type 0} → (C → X) → Remains C → Remains X
+remains_meant means left = record { readiness = left.readiness; content = means left.content }
 
 abbrev pub are_all_right : {C : Type 0} → (C → Bool) → List (Remains C) → Bool
 are_all_right {C} right leaves = list_all (λ (left : Remains C). right left.content) leaves
@@ -20,7 +20,7 @@ as_book means right s = record {
   is_clean = s.is_clean && right s.before;
   is_honest = s.is_honest && are_all_right right s.crash_leaves;
   readiness = s.readiness;
-  crash_leaves = map (meant means) s.crash_leaves;
+  crash_leaves = map (remains_meant means) s.crash_leaves;
 }
 
 -- the sums are as right as they were when the transaction began

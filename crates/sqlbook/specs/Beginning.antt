@@ -2,7 +2,7 @@
 use Rattle.std.specs.Prelude.{◌≡◌, ◌≢◌, ℕ, true, false, [], ◌∷◌}
 use Rattle.sqlite_trees.specs.Objects.{catalog_tree}
 use Rattle.sqlite_trees.specs.Tree.{Trees}
-use Rattle.books.specs.Book.{BookState, Stored, nothing}
+use Rattle.books.specs.Book.{BookState, Stored, never_opened}
 use Rattle.books.specs.Kept.{book_state}
 use Rattle.sqltables.specs.Adoption.{IsAdopted}
 use Rattle.sqltables.specs.Content.{Content}
@@ -16,19 +16,19 @@ use Rattle.sqlbook.specs.AsBook.{as_book}
 
 -- nothing is in it, it was never opened, and nothing wrong was taken
 pub record IsUnused (s : BookState) : Type 0 where
-  pub content : s.content ≡ nothing
-  pub before : s.before ≡ nothing
+  pub content : s.content ≡ never_opened
+  pub before : s.before ≡ never_opened
   pub idle : s.is_open ≡ false
   pub clean : s.is_clean ≡ true
   pub refused : s.refused ≡ 0
   pub empty : s.readiness ≡ Empty
-  pub leaves : s.crash_leaves ≡ record { readiness = Empty; content = nothing } ∷ []
+  pub leaves : s.crash_leaves ≡ record { readiness = Empty; content = never_opened } ∷ []
 
 -- a registry of this program is what the rows mean, and of anything else nothing is seen
 abbrev pub IsTaken : Ready → Trees → Stored → Type 0
 IsTaken Used trees s = s ≡ stored_of (contents trees)
-IsTaken Empty trees s = s ≡ nothing
-IsTaken Other trees s = s ≡ nothing
+IsTaken Empty trees s = s ≡ never_opened
+IsTaken Other trees s = s ≡ never_opened
 
 -- No transaction is open, and while nothing wrong was taken it answers, says what the database is, holds what
 -- it did, and a crash leaves that alone.
@@ -45,7 +45,7 @@ pub record IsTakenFrom (trees : Trees) (s : BookState) : Type 0 where
 -- where no table was ever made, nothing is found
 abbrev pub IsFoundNew : Trees → BookState → Type 0
 IsFoundNew trees s =
-    trees catalog_tree ≡ [] → s.is_clean ≡ true → (s.readiness ≡ Empty) × (s.content ≡ nothing)
+    trees catalog_tree ≡ [] → s.is_clean ≡ true → (s.readiness ≡ Empty) × (s.content ≡ never_opened)
 
 -- A book over rows that were taken up of these trees, which are a registry's of this program or nothing's yet: what
 -- the book is and what the rows are; and it answers where its disk told the truth and the stored sums are right.

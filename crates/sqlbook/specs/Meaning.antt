@@ -11,13 +11,13 @@ use Rattle.sqlderived.specs.Held.{helds_are_right}
 use Rattle.sqlobjects.specs.Objects.{contacts_of, hosts_of}
 use Rattle.sqlobjects.specs.Sponsors.{sponsors_are_right}
 use Rattle.sqlterms.specs.Clock.{clock_of}
-use Rattle.sqlterms.specs.Terms.{terms_of}
+use Rattle.sqlterms.specs.Terms.{terms_of_rows}
 
 abbrev pub registry_of : Content → Registry
 registry_of xs = record { contacts = contacts_of xs; hosts = hosts_of xs; domains = domains_of xs; accounts = accounts_of xs; clock = clock_of xs }
 
 abbrev pub stored_of : Content → Stored
-stored_of xs = record { registry = registry_of xs; terms = terms_of xs }
+stored_of xs = record { registry = registry_of xs; terms = terms_of_rows xs }
 
 -- ---- all sums, and the number of the schema
 

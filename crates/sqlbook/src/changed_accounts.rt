@@ -4,7 +4,7 @@ ghost use Rattle.books.specs.Tables as tables;
 ghost use Rattle.sqlaccounts.specs.inner.Changes.{IsLineAppended};
 ghost use Rattle.sqlbook.specs.Graces as graces;
 ghost use Rattle.sqlcolumns.specs.Numbers.{maybe_moment_column};
-ghost use Rattle.sqlterms.specs.Terms.{days_of};
+ghost use Rattle.sqlterms.specs.Terms.{days_of_rows};
 ghost use Rattle.sqlbook.specs.Meaning.{are_right, stored_of};
 ghost use Rattle.sqlbook.specs.AsBook.{MakesAs};
 
@@ -60,7 +60,7 @@ pub fn add_line<S: Alter>(
         (stored_of store.old.content)) store.old store.new }
     ensures ends { IfOk result (λ done. store.new.is_clean ≡ true
         → IsLineAppended line (maybe_moment_column
-        (graces.maybe_grace_end (days_of store.old.content) line)) store.old.content.lines
+        (graces.maybe_grace_end (days_of_rows store.old.content) line)) store.old.content.lines
         store.new.content.lines) }
 {
     store.show_consistent();
@@ -94,7 +94,7 @@ pub fn put_message<S: Alter>(
     message: Message,
 ) -> Result<(), BookFault>
     requires { store.old.is_open ≡ true }
-    ensures { MakesAs result stored_of are_right (tables.message_put registrar message
+    ensures { MakesAs result stored_of are_right (tables.message_added registrar message
         (stored_of store.old.content)) store.old store.new }
 {
     store.show_consistent();

@@ -31,7 +31,7 @@ pub fn put_domain<S: Alter>(
     policy: &Policy,
 ) -> Result<(), BookFault>
     requires { store.old.is_open ≡ true }
-    ensures { MakesAs result stored_of are_right (tables.domain_put name (Some domain)
+    ensures { MakesAs result stored_of are_right (tables.domain_set name (Some domain)
         (stored_of store.old.content)) store.old store.new }
 {
     let due = due_of_domain(&domain, policy);
@@ -47,7 +47,7 @@ pub fn drop_domain<S: Alter>(
 ) -> Result<(), BookFault>
     requires { store.old.is_open ≡ true }
     ensures { MakesAs result stored_of are_right
-        (tables.domain_put name None (stored_of store.old.content)) store.old store.new }
+        (tables.domain_set name None (stored_of store.old.content)) store.old store.new }
 {
     replace(store, alloc, &name, &None, Moment::first(), policy)
 }

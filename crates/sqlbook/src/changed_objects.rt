@@ -19,7 +19,7 @@ pub fn put_contact<S: Alter>(
     contact: Contact,
 ) -> Result<(), BookFault>
     requires { store.old.is_open ≡ true }
-    ensures { MakesAs result stored_of are_right (tables.contact_put name (Some contact)
+    ensures { MakesAs result stored_of are_right (tables.contact_set name (Some contact)
         (stored_of store.old.content)) store.old store.new }
 {
     sqlobjects::put_contact(store, alloc, name, contact)
@@ -33,7 +33,7 @@ pub fn drop_contact<S: Alter>(
 ) -> Result<(), BookFault>
     requires { store.old.is_open ≡ true }
     ensures { MakesAs result stored_of are_right
-        (tables.contact_put name None (stored_of store.old.content)) store.old store.new }
+        (tables.contact_set name None (stored_of store.old.content)) store.old store.new }
 {
     sqlobjects::drop_contact(store, alloc, name)
 }
@@ -45,7 +45,7 @@ pub fn put_host<S: Alter>(
     host: Host,
 ) -> Result<(), BookFault>
     requires { store.old.is_open ≡ true }
-    ensures { MakesAs result stored_of are_right (tables.host_put host.name (Some host)
+    ensures { MakesAs result stored_of are_right (tables.host_set host.name (Some host)
         (stored_of store.old.content)) store.old store.new }
 {
     sqlobjects::put_host(store, alloc, host)
@@ -59,7 +59,7 @@ pub fn drop_host<S: Alter>(
 ) -> Result<(), BookFault>
     requires { store.old.is_open ≡ true }
     ensures { MakesAs result stored_of are_right
-        (tables.host_put name None (stored_of store.old.content)) store.old store.new }
+        (tables.host_set name None (stored_of store.old.content)) store.old store.new }
 {
     sqlobjects::drop_host(store, alloc, name)
 }

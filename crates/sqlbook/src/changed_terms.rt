@@ -8,7 +8,7 @@ ghost use Rattle.sqlbook.specs.Meaning.{are_right, stored_of};
 ghost use Rattle.sqlbook.specs.AsBook.{MakesAs};
 ghost use Rattle.sqlbook.specs.Suiting.{AreRedated};
 ghost use Rattle.sqlbook.specs.inner.Suiting.{IsSetDown, IsSetOver};
-ghost use Rattle.sqlterms.specs.Terms.{days_of};
+ghost use Rattle.sqlterms.specs.Terms.{days_of_rows};
 
 use crate::redating::redate;
 use calendar::Moment;
@@ -44,7 +44,7 @@ pub fn set_terms<S: Alter>(
     ensures lines { IfOk result (λ done. store.new.is_clean ≡ true
         → store.new.content.lines ≡ store.old.content.lines) }
     ensures ends { IfOk result (λ done. store.new.is_clean ≡ true
-        → AreRedated (days_of store.old.content) terms.days store.new.content) }
+        → AreRedated (days_of_rows store.old.content) terms.days store.new.content) }
 {
     let before = sqlterms::days(store, alloc)?;
     let set = set_over(store, alloc, &before, &terms);
@@ -60,7 +60,7 @@ fn set_over<S: Alter>(
     terms: &Terms,
 ) -> Result<(), BookFault>
     requires { store.old.is_open ≡ true }
-    ensures { Changes result (λ old new. days_of old ≡ before.now
+    ensures { Changes result (λ old new. days_of_rows old ≡ before.now
         → IsSetOver before.now terms.now old new) store.old store.new }
 {
     match before {
@@ -102,7 +102,7 @@ fn set_again<S: Alter>(
     terms: &Terms,
 ) -> Result<(), BookFault>
     requires { store.old.is_open ≡ true }
-    ensures { Changes result (λ old new. days_of old ≡ Some before.now
+    ensures { Changes result (λ old new. days_of_rows old ≡ Some before.now
         → IsSetOver (Some before.now) terms.now old new) store.old store.new }
 {
     if before.is_same(&terms.days) {
@@ -119,7 +119,7 @@ fn set_same<S: Alter>(
     terms: &Terms,
 ) -> Result<(), BookFault>
     requires { store.old.is_open ≡ true }
-    ensures { Changes result (λ old new. days_of old ≡ Some terms.now.days
+    ensures { Changes result (λ old new. days_of_rows old ≡ Some terms.now.days
         → IsSetDown terms.now old new) store.old store.new }
 {
     sqlterms::set_terms(store, alloc, terms)?;
@@ -135,7 +135,7 @@ fn set_others<S: Alter>(
     terms: &Terms,
 ) -> Result<(), BookFault>
     requires { store.old.is_open ≡ true }
-    ensures { Changes result (λ old new. days_of old ≡ Some before.now
+    ensures { Changes result (λ old new. days_of_rows old ≡ Some before.now
         → IsSetOver (Some before.now) terms.now old new) store.old store.new }
 {
     ends_are(store, before)?;

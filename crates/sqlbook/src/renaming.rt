@@ -2,7 +2,7 @@
 //! and no row of a domain is written, however many name the host.
 ghost use Rattle.std.specs.Prelude.{◌≡◌, true};
 ghost use Rattle.decisions.specs.Changes.{may_rename};
-ghost use Rattle.books.specs.Tables.{host_moved, host_renamed};
+ghost use Rattle.books.specs.Tables.{host_moved, host_renamed_if_there};
 ghost use Rattle.states.specs.States.{Finds};
 ghost use Rattle.sqlbook.specs.Meaning.{are_right, stored_of};
 ghost use Rattle.sqlbook.specs.AsBook.{MakesAs};
@@ -23,7 +23,7 @@ pub(crate) fn rename_host<S: Alter>(
     host: &Host,
 ) -> Result<(), BookFault>
     requires { store.old.is_open ≡ true }
-    ensures { MakesAs result stored_of are_right (host_renamed from.now host.now
+    ensures { MakesAs result stored_of are_right (host_renamed_if_there from.now host.now
         (stored_of store.old.content)) store.old store.new }
 {
     if !may_rename(store, alloc, from, &host.name)? {

@@ -10,7 +10,7 @@ use Rattle.std.proofs.lemmas.List.{append-nil, drop-map, drop_more, length-appen
 use Rattle.std.proofs.lemmas.List.Splits.{length-slice_split}
 use Rattle.std.proofs.lemmas.Slice.Eq.{bytes_eq-Decides}
 use Rattle.objects.specs.Hosts.{is_below}
-use Rattle.sqlcolumns.specs.Above.{above, labels_of, last_two}
+use Rattle.sqlcolumns.specs.Above.{above, last_two, parts_between_dots}
 
 abbrev dot : ℕ → Bool
 dot b = eqb b 46
@@ -53,9 +53,9 @@ front_of domain host below =
 
 -- ---- labels
 
-split_some : (text : List ℕ) → (first : List ℕ) × (rest : List (List ℕ)) × (labels_of text ≡ first ∷ rest)
+split_some : (text : List ℕ) → (first : List ℕ) × (rest : List (List ℕ)) × (parts_between_dots text ≡ first ∷ rest)
 split_some [] = ([], [], refl)
-split_some (b ∷ bs) = by (dot b) (labels_of bs)
+split_some (b ∷ bs) = by (dot b) (parts_between_dots bs)
   where
     onto : (pieces : List (List ℕ)) → (first : List ℕ) × (rest : List (List ℕ)) × (onto_first b pieces ≡ first ∷ rest)
     onto [] = (b ∷ [], [], refl)
@@ -73,12 +73,12 @@ split_by b true xs ys first rest e = refl
 split_by b false xs ys first rest e = onto_append b xs ys first rest e
 
 -- the labels on both sides of a dot
-labels_append : (front rest : List ℕ) → labels_of (front ++ 46 ∷ rest) ≡ labels_of front ++ labels_of rest
+labels_append : (front rest : List ℕ) → parts_between_dots (front ++ 46 ∷ rest) ≡ parts_between_dots front ++ parts_between_dots rest
 labels_append [] rest = refl
 labels_append (b ∷ bs) rest =
     let some = split_some bs in
     ap (λ (t : List (List ℕ)). cond (dot b) ([] ∷ t) (onto_first b t)) (labels_append bs rest)
-    ∙ split_by b (dot b) (labels_of bs) (labels_of rest) some.0 some.1 some.2
+    ∙ split_by b (dot b) (parts_between_dots bs) (parts_between_dots rest) some.0 some.1 some.2
 
 last_of_more : (xs ys : List (List ℕ)) → 2 ≤ length ys → last_two (xs ++ ys) ≡ last_two ys
 last_of_more xs ys two =
@@ -92,7 +92,7 @@ same_above domain host dotted below =
     let front = front_of domain host below in
     ap above front.1
     ∙ ap (λ (t : List (List ℕ)). join_with_byte 46 (last_two t)) (labels_append front.0 domain)
-    ∙ ap (join_with_byte 46) (last_of_more (labels_of front.0) (labels_of domain) (omega (arith, length-slice_split dot domain)))
+    ∙ ap (join_with_byte 46) (last_of_more (parts_between_dots front.0) (parts_between_dots domain) (omega (arith, length-slice_split dot domain)))
 
 -- ---- back
 

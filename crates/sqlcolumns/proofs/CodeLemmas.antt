@@ -6,7 +6,7 @@ use Rattle.accounts.specs.declared.line.LineKind.{LineKind}
 use Rattle.accounts.specs.declared.message.Subject.{Subject}
 use Rattle.objects.specs.declared.transfer.TransferState.{TransferState}
 use Rattle.sqlcolumns.specs.declared.code.Role.{Role}
-use Rattle.sqlcolumns.specs.Codes.{with_code, all_kinds, kind_column, kind_in, all_subjects, subject_column, subject_in, all_states, state_column, state_in, role_column, role_in}
+use Rattle.sqlcolumns.specs.Codes.{with_code, all_kinds, kind_column, kind_in, all_subjects, subject_column, subject_in, all_transfer_states, state_column, state_in, role_column, role_in}
 use Rattle.sqlcolumns.proofs.ReadLemmas.{same_some}
 
 at_test : {K : Type 0} (P : K → Type 0) (x k : K) (rest : Option K) (b : Bool) → (b ≡ true → P x) → (rest ≡ Some k → P k) → cond b (Some x) rest ≡ Some k → P k
@@ -41,7 +41,7 @@ pub state_back : (s : TransferState) → state_in (state_column s) ≡ Some s
 state_back s = search rules
 
 pub state_written : (c : ℤ) (s : TransferState) → state_in c ≡ Some s → state_column s ≡ c
-state_written c s e = code_written state_column all_states c s e
+state_written c s e = code_written state_column all_transfer_states c s e
 
 pub role_back : (r : Role) → role_in (role_column r) ≡ Some r
 role_back r = search rules

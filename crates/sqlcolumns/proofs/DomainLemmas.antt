@@ -7,9 +7,9 @@ use Rattle.objects.specs.declared.roid.ObjectKind.TheVariants as kinds
 use Rattle.objects.specs.declared.transfer.Transfer.{Transfer}
 use Rattle.sqltables.specs.declared.domain.DomainRow.{DomainRow}
 use Rattle.sqlcolumns.specs.declared.domain.DeletionColumns.{DeletionColumns}
-use Rattle.sqlcolumns.specs.inner.Domains.{IsDeletion, IsDomain, deletion_columns, domain_row, registration_of, row_with}
-use Rattle.sqlcolumns.specs.Domains.{columns_of, deletion_in, domain_in, domain_with, some_deletion_in}
-use Rattle.sqlcolumns.specs.Numbers.{maybe_moment_in, moment_in, years_in}
+use Rattle.sqlcolumns.specs.inner.Domains.{IsDeletion, IsDomain, deletion_columns, domain_registration, domain_row_with, row_of_domain}
+use Rattle.sqlcolumns.specs.Domains.{deletion_in, domain_of_columns, domain_registration_columns, domain_with, some_deletion_in}
+use Rattle.sqlcolumns.specs.Numbers.{maybe_moment_in, moment_in_column, years_in_column}
 use Rattle.sqlcolumns.specs.Registrations.{registration_columns, registration_in}
 use Rattle.sqlcolumns.specs.Steps.{◌>>=◌}
 use Rattle.sqlcolumns.specs.Texts.{statuses_in}
@@ -31,12 +31,12 @@ deletion_back (Some d) is =
     Some (Some (record { deleted = m; restore_requested = r }))))
 
 record DeletionRead (deleted : ℤ) (restore_requested : Option ℤ) (d : Deletion) : Type 0 where
-  pub deleted_is : moment_in deleted ≡ Some d.deleted
+  pub deleted_is : moment_in_column deleted ≡ Some d.deleted
   pub restore_requested_is : maybe_moment_in restore_requested ≡ Some d.restore_requested
 
 deletion_read : (deleted : ℤ) (restore_requested : Option ℤ) (d : Deletion) → some_deletion_in deleted restore_requested ≡ Some (Some d) → DeletionRead deleted restore_requested d
 deletion_read deleted restore_requested d e =
-    let m = step (moment_in deleted) _ (Some d) e in
+    let m = step (moment_in_column deleted) _ (Some d) e in
     let r = step (maybe_moment_in restore_requested) _ (Some d) m.rest in
     let some : ◌≡◌ {A = Option Deletion} (Some (record { deleted = m.given; restore_requested = r.given })) (Some d) = same_some _ _ r.rest in
     let same : ◌≡◌ {A = Deletion} (record { deleted = m.given; restore_requested = r.given }) d = same_some _ _ some in
@@ -47,7 +47,7 @@ deletion_read deleted restore_requested d e =
 
 pub no_deletion : (deleted : ℤ) (restore_requested : Option ℤ) → some_deletion_in deleted restore_requested ≡ Some None → ⊥
 no_deletion deleted restore_requested e =
-    let m = step (moment_in deleted) _ None e in
+    let m = step (moment_in_column deleted) _ None e in
     let r = step (maybe_moment_in restore_requested) _ None m.rest in
     let some : ◌≡◌ {A = Option Deletion} (Some (record { deleted = m.given; restore_requested = r.given })) None = same_some _ _ r.rest in
     cc
@@ -64,53 +64,53 @@ deletion_is (Some m) r (Some d) e =
 -- ---- domains
 
 -- what was written is read back
-pub domain_back : (id registrant : ℤ) (due : ℕ) (d : Domain) (row : DomainRow) → IsDomain d → domain_row id registrant due d ≡ Some row → domain_in row d.links d.transfer ≡ Some d
+pub domain_back : (id registrant : ℤ) (due : ℕ) (d : Domain) (row : DomainRow) → IsDomain d → row_of_domain id registrant due d ≡ Some row → domain_of_columns row d.links d.transfer ≡ Some d
 domain_back id registrant due d row is e =
-    let columns = step (registration_columns kinds.Domain (registration_of d)) (λ x. Some (row_with id registrant due d x (deletion_columns d.deletion))) row e in
-    let written : DomainRow = row_with id registrant due d columns.given (deletion_columns d.deletion) in
+    let columns = step (registration_columns kinds.Domain (domain_registration d)) (λ x. Some (domain_row_with id registrant due d x (deletion_columns d.deletion))) row e in
+    let written : DomainRow = domain_row_with id registrant due d columns.given (deletion_columns d.deletion) in
     let same = same_some written row columns.rest in
-    sym (ap (λ (x : DomainRow). domain_in x d.links d.transfer) same)
-    ∙ (λ i. registration_back kinds.Domain (registration_of d) columns.given is.registration columns.is i >>= (λ r.
+    sym (ap (λ (x : DomainRow). domain_of_columns x d.links d.transfer) same)
+    ∙ (λ i. registration_back kinds.Domain (domain_registration d) columns.given is.registration columns.is i >>= (λ r.
     years_back d.years is.years i >>= (λ y.
     statuses_back d.statuses i >>= (λ s.
     deletion_back d.deletion is.deletion i >>= (λ x.
     Some (domain_with written r y s x d.links d.transfer))))))
 
 record IsRead (row : DomainRow) (links : Links) (transfer : Option Transfer) (d : Domain) : Type 0 where
-  pub registration : registration_in kinds.Domain (columns_of row) ≡ Some (registration_of d)
-  pub years : years_in row.years ≡ Some d.years
+  pub registration : registration_in kinds.Domain (domain_registration_columns row) ≡ Some (domain_registration d)
+  pub years : years_in_column row.years ≡ Some d.years
   pub statuses : statuses_in row.statuses ≡ Some d.statuses
   pub deletion : deletion_in row.deleted row.restore_requested ≡ Some d.deletion
-  pub made : domain_with row (registration_of d) d.years d.statuses d.deletion links transfer ≡ d
+  pub made : domain_with row (domain_registration d) d.years d.statuses d.deletion links transfer ≡ d
 
-is_read : (row : DomainRow) (links : Links) (transfer : Option Transfer) (d : Domain) → domain_in row links transfer ≡ Some d → IsRead row links transfer d
+is_read : (row : DomainRow) (links : Links) (transfer : Option Transfer) (d : Domain) → domain_of_columns row links transfer ≡ Some d → IsRead row links transfer d
 is_read row links transfer d e =
-    let r = step (registration_in kinds.Domain (columns_of row)) _ d e in
-    let y = step (years_in row.years) _ d r.rest in
+    let r = step (registration_in kinds.Domain (domain_registration_columns row)) _ d e in
+    let y = step (years_in_column row.years) _ d r.rest in
     let s = step (statuses_in row.statuses) _ d y.rest in
     let x = step (deletion_in row.deleted row.restore_requested) _ d s.rest in
     let same = same_some (domain_with row r.given y.given s.given x.given links transfer) d x.rest in
     record {
-      registration = r.is ∙ λ i. Some (registration_of (same i));
+      registration = r.is ∙ λ i. Some (domain_registration (same i));
       years = y.is ∙ λ i. Some ((same i).years);
       statuses = s.is ∙ λ i. Some ((same i).statuses);
       deletion = x.is ∙ λ i. Some ((same i).deletion);
-      made = sym (λ i. domain_with row (registration_of (same i)) ((same i).years) ((same i).statuses) ((same i).deletion) links transfer) ∙ same;
+      made = sym (λ i. domain_with row (domain_registration (same i)) ((same i).years) ((same i).statuses) ((same i).deletion) links transfer) ∙ same;
     }
 
-pub domain_transfer : (row : DomainRow) (links : Links) (transfer : Option Transfer) (d : Domain) → domain_in row links transfer ≡ Some d → d.transfer ≡ transfer
+pub domain_transfer : (row : DomainRow) (links : Links) (transfer : Option Transfer) (d : Domain) → domain_of_columns row links transfer ≡ Some d → d.transfer ≡ transfer
 domain_transfer row links transfer d e = sym (ap (λ (x : Domain). x.transfer) (is_read row links transfer d e).made)
 
 -- and is a domain's
-pub domain_is : (row : DomainRow) (links : Links) (transfer : Option Transfer) (d : Domain) → domain_in row links transfer ≡ Some d → IsDomain d
+pub domain_is : (row : DomainRow) (links : Links) (transfer : Option Transfer) (d : Domain) → domain_of_columns row links transfer ≡ Some d → IsDomain d
 domain_is row links transfer d e =
     let read = is_read row links transfer d e in
     record {
-      registration = registration_is kinds.Domain (columns_of row) (registration_of d) read.registration;
+      registration = registration_is kinds.Domain (domain_registration_columns row) (domain_registration d) read.registration;
       years = years_are row.years d.years read.years;
       deletion = deletion_is row.deleted row.restore_requested d.deletion read.deletion;
     }
 
 -- what is read was deleted as its row says
-pub deletion_reads : (row : DomainRow) (links : Links) (transfer : Option Transfer) (d : Domain) → domain_in row links transfer ≡ Some d → deletion_in row.deleted row.restore_requested ≡ Some d.deletion
+pub deletion_reads : (row : DomainRow) (links : Links) (transfer : Option Transfer) (d : Domain) → domain_of_columns row links transfer ≡ Some d → deletion_in row.deleted row.restore_requested ≡ Some d.deletion
 deletion_reads row links transfer d e = (is_read row links transfer d e).deletion

@@ -6,8 +6,8 @@ use Rattle.objects.specs.declared.host.Host.{Host}
 use Rattle.objects.specs.declared.roid.ObjectKind.TheVariants as kinds
 use Rattle.sqltables.specs.declared.host.HostRow.{HostRow}
 use Rattle.sqlcolumns.specs.Above.{above}
-use Rattle.sqlcolumns.specs.inner.Hosts.{IsHost, host_row, row_with}
-use Rattle.sqlcolumns.specs.Hosts.{host_in, host_with}
+use Rattle.sqlcolumns.specs.inner.Hosts.{IsHost, host_row_with, row_of_host}
+use Rattle.sqlcolumns.specs.Hosts.{host_of_columns, host_with}
 use Rattle.sqlcolumns.specs.Roids.{roid_columns}
 use Rattle.sqlcolumns.specs.Steps.{◌>>=◌}
 use Rattle.sqlcolumns.proofs.NumberLemmas.{maybe_moment_back, maybe_registrar_back, moment_back}
@@ -19,12 +19,12 @@ same_bytes : (text : List ℕ) → bytes_eq text text ≡ true
 same_bytes text = (bytes_eq-Decides text text).1 refl
 
 -- what was written is read back
-pub host_back : (id : ℤ) (sponsor : Option ℤ) (h : Host) (row : HostRow) → IsHost h → host_row id sponsor h ≡ Some row → host_in row h.addresses ≡ Some h
+pub host_back : (id : ℤ) (sponsor : Option ℤ) (h : Host) (row : HostRow) → IsHost h → row_of_host id sponsor h ≡ Some row → host_of_columns row h.addresses ≡ Some h
 host_back id sponsor h row is e =
-    let roid = step (roid_columns kinds.Host h.roid) (λ x. Some (row_with id sponsor h x)) row e in
-    let written : HostRow = row_with id sponsor h roid.given in
+    let roid = step (roid_columns kinds.Host h.roid) (λ x. Some (host_row_with id sponsor h x)) row e in
+    let written : HostRow = host_row_with id sponsor h roid.given in
     let same : written ≡ row = same_some written row roid.rest in
-    sym (ap (λ (x : HostRow). host_in x h.addresses) same)
+    sym (ap (λ (x : HostRow). host_of_columns x h.addresses) same)
     ∙ (λ i. (roid_back kinds.Host h.roid roid.given is.roid roid.is i >>= (λ x.
     maybe_registrar_back h.external_sponsor is.external_sponsor i >>= (λ s.
     moment_back h.created is.created i >>= (λ c.

@@ -8,11 +8,11 @@ use Rattle.sqltables.specs.declared.line.LineRow.{LineRow}
 use Rattle.sqlcolumns.specs.declared.line.DomainColumns.{DomainColumns}
 use Rattle.sqlcolumns.specs.declared.roid.RoidColumns.{RoidColumns}
 use Rattle.sqlcolumns.specs.Codes.{kind_column, kind_in}
-use Rattle.sqlcolumns.specs.Numbers.{exact_column, exact_in, maybe_moment_column, maybe_moment_in, moment_column, moment_in, years_column, years_in}
+use Rattle.sqlcolumns.specs.Numbers.{exact_column, exact_in, maybe_moment_column, maybe_moment_in, moment_column, moment_in_column, years_column, years_in_column}
 use Rattle.sqlcolumns.specs.Roids.{IsRoid, roid_columns, roid_in}
 use Rattle.sqlcolumns.specs.Steps.{◌>>=◌}
-use Rattle.sqlcolumns.specs.inner.Lines.{IsLine, domain_columns, line_row, not_null, row_with}
-use Rattle.sqlcolumns.specs.Lines.{line_in, line_made, maybe_domain_in}
+use Rattle.sqlcolumns.specs.inner.Lines.{IsLine, domain_columns, line_row_with, not_null, row_of_line}
+use Rattle.sqlcolumns.specs.Lines.{line_made, line_of_columns, maybe_domain_in}
 use Rattle.sqlcolumns.proofs.CodeLemmas.{kind_back, kind_written}
 use Rattle.sqlcolumns.proofs.NumberLemmas.{exact_back, exact_written, maybe_moment_back, maybe_moment_is, maybe_moment_written, moment_back, moment_is, moment_written, years_are, years_back, years_written}
 use Rattle.sqlcolumns.proofs.ReadLemmas.{same_some, some_read, step}
@@ -62,11 +62,11 @@ record HasColumns (line : Line) (row : LineRow) : Type 0 where
   pub started : row.grace.started ≡ maybe_moment_column line.started
   pub refunded : row.refunded ≡ maybe_moment_column line.refunded
 
-has_columns : (id account : ℤ) (line : Line) (ends : Option ℤ) (row : LineRow) → line_row id account line ends ≡ Some row → HasColumns line row
+has_columns : (id account : ℤ) (line : Line) (ends : Option ℤ) (row : LineRow) → row_of_line id account line ends ≡ Some row → HasColumns line row
 has_columns id account line ends row e =
-    let domain = step (domain_columns line.roid) (λ d. exact_column line.cents >>= (λ c. Some (row_with id account line ends d c))) row e in
-    let cents = step (exact_column line.cents) (λ c. Some (row_with id account line ends domain.given c)) row domain.rest in
-    let same = same_some (row_with id account line ends domain.given cents.given) row cents.rest in
+    let domain = step (domain_columns line.roid) (λ d. exact_column line.cents >>= (λ c. Some (line_row_with id account line ends d c))) row e in
+    let cents = step (exact_column line.cents) (λ c. Some (line_row_with id account line ends domain.given c)) row domain.rest in
+    let same = same_some (line_row_with id account line ends domain.given cents.given) row cents.rest in
     record {
       kind = sym (ap (λ (r : LineRow). r.kind) same);
       domain_is = domain.is ∙ λ i. Some (record { creator = (same i).creator; serial = (same i).serial });
@@ -78,14 +78,14 @@ has_columns id account line ends row e =
     }
 
 -- what was written is read back
-pub line_back : (id account : ℤ) (line : Line) (ends : Option ℤ) (row : LineRow) → IsLine line → line_row id account line ends ≡ Some row → line_in row ≡ Some line
+pub line_back : (id account : ℤ) (line : Line) (ends : Option ℤ) (row : LineRow) → IsLine line → row_of_line id account line ends ≡ Some row → line_of_columns row ≡ Some line
 line_back id account line ends row is e =
     let has = has_columns id account line ends row e in
     λ i. line_made
     ((ap kind_in has.kind ∙ kind_back line.kind) i)
     (maybe_domain_back line.roid row.creator row.serial is.roid has.domain_is i)
-    ((ap moment_in has.recorded ∙ moment_back line.recorded is.recorded) i)
-    ((ap years_in has.years ∙ years_back line.years is.years) i)
+    ((ap moment_in_column has.recorded ∙ moment_back line.recorded is.recorded) i)
+    ((ap years_in_column has.years ∙ years_back line.years is.years) i)
     (exact_back line.cents row.cents has.cents_are i)
     ((ap maybe_moment_in has.started ∙ maybe_moment_back line.started is.started) i)
     ((ap maybe_moment_in has.refunded ∙ maybe_moment_back line.refunded is.refunded) i)
@@ -96,18 +96,18 @@ line_back id account line ends row is e =
 record IsRead (row : LineRow) (line : Line) : Type 0 where
   pub kind : kind_in row.kind ≡ Some line.kind
   pub roid : maybe_domain_in row.creator row.serial ≡ Some line.roid
-  pub recorded : moment_in row.recorded ≡ Some line.recorded
-  pub years : years_in row.years ≡ Some line.years
+  pub recorded : moment_in_column row.recorded ≡ Some line.recorded
+  pub years : years_in_column row.years ≡ Some line.years
   pub cents : exact_in row.cents ≡ Some line.cents
   pub started : maybe_moment_in row.grace.started ≡ Some line.started
   pub refunded : maybe_moment_in row.refunded ≡ Some line.refunded
 
-is_read : (row : LineRow) (line : Line) → line_in row ≡ Some line → IsRead row line
+is_read : (row : LineRow) (line : Line) → line_of_columns row ≡ Some line → IsRead row line
 is_read row line e =
     let kind = step (kind_in row.kind) _ line e in
     let roid = step (maybe_domain_in row.creator row.serial) _ line kind.rest in
-    let recorded = step (moment_in row.recorded) _ line roid.rest in
-    let years = step (years_in row.years) _ line recorded.rest in
+    let recorded = step (moment_in_column row.recorded) _ line roid.rest in
+    let years = step (years_in_column row.years) _ line recorded.rest in
     let cents = step (exact_in row.cents) _ line years.rest in
     let started = step (maybe_moment_in row.grace.started) _ line cents.rest in
     let refunded = step (maybe_moment_in row.refunded) _ line started.rest in
@@ -123,10 +123,10 @@ is_read row line e =
     }
 
 -- what is read was written so
-pub line_written : (row : LineRow) (line : Line) → line_in row ≡ Some line → line_row row.id row.account line row.grace.ends ≡ Some row
+pub line_written : (row : LineRow) (line : Line) → line_of_columns row ≡ Some line → row_of_line row.id row.account line row.grace.ends ≡ Some row
 line_written row line e =
     let read = is_read row line e in
-    (λ i. maybe_domain_written row.creator row.serial line.roid read.roid i >>= (λ d. exact_written row.cents line.cents read.cents i >>= (λ c. Some (row_with row.id row.account line row.grace.ends d c))))
+    (λ i. maybe_domain_written row.creator row.serial line.roid read.roid i >>= (λ d. exact_written row.cents line.cents read.cents i >>= (λ c. Some (line_row_with row.id row.account line row.grace.ends d c))))
     ∙ (λ i. Some (record row {
       kind = kind_written row.kind line.kind read.kind i;
       recorded = moment_written row.recorded line.recorded read.recorded i;
@@ -136,7 +136,7 @@ line_written row line e =
     }))
 
 -- and is a line's
-pub line_is : (row : LineRow) (line : Line) → line_in row ≡ Some line → IsLine line
+pub line_is : (row : LineRow) (line : Line) → line_of_columns row ≡ Some line → IsLine line
 line_is row line e =
     let read = is_read row line e in
     record {

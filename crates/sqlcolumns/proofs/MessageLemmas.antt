@@ -12,9 +12,9 @@ use Rattle.accounts.specs.declared.message.Origin.TheVariants.{Lapse, Command}
 use Rattle.sqltables.specs.declared.message.MessageRow.{MessageRow}
 use Rattle.sqlcolumns.specs.declared.origin.OriginColumns.{OriginColumns}
 use Rattle.sqlcolumns.specs.Codes.{subject_column, subject_in}
-use Rattle.sqlcolumns.specs.Numbers.{exact_column, exact_in, moment_column, moment_in}
+use Rattle.sqlcolumns.specs.Numbers.{exact_column, exact_in, moment_column, moment_in_column}
 use Rattle.sqlcolumns.specs.Steps.{◌>>=◌}
-use Rattle.sqlcolumns.specs.Messages.{all_command_notices, all_lapse_notices, command_made, command_notice_column, command_notice_in, lapse_made, lapse_notice_column, lapse_notice_in, message_in, message_made, message_row, origin_columns, origin_in}
+use Rattle.sqlcolumns.specs.Messages.{all_command_notices, all_lapse_notices, command_made, command_notice_column, command_notice_in, lapse_made, lapse_notice_column, lapse_notice_in, message_made, message_of_columns, origin_columns, origin_in, row_of_message}
 use Rattle.sqlcolumns.proofs.CodeLemmas.{code_written, subject_back, subject_written}
 use Rattle.sqlcolumns.proofs.NumberLemmas.{exact_back, exact_written, moment_back, moment_is, moment_written}
 use Rattle.sqlcolumns.proofs.ReadLemmas.{same_some, step}
@@ -84,22 +84,22 @@ abbrev row_with : ℤ → ℤ → Message → OriginColumns → MessageRow
 row_with id account m o = record { id = id; account = account; moment = moment_column m.moment; class = o.class; number = o.number; name = m.name; subject = subject_column m.subject; notice = o.notice }
 
 -- what was written is read back
-pub message_back : (id account : ℤ) (m : Message) (row : MessageRow) → IsMoment m.moment → message_row id account m ≡ Some row → message_in row ≡ Some m
+pub message_back : (id account : ℤ) (m : Message) (row : MessageRow) → IsMoment m.moment → row_of_message id account m ≡ Some row → message_of_columns row ≡ Some m
 message_back id account m row is e =
     let o = step (origin_columns m.origin) (λ o. Some (row_with id account m o)) row e in
     let same = same_some (row_with id account m o.given) row o.rest in
-    sym (ap message_in same)
+    sym (ap message_of_columns same)
     ∙ (λ i. message_made (moment_back m.moment is i) (origin_back m.origin o.given o.is i) (subject_back m.subject i) m.name)
 
 record IsRead (row : MessageRow) (m : Message) : Type 0 where
-  pub moment : moment_in row.moment ≡ Some m.moment
+  pub moment : moment_in_column row.moment ≡ Some m.moment
   pub origin : origin_in (origin_of row) ≡ Some m.origin
   pub subject : subject_in row.subject ≡ Some m.subject
   pub name : row.name ≡ m.name
 
-is_read : (row : MessageRow) (m : Message) → message_in row ≡ Some m → IsRead row m
+is_read : (row : MessageRow) (m : Message) → message_of_columns row ≡ Some m → IsRead row m
 is_read row m e =
-    let moment = step (moment_in row.moment) _ m e in
+    let moment = step (moment_in_column row.moment) _ m e in
     let origin = step (origin_in (origin_of row)) _ m moment.rest in
     let subject = step (subject_in row.subject) _ m origin.rest in
     let same : ◌≡◌ {A = Message} (record { moment = moment.given; origin = origin.given; name = row.name; subject = subject.given }) m = same_some _ _ subject.rest in
@@ -111,12 +111,12 @@ is_read row m e =
     }
 
 -- what is read was written so
-pub message_written : (row : MessageRow) (m : Message) → message_in row ≡ Some m → message_row row.id row.account m ≡ Some row
+pub message_written : (row : MessageRow) (m : Message) → message_of_columns row ≡ Some m → row_of_message row.id row.account m ≡ Some row
 message_written row m e =
     let read = is_read row m e in
     (λ i. origin_written (origin_of row) m.origin read.origin i >>= (λ o. Some (row_with row.id row.account m o)))
     ∙ (λ i. Some (record row { moment = moment_written row.moment m.moment read.moment i; name = sym read.name i; subject = subject_written row.subject m.subject read.subject i }))
 
 -- and is of a moment
-pub message_is : (row : MessageRow) (m : Message) → message_in row ≡ Some m → IsMoment m.moment
+pub message_is : (row : MessageRow) (m : Message) → message_of_columns row ≡ Some m → IsMoment m.moment
 message_is row m e = moment_is row.moment m.moment (is_read row m e).moment

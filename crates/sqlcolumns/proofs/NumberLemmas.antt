@@ -4,7 +4,7 @@ use Rattle.std.proofs.lemmas.Bool.{and_from, and_parts, leb-true, le-leb, ltb-tr
 use Rattle.std.proofs.lemmas.Int.{ints, of_z-to_z, to_z-of_z}
 use Rattle.std.specs.Prelude.{option_map}
 use Rattle.calendar.specs.Moment.{IsMoment, is_moment}
-use Rattle.sqlcolumns.specs.Numbers.{IsPlace, counter_column, counter_in, exact_column, exact_in, is_column, is_exact, is_place, is_years, maybe_in, maybe_moment_column, maybe_moment_in, maybe_registrar_column, maybe_registrar_in, moment_column, moment_in, natural_in, registrar_column, registrar_in, serial_in, years_column, years_in}
+use Rattle.sqlcolumns.specs.Numbers.{IsPlace, counter_column, counter_in, exact_column, exact_in, fits_years_column, is_column, is_exact, is_place, maybe_moment_column, maybe_moment_in, maybe_registrar_column, maybe_registrar_in, moment_column, moment_in_column, natural_in, nullable_in, registrar_column, registrar_in, serial_in, years_column, years_in_column}
 use Rattle.sqlcolumns.proofs.ReadLemmas.{kept, passed, same_some, some_read}
 
 -- ---- natural numbers
@@ -17,41 +17,41 @@ natural_written among (negsuc m) n e = cc
 
 -- ---- columns that may be NULL
 
-maybe_back : (column : ℕ → ℤ) (read : ℤ → Option ℕ) (Is : ℕ → Type 0) → ((n : ℕ) → Is n → read (column n) ≡ Some n) → (m : Option ℕ) → IfSome m Is → maybe_in read (option_map column m) ≡ Some m
+maybe_back : (column : ℕ → ℤ) (read : ℤ → Option ℕ) (Is : ℕ → Type 0) → ((n : ℕ) → Is n → read (column n) ≡ Some n) → (m : Option ℕ) → IfSome m Is → nullable_in read (option_map column m) ≡ Some m
 maybe_back column read Is back None is = refl
 maybe_back column read Is back (Some n) is = ap (option_map Some) (back n is)
 
-maybe_written : (column : ℕ → ℤ) (read : ℤ → Option ℕ) → ((c : ℤ) (n : ℕ) → read c ≡ Some n → column n ≡ c) → (c : Option ℤ) (m : Option ℕ) → maybe_in read c ≡ Some m → option_map column m ≡ c
+maybe_written : (column : ℕ → ℤ) (read : ℤ → Option ℕ) → ((c : ℤ) (n : ℕ) → read c ≡ Some n → column n ≡ c) → (c : Option ℤ) (m : Option ℕ) → nullable_in read c ≡ Some m → option_map column m ≡ c
 maybe_written column read written None m e = sym (ap (option_map column) (same_some None m e))
 maybe_written column read written (Some c) m e = some_read (read c) m (λ x. option_map column x ≡ Some c) (λ n is. ap Some (written c n is)) e
 
-maybe_is : (read : ℤ → Option ℕ) (Is : ℕ → Type 0) → ((c : ℤ) (n : ℕ) → read c ≡ Some n → Is n) → (c : Option ℤ) (m : Option ℕ) → maybe_in read c ≡ Some m → IfSome m Is
+maybe_is : (read : ℤ → Option ℕ) (Is : ℕ → Type 0) → ((c : ℤ) (n : ℕ) → read c ≡ Some n → Is n) → (c : Option ℤ) (m : Option ℕ) → nullable_in read c ≡ Some m → IfSome m Is
 maybe_is read Is each None None e = tt
 maybe_is read Is each None (Some n) e = cc
 maybe_is read Is each (Some c) m e = some_read (read c) m (λ x. IfSome x Is) (λ n is. each c n is) e
 
 -- ---- moments
 
-pub moment_back : (m : ℕ) → IsMoment m → moment_in (moment_column m) ≡ Some m
+pub moment_back : (m : ℕ) → IsMoment m → moment_in_column (moment_column m) ≡ Some m
 moment_back m is =
     passed m (is_moment m) (and_from (nat_le 946_684_800 m) (nat_le m 7_258_118_399) (le-leb 946_684_800 m is.0) (le-leb m 7_258_118_399 is.1))
 
-pub moment_written : (c : ℤ) (m : ℕ) → moment_in c ≡ Some m → moment_column m ≡ c
+pub moment_written : (c : ℤ) (m : ℕ) → moment_in_column c ≡ Some m → moment_column m ≡ c
 moment_written c m e = (natural_written is_moment c m e).0
 
-pub moment_is : (c : ℤ) (m : ℕ) → moment_in c ≡ Some m → IsMoment m
+pub moment_is : (c : ℤ) (m : ℕ) → moment_in_column c ≡ Some m → IsMoment m
 moment_is c m e =
     let tests = and_parts (nat_le 946_684_800 m) (nat_le m 7_258_118_399) (natural_written is_moment c m e).1 in
     (leb-true 946_684_800 m tests.0, leb-true m 7_258_118_399 tests.1)
 
 pub maybe_moment_back : (m : Option ℕ) → IfSome m IsMoment → maybe_moment_in (maybe_moment_column m) ≡ Some m
-maybe_moment_back m is = maybe_back moment_column moment_in IsMoment moment_back m is
+maybe_moment_back m is = maybe_back moment_column moment_in_column IsMoment moment_back m is
 
 pub maybe_moment_written : (c : Option ℤ) (m : Option ℕ) → maybe_moment_in c ≡ Some m → maybe_moment_column m ≡ c
-maybe_moment_written c m e = maybe_written moment_column moment_in moment_written c m e
+maybe_moment_written c m e = maybe_written moment_column moment_in_column moment_written c m e
 
 pub maybe_moment_is : (c : Option ℤ) (m : Option ℕ) → maybe_moment_in c ≡ Some m → IfSome m IsMoment
-maybe_moment_is c m e = maybe_is moment_in IsMoment moment_is c m e
+maybe_moment_is c m e = maybe_is moment_in_column IsMoment moment_is c m e
 
 -- ---- registrars and years
 
@@ -70,14 +70,14 @@ registrar_is c place e =
 pub maybe_registrar_back : (place : Option ℕ) → IfSome place IsPlace → maybe_registrar_in (maybe_registrar_column place) ≡ Some place
 maybe_registrar_back place is = maybe_back registrar_column registrar_in IsPlace registrar_back place is
 
-pub years_back : (years : ℕ) → years < 2 ^ 32 → years_in (years_column years) ≡ Some years
-years_back years small = passed years (is_years years) (lt-ltb years 4_294_967_296 small)
+pub years_back : (years : ℕ) → years < 2 ^ 32 → years_in_column (years_column years) ≡ Some years
+years_back years small = passed years (fits_years_column years) (lt-ltb years 4_294_967_296 small)
 
-pub years_written : (c : ℤ) (years : ℕ) → years_in c ≡ Some years → years_column years ≡ c
-years_written c years e = (natural_written is_years c years e).0
+pub years_written : (c : ℤ) (years : ℕ) → years_in_column c ≡ Some years → years_column years ≡ c
+years_written c years e = (natural_written fits_years_column c years e).0
 
-pub years_are : (c : ℤ) (years : ℕ) → years_in c ≡ Some years → years < 2 ^ 32
-years_are c years e = ltb-true years 4_294_967_296 (natural_written is_years c years e).1
+pub years_are : (c : ℤ) (years : ℕ) → years_in_column c ≡ Some years → years < 2 ^ 32
+years_are c years e = ltb-true years 4_294_967_296 (natural_written fits_years_column c years e).1
 
 -- ---- numbers as themselves
 

@@ -3,7 +3,7 @@ use Rattle.std.proofs.Common.{◌≡◌, Some, sym, ap, ◌∙◌}
 use Rattle.objects.specs.declared.roid.ObjectKind.{ObjectKind}
 use Rattle.sqlcolumns.specs.declared.registration.Registration.{Registration}
 use Rattle.sqlcolumns.specs.declared.registration.RegistrationColumns.{RegistrationColumns}
-use Rattle.sqlcolumns.specs.Numbers.{maybe_moment_in, moment_in, registrar_in}
+use Rattle.sqlcolumns.specs.Numbers.{maybe_moment_in, moment_in_column, registrar_in}
 use Rattle.sqlcolumns.specs.Registrations.{IsRegistration, columns_with, registration_columns, registration_in}
 use Rattle.sqlcolumns.specs.Roids.{roid_columns, roid_in}
 use Rattle.sqlcolumns.specs.Steps.{◌>>=◌}
@@ -26,7 +26,7 @@ registration_back kind r columns is e =
 record IsRead (kind : ObjectKind) (columns : RegistrationColumns) (r : Registration) : Type 0 where
   pub roid : roid_in kind columns.creator columns.serial ≡ Some r.roid
   pub sponsor : registrar_in columns.sponsor ≡ Some r.sponsor
-  pub created : moment_in columns.created ≡ Some r.created
+  pub created : moment_in_column columns.created ≡ Some r.created
   pub transferred : maybe_moment_in columns.transferred ≡ Some r.transferred
   pub updated : maybe_moment_in columns.updated ≡ Some r.updated
 
@@ -34,7 +34,7 @@ is_read : (kind : ObjectKind) (columns : RegistrationColumns) (r : Registration)
 is_read kind columns r e =
     let roid = step (roid_in kind columns.creator columns.serial) _ r e in
     let sponsor = step (registrar_in columns.sponsor) _ r roid.rest in
-    let created = step (moment_in columns.created) _ r sponsor.rest in
+    let created = step (moment_in_column columns.created) _ r sponsor.rest in
     let transferred = step (maybe_moment_in columns.transferred) _ r created.rest in
     let updated = step (maybe_moment_in columns.updated) _ r transferred.rest in
     let same : ◌≡◌ {A = Registration} (record { roid = roid.given; sponsor = sponsor.given; created = created.given; transferred = transferred.given; updated = updated.given }) r = same_some _ _ updated.rest in

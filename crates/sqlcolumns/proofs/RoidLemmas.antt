@@ -7,7 +7,7 @@ use Rattle.objects.specs.declared.roid.Roid.{Roid}
 use Rattle.accounts.specs.Lines.{object_rank}
 use Rattle.sqlcolumns.specs.declared.roid.RoidColumns.{RoidColumns}
 use Rattle.sqlcolumns.specs.Numbers.{counter_column, registrar_column, registrar_in, serial_in}
-use Rattle.sqlcolumns.specs.Roids.{IsRoid, is_kind, roid_columns, roid_in}
+use Rattle.sqlcolumns.specs.Roids.{IsRoid, is_object_kind, roid_columns, roid_in}
 use Rattle.sqlcolumns.specs.Steps.{◌>>=◌}
 use Rattle.sqlcolumns.proofs.NumberLemmas.{registrar_back, registrar_is, registrar_written, serial_back, serial_is, serial_written}
 use Rattle.sqlcolumns.proofs.ReadLemmas.{kept, passed, same_some, step}
@@ -23,20 +23,20 @@ kind_back Contact = refl
 kind_back Domain = refl
 kind_back Host = refl
 
-same_kind : (a b : ObjectKind) → is_kind a b ≡ true → a ≡ b
+same_kind : (a b : ObjectKind) → is_object_kind a b ≡ true → a ≡ b
 same_kind a b e = sym (kind_back a) ∙ ap kind_of ((Decides-eqb (object_rank a) (object_rank b)).0 e) ∙ kind_back b
 
-is_itself : (kind : ObjectKind) → is_kind kind kind ≡ true
+is_itself : (kind : ObjectKind) → is_object_kind kind kind ≡ true
 is_itself kind = (Decides-eqb (object_rank kind) (object_rank kind)).1 refl
 
 -- what is written has this kind
 pub of_kind : (kind : ObjectKind) (roid : Roid) (columns : RoidColumns) → roid_columns kind roid ≡ Some columns → roid.kind ≡ kind
-of_kind kind roid columns e = same_kind roid.kind kind (kept (record { creator = registrar_column roid.creator; serial = counter_column roid.serial }) columns (is_kind roid.kind kind) e).0
+of_kind kind roid columns e = same_kind roid.kind kind (kept (record { creator = registrar_column roid.creator; serial = counter_column roid.serial }) columns (is_object_kind roid.kind kind) e).0
 
 pub roid_back : (kind : ObjectKind) (roid : Roid) (columns : RoidColumns) → IsRoid roid → roid_columns kind roid ≡ Some columns → roid_in kind columns.creator columns.serial ≡ Some roid
 roid_back kind roid columns is e =
     let written : RoidColumns = record { creator = registrar_column roid.creator; serial = counter_column roid.serial } in
-    let same = (kept written columns (is_kind roid.kind kind) e).1 in
+    let same = (kept written columns (is_object_kind roid.kind kind) e).1 in
     let there : roid_in kind written.creator written.serial ≡ Some (record roid { kind = kind }) = λ i. registrar_back roid.creator is.creator i >>= (λ p. serial_back roid.serial is.serial i >>= (λ n. Some (record { kind = kind; creator = p; serial = n }))) in
     sym (λ i. roid_in kind (same i).creator (same i).serial) ∙ there ∙ sym (λ i. Some (record roid { kind = of_kind kind roid columns e i }))
 
@@ -61,7 +61,7 @@ pub roid_written : (kind : ObjectKind) (creator serial : ℤ) (roid : Roid) → 
 roid_written kind creator serial roid e =
     let read = roid_read kind creator serial roid e in
     ap (λ k. roid_columns k roid) read.kind_is
-    ∙ passed (record { creator = registrar_column roid.creator; serial = counter_column roid.serial }) (is_kind roid.kind roid.kind) (is_itself roid.kind)
+    ∙ passed (record { creator = registrar_column roid.creator; serial = counter_column roid.serial }) (is_object_kind roid.kind roid.kind) (is_itself roid.kind)
     ∙ (λ i. Some (record { creator = registrar_written creator roid.creator read.creator_is i; serial = serial_written serial roid.serial read.serial_is i }))
 
 pub roid_is : (kind : ObjectKind) (creator serial : ℤ) (roid : Roid) → roid_in kind creator serial ≡ Some roid → IsRoid roid

@@ -5,8 +5,8 @@ use Rattle.std.proofs.lemmas.Bool.Decides.{Decides-int_eq}
 use Rattle.objects.specs.declared.transfer.Transfer.{Transfer}
 use Rattle.sqltables.specs.declared.transfer.TransferRow.{TransferRow}
 use Rattle.sqlcolumns.specs.Codes.{state_in}
-use Rattle.sqlcolumns.specs.Numbers.{moment_in, registrar_in}
-use Rattle.sqlcolumns.specs.Transfers.{IsTransfer, due_column, is_same, transfer_in, transfer_made, transfer_row, with_due}
+use Rattle.sqlcolumns.specs.Numbers.{moment_in_column, registrar_in}
+use Rattle.sqlcolumns.specs.Transfers.{IsTransfer, due_column, is_same, row_of_transfer, transfer_due_at, transfer_made, transfer_of_columns}
 use Rattle.sqlcolumns.proofs.CodeLemmas.{state_back, state_written}
 use Rattle.sqlcolumns.proofs.NumberLemmas.{moment_back, moment_is, moment_written, registrar_back, registrar_is, registrar_written}
 use Rattle.sqlcolumns.proofs.ReadLemmas.{kept, passed, same_some, step}
@@ -26,9 +26,9 @@ same_as_itself (Some a) = (Decides-int_eq a a).1 refl
 -- ---- transfers
 
 -- what was written is read back
-pub transfer_back : (id : ℤ) (contact domain : Option ℤ) (t : Transfer) → IsTransfer t → transfer_in (transfer_row id contact domain t) ≡ Some t
+pub transfer_back : (id : ℤ) (contact domain : Option ℤ) (t : Transfer) → IsTransfer t → transfer_of_columns (row_of_transfer id contact domain t) ≡ Some t
 transfer_back id contact domain t is =
-    (λ i. with_due (transfer_made
+    (λ i. transfer_due_at (transfer_made
     (registrar_back t.requester is.requester i)
     (registrar_back t.losing_registrar is.losing_registrar i)
     (moment_back t.requested is.requested i)
@@ -39,20 +39,20 @@ transfer_back id contact domain t is =
 record IsRead (row : TransferRow) (t : Transfer) : Type 0 where
   pub requester : registrar_in row.requester ≡ Some t.requester
   pub losing_registrar : registrar_in row.losing ≡ Some t.losing_registrar
-  pub requested : moment_in row.requested ≡ Some t.requested
-  pub ac_date : moment_in row.ac_date ≡ Some t.ac_date
+  pub requested : moment_in_column row.requested ≡ Some t.requested
+  pub ac_date : moment_in_column row.ac_date ≡ Some t.ac_date
   pub state : state_in row.state ≡ Some t.state
   pub due : due_column t ≡ row.due
 
-is_read : (row : TransferRow) (t : Transfer) → transfer_in row ≡ Some t → IsRead row t
+is_read : (row : TransferRow) (t : Transfer) → transfer_of_columns row ≡ Some t → IsRead row t
 is_read row t e =
-    let made : Option Transfer = transfer_made (registrar_in row.requester) (registrar_in row.losing) (moment_in row.requested) (moment_in row.ac_date) (state_in row.state) in
+    let made : Option Transfer = transfer_made (registrar_in row.requester) (registrar_in row.losing) (moment_in_column row.requested) (moment_in_column row.ac_date) (state_in row.state) in
     let dated = step made (λ x. cond (is_same (due_column x) row.due) (Some x) None) t e in
     let due = kept dated.given t (is_same (due_column dated.given) row.due) dated.rest in
     let requester = step (registrar_in row.requester) _ dated.given dated.is in
     let losing = step (registrar_in row.losing) _ dated.given requester.rest in
-    let requested = step (moment_in row.requested) _ dated.given losing.rest in
-    let ac_date = step (moment_in row.ac_date) _ dated.given requested.rest in
+    let requested = step (moment_in_column row.requested) _ dated.given losing.rest in
+    let ac_date = step (moment_in_column row.ac_date) _ dated.given requested.rest in
     let state = step (state_in row.state) _ dated.given ac_date.rest in
     let same : ◌≡◌ {A = Transfer} (record { requester = requester.given; losing_registrar = losing.given; requested = requested.given; ac_date = ac_date.given; state = state.given }) t = same_some _ _ state.rest ∙ due.1 in
     record {
@@ -65,7 +65,7 @@ is_read row t e =
     }
 
 -- what is read was written so
-pub transfer_written : (row : TransferRow) (t : Transfer) → transfer_in row ≡ Some t → transfer_row row.id row.contact row.domain t ≡ row
+pub transfer_written : (row : TransferRow) (t : Transfer) → transfer_of_columns row ≡ Some t → row_of_transfer row.id row.contact row.domain t ≡ row
 transfer_written row t e =
     let read = is_read row t e in
     λ i. record row {
@@ -78,7 +78,7 @@ transfer_written row t e =
     }
 
 -- and is a transfer's
-pub transfer_is : (row : TransferRow) (t : Transfer) → transfer_in row ≡ Some t → IsTransfer t
+pub transfer_is : (row : TransferRow) (t : Transfer) → transfer_of_columns row ≡ Some t → IsTransfer t
 transfer_is row t e =
     let read = is_read row t e in
     record {

@@ -34,8 +34,8 @@ subject_column subject = pos (subject_rank subject)
 abbrev pub subject_in : ℤ → Option Subject
 subject_in column = with_code subject_column all_subjects column
 
-abbrev pub all_states : List TransferState
-all_states = Pending ∷ ClientApproved ∷ ClientRejected ∷ ClientCancelled ∷ ServerApproved ∷ []
+abbrev pub all_transfer_states : List TransferState
+all_transfer_states = Pending ∷ ClientApproved ∷ ClientRejected ∷ ClientCancelled ∷ ServerApproved ∷ []
 
 abbrev pub state_column : TransferState → ℤ
 state_column Pending = pos 0
@@ -45,7 +45,7 @@ state_column ClientCancelled = pos 3
 state_column ServerApproved = pos 4
 
 abbrev pub state_in : ℤ → Option TransferState
-state_in column = with_code state_column all_states column
+state_in column = with_code state_column all_transfer_states column
 
 abbrev pub all_roles : List Role
 all_roles = roles.Admin ∷ roles.Tech ∷ roles.Host ∷ []

@@ -16,8 +16,8 @@ use Rattle.sqlcolumns.specs.Transfers.{is_same, maybe_due_column}
 
 -- ---- read
 
-abbrev pub columns_of : ContactRow → RegistrationColumns
-columns_of row = record { creator = row.creator; serial = row.serial; sponsor = row.sponsor; created = row.created; transferred = row.transferred; updated = row.updated }
+abbrev pub contact_registration_columns : ContactRow → RegistrationColumns
+contact_registration_columns row = record { creator = row.creator; serial = row.serial; sponsor = row.sponsor; created = row.created; transferred = row.transferred; updated = row.updated }
 
 abbrev pub postal_in : PostalRow → List (List ℕ) → Postal
 postal_in p street = record { name = p.name; org = p.org; street = street; city = p.city; sp = p.state; pc = p.postal_code; cc = p.country }
@@ -43,11 +43,11 @@ contact_with row r statuses street transfer = record {
 abbrev pub contact_made : ContactRow → Option (List Status) → List (List ℕ) → Option Transfer
     → Option Contact
 contact_made row statuses street transfer = do
-  r ← registration_in kinds.Contact (columns_of row)
+  r ← registration_in kinds.Contact (contact_registration_columns row)
   s ← statuses
   if is_same (maybe_due_column transfer) row.due then Some (contact_with row r s street transfer) else None
 
 -- the contact of a row, if each column reads, whose last transfer is this
-abbrev pub contact_in : ContactRow → Option Transfer → Option Contact
-contact_in row transfer =
+abbrev pub contact_of_columns : ContactRow → Option Transfer → Option Contact
+contact_of_columns row transfer =
     contact_made row (statuses_in row.statuses) (street_in row.postal.street) transfer

@@ -9,19 +9,19 @@ use Rattle.objects.specs.declared.transfer.Transfer.{Transfer}
 use Rattle.sqltables.specs.declared.domain.DomainRow.{DomainRow}
 use Rattle.sqlcolumns.specs.declared.registration.Registration.{Registration}
 use Rattle.sqlcolumns.specs.declared.registration.RegistrationColumns.{RegistrationColumns}
-use Rattle.sqlcolumns.specs.Numbers.{maybe_moment_in, moment_in, years_in}
+use Rattle.sqlcolumns.specs.Numbers.{maybe_moment_in, moment_in_column, years_in_column}
 use Rattle.sqlcolumns.specs.Registrations.{registration_in}
 use Rattle.sqlcolumns.specs.Steps.{◌>>=◌}
 use Rattle.sqlcolumns.specs.Texts.{statuses_in}
 
 -- ---- read
 
-abbrev pub columns_of : DomainRow → RegistrationColumns
-columns_of row = record { creator = row.creator; serial = row.serial; sponsor = row.sponsor; created = row.created; transferred = row.transferred; updated = row.updated }
+abbrev pub domain_registration_columns : DomainRow → RegistrationColumns
+domain_registration_columns row = record { creator = row.creator; serial = row.serial; sponsor = row.sponsor; created = row.created; transferred = row.transferred; updated = row.updated }
 
 abbrev pub some_deletion_in : ℤ → Option ℤ → Option (Option Deletion)
 some_deletion_in deleted restore_requested = do
-  m ← moment_in deleted
+  m ← moment_in_column deleted
   r ← maybe_moment_in restore_requested
   Some (Some (record { deleted = m; restore_requested = r }))
 
@@ -52,12 +52,12 @@ domain_with row r years statuses deletion links transfer = record {
 abbrev pub domain_made : DomainRow → Option (List Status) → Links → Option Transfer
     → Option Domain
 domain_made row statuses links transfer = do
-  r ← registration_in kinds.Domain (columns_of row)
-  y ← years_in row.years
+  r ← registration_in kinds.Domain (domain_registration_columns row)
+  y ← years_in_column row.years
   s ← statuses
   d ← deletion_in row.deleted row.restore_requested
   Some (domain_with row r y s d links transfer)
 
 -- the domain of a row, if each column reads, which names these and whose last transfer is this
-abbrev pub domain_in : DomainRow → Links → Option Transfer → Option Domain
-domain_in row links transfer = domain_made row (statuses_in row.statuses) links transfer
+abbrev pub domain_of_columns : DomainRow → Links → Option Transfer → Option Domain
+domain_of_columns row links transfer = domain_made row (statuses_in row.statuses) links transfer

@@ -7,7 +7,7 @@ use Rattle.objects.specs.declared.status.Status.{Status}
 use Rattle.sqltables.specs.declared.host.HostRow.{HostRow}
 use Rattle.sqlcolumns.specs.declared.host.HostColumns.{HostColumns}
 use Rattle.sqlcolumns.specs.Above.{above}
-use Rattle.sqlcolumns.specs.Numbers.{maybe_moment_in, maybe_registrar_in, moment_in}
+use Rattle.sqlcolumns.specs.Numbers.{maybe_moment_in, maybe_registrar_in, moment_in_column}
 use Rattle.sqlcolumns.specs.Roids.{roid_in}
 use Rattle.sqlcolumns.specs.Steps.{◌>>=◌}
 use Rattle.sqlcolumns.specs.Texts.{statuses_in}
@@ -19,7 +19,7 @@ abbrev pub columns_in : HostRow → Option HostColumns
 columns_in row = do
   roid ← roid_in kinds.Host row.creator row.serial
   external_sponsor ← maybe_registrar_in row.external_sponsor
-  created ← moment_in row.created
+  created ← moment_in_column row.created
   updated ← maybe_moment_in row.updated
   Some (record { roid = roid; external_sponsor = external_sponsor; created = created; updated = updated })
 
@@ -42,5 +42,5 @@ host_made row statuses above addresses = do
   if bytes_eq row.above above then Some (host_with row columns s addresses) else None
 
 -- the host of a row, if each column reads, with these addresses
-abbrev pub host_in : HostRow → List (List ℕ) → Option Host
-host_in row addresses = host_made row (statuses_in row.statuses) (above row.name) addresses
+abbrev pub host_of_columns : HostRow → List (List ℕ) → Option Host
+host_of_columns row addresses = host_made row (statuses_in row.statuses) (above row.name) addresses

@@ -6,7 +6,7 @@ use Rattle.accounts.specs.declared.line.Line.{Line}
 use Rattle.accounts.specs.declared.line.LineKind.{LineKind}
 use Rattle.sqltables.specs.declared.line.LineRow.{LineRow}
 use Rattle.sqlcolumns.specs.Codes.{kind_in}
-use Rattle.sqlcolumns.specs.Numbers.{exact_in, maybe_moment_in, moment_in, years_in}
+use Rattle.sqlcolumns.specs.Numbers.{exact_in, maybe_moment_in, moment_in_column, years_in_column}
 use Rattle.sqlcolumns.specs.Roids.{roid_in}
 use Rattle.sqlcolumns.specs.Steps.{◌>>=◌}
 
@@ -33,7 +33,7 @@ line_made kind roid recorded years cents started refunded = do
   Some (record { kind = k; roid = r; recorded = m; years = y; cents = c; started = s; refunded = b })
 
 -- the line of a row, if each column but that of its grace's end reads
-abbrev pub line_in : LineRow → Option Line
-line_in row =
-    line_made (kind_in row.kind) (maybe_domain_in row.creator row.serial) (moment_in row.recorded) (years_in row.years)
+abbrev pub line_of_columns : LineRow → Option Line
+line_of_columns row =
+    line_made (kind_in row.kind) (maybe_domain_in row.creator row.serial) (moment_in_column row.recorded) (years_in_column row.years)
     (exact_in row.cents) (maybe_moment_in row.grace.started) (maybe_moment_in row.refunded)

@@ -13,7 +13,7 @@ use Rattle.accounts.specs.declared.message.Subject.{Subject}
 use Rattle.sqltables.specs.declared.message.MessageRow.{MessageRow}
 use Rattle.sqlcolumns.specs.declared.origin.OriginColumns.{OriginColumns}
 use Rattle.sqlcolumns.specs.Codes.{subject_column, subject_in, with_code}
-use Rattle.sqlcolumns.specs.Numbers.{exact_column, exact_in, moment_column, moment_in}
+use Rattle.sqlcolumns.specs.Numbers.{exact_column, exact_in, moment_column, moment_in_column}
 use Rattle.sqlcolumns.specs.Steps.{◌>>=◌}
 
 -- ---- written
@@ -49,8 +49,8 @@ origin_columns (Lapse notice) =
 origin_columns (Command number notice) = command_columns number notice
 
 -- the row of a message, under its number and its account's
-abbrev pub message_row : ℤ → ℤ → Message → Option MessageRow
-message_row id account m = do
+abbrev pub row_of_message : ℤ → ℤ → Message → Option MessageRow
+row_of_message id account m = do
   o ← origin_columns m.origin
   Some (record { id = id; account = account; moment = moment_column m.moment; class = o.class; number = o.number; name = m.name; subject = subject_column m.subject; notice = o.notice })
 
@@ -87,6 +87,6 @@ message_made moment origin subject name = do
   Some (record { moment = m; origin = o; name = name; subject = s })
 
 -- the message of a row, if each column reads
-abbrev pub message_in : MessageRow → Option Message
-message_in row =
-    message_made (moment_in row.moment) (origin_in (record { class = row.class; number = row.number; notice = row.notice })) (subject_in row.subject) row.name
+abbrev pub message_of_columns : MessageRow → Option Message
+message_of_columns row =
+    message_made (moment_in_column row.moment) (origin_in (record { class = row.class; number = row.number; notice = row.notice })) (subject_in row.subject) row.name

@@ -42,16 +42,16 @@ natural_in among (pos n) = if among n then Some n else None
 natural_in among (negsuc n) = None
 
 -- what is read so, or NULL's none
-abbrev pub maybe_in : (ℤ → Option ℕ) → Option ℤ → Option (Option ℕ)
-maybe_in read None = Some None
-maybe_in read (Some column) = option_map Some (read column)
+abbrev pub nullable_in : (ℤ → Option ℕ) → Option ℤ → Option (Option ℕ)
+nullable_in read None = Some None
+nullable_in read (Some column) = option_map Some (read column)
 
 -- the moment at so many seconds, from the calendar's first to its last
-abbrev pub moment_in : ℤ → Option ℕ
-moment_in column = natural_in is_moment column
+abbrev pub moment_in_column : ℤ → Option ℕ
+moment_in_column column = natural_in is_moment column
 
 abbrev pub maybe_moment_in : Option ℤ → Option (Option ℕ)
-maybe_moment_in column = maybe_in moment_in column
+maybe_moment_in column = nullable_in moment_in_column column
 
 abbrev pub is_place : ℕ → Bool
 is_place place = nat_le 1 place && nat_lt place 4_294_967_296
@@ -60,13 +60,13 @@ abbrev pub registrar_in : ℤ → Option ℕ
 registrar_in column = natural_in is_place column
 
 abbrev pub maybe_registrar_in : Option ℤ → Option (Option ℕ)
-maybe_registrar_in column = maybe_in registrar_in column
+maybe_registrar_in column = nullable_in registrar_in column
 
-abbrev pub is_years : ℕ → Bool
-is_years years = nat_lt years 4_294_967_296
+abbrev pub fits_years_column : ℕ → Bool
+fits_years_column years = nat_lt years 4_294_967_296
 
-abbrev pub years_in : ℤ → Option ℕ
-years_in column = natural_in is_years column
+abbrev pub years_in_column : ℤ → Option ℕ
+years_in_column column = natural_in fits_years_column column
 
 -- a number below 2 ^ 63
 abbrev pub is_exact : ℕ → Bool

@@ -5,7 +5,7 @@ use Rattle.objects.specs.declared.roid.ObjectKind.{ObjectKind}
 use Rattle.sqlcolumns.specs.declared.registration.Registration.{Registration}
 use Rattle.sqlcolumns.specs.declared.registration.RegistrationColumns.{RegistrationColumns}
 use Rattle.sqlcolumns.specs.declared.roid.RoidColumns.{RoidColumns}
-use Rattle.sqlcolumns.specs.Numbers.{IsPlace, maybe_moment_column, maybe_moment_in, moment_column, moment_in, registrar_column, registrar_in}
+use Rattle.sqlcolumns.specs.Numbers.{IsPlace, maybe_moment_column, maybe_moment_in, moment_column, moment_in_column, registrar_column, registrar_in}
 use Rattle.sqlcolumns.specs.Roids.{IsRoid, roid_columns, roid_in}
 use Rattle.sqlcolumns.specs.Steps.{◌>>=◌}
 
@@ -38,7 +38,7 @@ abbrev pub registration_in : ObjectKind → RegistrationColumns → Option Regis
 registration_in kind columns = do
   roid ← roid_in kind columns.creator columns.serial
   sponsor ← registrar_in columns.sponsor
-  created ← moment_in columns.created
+  created ← moment_in_column columns.created
   transferred ← maybe_moment_in columns.transferred
   updated ← maybe_moment_in columns.updated
   Some (record { roid = roid; sponsor = sponsor; created = created; transferred = transferred; updated = updated })

@@ -12,13 +12,13 @@ pub record IsRoid (roid : Roid) : Type 0 where
   pub creator : IsPlace roid.creator
   pub serial : roid.serial < 2 ^ 64
 
-abbrev pub is_kind : ObjectKind → ObjectKind → Bool
-is_kind a b = object_rank a == object_rank b
+abbrev pub is_object_kind : ObjectKind → ObjectKind → Bool
+is_object_kind a b = object_rank a == object_rank b
 
 -- the columns of a ROID, if it is of this kind
 abbrev pub roid_columns : ObjectKind → Roid → Option RoidColumns
 roid_columns kind roid =
-    if is_kind roid.kind kind then Some (record { creator = registrar_column roid.creator; serial = counter_column roid.serial })
+    if is_object_kind roid.kind kind then Some (record { creator = registrar_column roid.creator; serial = counter_column roid.serial })
     else None
 
 -- the ROID of this kind with these columns

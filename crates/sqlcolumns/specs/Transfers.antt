@@ -7,7 +7,7 @@ use Rattle.objects.specs.declared.transfer.Transfer.{Transfer}
 use Rattle.objects.specs.declared.transfer.TransferState.{TransferState}
 use Rattle.sqltables.specs.declared.transfer.TransferRow.{TransferRow}
 use Rattle.sqlcolumns.specs.Codes.{state_column, state_in}
-use Rattle.sqlcolumns.specs.Numbers.{IsPlace, moment_column, moment_in, registrar_column, registrar_in}
+use Rattle.sqlcolumns.specs.Numbers.{IsPlace, moment_column, moment_in_column, registrar_column, registrar_in}
 use Rattle.sqlcolumns.specs.Steps.{◌>>=◌}
 
 pub record IsTransfer (t : Transfer) : Type 0 where
@@ -26,8 +26,8 @@ maybe_due_column None = None
 maybe_due_column (Some t) = due_column t
 
 -- the row of a transfer, under its number, of the contact or the domain with this one
-abbrev pub transfer_row : ℤ → Option ℤ → Option ℤ → Transfer → TransferRow
-transfer_row id contact domain t = record {
+abbrev pub row_of_transfer : ℤ → Option ℤ → Option ℤ → Transfer → TransferRow
+row_of_transfer id contact domain t = record {
   id = id;
   contact = contact;
   domain = domain;
@@ -59,12 +59,12 @@ transfer_made requester losing requested ac_date state = do
   Some (record { requester = r; losing_registrar = l; requested = m; ac_date = a; state = s })
 
 -- the transfer, if this is when it is due
-abbrev pub with_due : Option Transfer → Option ℤ → Option Transfer
-with_due transfer due = do
+abbrev pub transfer_due_at : Option Transfer → Option ℤ → Option Transfer
+transfer_due_at transfer due = do
   t ← transfer
   if is_same (due_column t) due then Some t else None
 
 -- the transfer of a row, if each column reads, and it is due when it says
-abbrev pub transfer_in : TransferRow → Option Transfer
-transfer_in row =
-    with_due (transfer_made (registrar_in row.requester) (registrar_in row.losing) (moment_in row.requested) (moment_in row.ac_date) (state_in row.state)) row.due
+abbrev pub transfer_of_columns : TransferRow → Option Transfer
+transfer_of_columns row =
+    transfer_due_at (transfer_made (registrar_in row.requester) (registrar_in row.losing) (moment_in_column row.requested) (moment_in_column row.ac_date) (state_in row.state)) row.due

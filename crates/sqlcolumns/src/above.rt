@@ -16,7 +16,7 @@ pub fn above_column(alloc: Global, name: &str) -> Result<Text, AllocError>
 }
 
 fn labels_of(alloc: Global, name: &str) -> Result<Vec<&str>, AllocError>
-    ensures { IfOk result (λ labels. map (λ l. l.now) labels.items ≡ spec.labels_of name.now) }
+    ensures { IfOk result (λ labels. map (λ l. l.now) labels.items ≡ spec.parts_between_dots name.now) }
 {
     name.split('.').collect(alloc)
 }

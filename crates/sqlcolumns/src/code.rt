@@ -101,7 +101,7 @@ impl Coded for Subject {
 impl Coded for TransferState {
     ghost code = { spec.state_column };
 
-    ghost all = { spec.all_states };
+    ghost all = { spec.all_transfer_states };
 
     ghost back = { Prim.search rules };
 

@@ -24,7 +24,7 @@ pub fn contact_row(
     id: i64,
     contact: &Contact,
 ) -> Result<Option<ContactRow>, AllocError>
-    ensures { IfOk result (λ row. row ≡ inner_spec.contact_row id contact.now) }
+    ensures { IfOk result (λ row. row ≡ inner_spec.row_of_contact id contact.now) }
 {
     let Some(columns) = registration_columns(ObjectKind::Contact, registration_of(contact)) else {
         return Ok(None);
@@ -43,7 +43,7 @@ pub fn is_contact(contact: &Contact) -> bool
 }
 
 fn registration_of(contact: &Contact) -> Registration
-    ensures { result ≡ inner_spec.registration_of contact.now }
+    ensures { result ≡ inner_spec.contact_registration contact.now }
 {
     Registration {
         roid: contact.roid,
@@ -79,7 +79,7 @@ fn row_with(
     columns: RegistrationColumns,
     postal: PostalRow,
 ) -> Result<ContactRow, AllocError>
-    ensures { IfOk result (λ row. row ≡ inner_spec.row_with id contact.now columns postal) }
+    ensures { IfOk result (λ row. row ≡ inner_spec.contact_row_with id contact.now columns postal) }
 {
     Ok(ContactRow {
         id,
@@ -105,7 +105,7 @@ pub fn contact_of_row(
     row: ContactRow,
     transfer: Option<Transfer>,
 ) -> Result<Option<Contact>, AllocError>
-    ensures { IfOk result (λ contact. contact ≡ spec.contact_in row transfer) }
+    ensures { IfOk result (λ contact. contact ≡ spec.contact_of_columns row transfer) }
 {
     let statuses = statuses_of(alloc, &row)?;
     let street = street_of(alloc, &row)?;
@@ -142,7 +142,7 @@ fn contact_made(
 }
 
 fn columns_of(row: &ContactRow) -> RegistrationColumns
-    ensures { result ≡ spec.columns_of row.now }
+    ensures { result ≡ spec.contact_registration_columns row.now }
 {
     RegistrationColumns {
         creator: row.creator,

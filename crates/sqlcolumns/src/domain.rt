@@ -36,7 +36,7 @@ pub fn domain_row(
     due: Moment,
     domain: &Domain,
 ) -> Result<Option<DomainRow>, AllocError>
-    ensures { IfOk result (λ row. row ≡ inner_spec.domain_row id registrant due domain.now) }
+    ensures { IfOk result (λ row. row ≡ inner_spec.row_of_domain id registrant due domain.now) }
 {
     let Some(columns) = registration_columns(ObjectKind::Domain, registration_of(domain)) else {
         return Ok(None);
@@ -65,7 +65,7 @@ fn show_deletion(deletion: Option<Deletion>)
 }
 
 fn registration_of(domain: &Domain) -> Registration
-    ensures { result ≡ inner_spec.registration_of domain.now }
+    ensures { result ≡ inner_spec.domain_registration domain.now }
 {
     Registration {
         roid: domain.roid,
@@ -100,7 +100,7 @@ fn row_with(
     columns: RegistrationColumns,
     deletion: DeletionColumns,
 ) -> Result<DomainRow, AllocError>
-    ensures { IfOk result (λ row. row ≡ inner_spec.row_with id registrant due domain.now columns
+    ensures { IfOk result (λ row. row ≡ inner_spec.domain_row_with id registrant due domain.now columns
         deletion) }
 {
     Ok(DomainRow {
@@ -129,7 +129,7 @@ pub fn domain_of_row(
     links: Links,
     transfer: Option<Transfer>,
 ) -> Result<Option<Domain>, AllocError>
-    ensures { IfOk result (λ domain. domain ≡ spec.domain_in row links transfer) }
+    ensures { IfOk result (λ domain. domain ≡ spec.domain_of_columns row links transfer) }
 {
     let statuses = statuses_of(alloc, &row)?;
     Ok(domain_made(row, statuses, links, transfer))
@@ -166,7 +166,7 @@ fn domain_made(
 }
 
 fn columns_of(row: &DomainRow) -> RegistrationColumns
-    ensures { result ≡ spec.columns_of row.now }
+    ensures { result ≡ spec.domain_registration_columns row.now }
 {
     RegistrationColumns {
         creator: row.creator,

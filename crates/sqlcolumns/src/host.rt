@@ -38,7 +38,7 @@ pub fn host_row(
     sponsor: Option<i64>,
     host: &Host,
 ) -> Result<Option<HostRow>, AllocError>
-    ensures { IfOk result (λ row. row ≡ inner_spec.host_row id sponsor host.now) }
+    ensures { IfOk result (λ row. row ≡ inner_spec.row_of_host id sponsor host.now) }
 {
     let Some(roid) = roid_columns(ObjectKind::Host, &host.roid) else {
         return Ok(None);
@@ -53,7 +53,7 @@ fn row_with(
     host: &Host,
     roid: RoidColumns,
 ) -> Result<HostRow, AllocError>
-    ensures { IfOk result (λ row. row ≡ inner_spec.row_with id sponsor host.now roid) }
+    ensures { IfOk result (λ row. row ≡ inner_spec.host_row_with id sponsor host.now roid) }
 {
     Ok(HostRow {
         id,
@@ -84,7 +84,7 @@ pub fn host_of_row(
     row: HostRow,
     addresses: Seq<Text>,
 ) -> Result<Option<Host>, AllocError>
-    ensures { IfOk result (λ host. host ≡ spec.host_in row addresses) }
+    ensures { IfOk result (λ host. host ≡ spec.host_of_columns row addresses) }
 {
     let statuses = statuses_of(alloc, &row)?;
     let above = above_of(alloc, &row)?;

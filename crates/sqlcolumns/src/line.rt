@@ -24,7 +24,7 @@ pub(crate) struct DomainColumns {
 /// The row of a line, under its number and its account's, with the column for the end of its grace. There
 /// is none if the line is on a contact or a host, or its cents are too many.
 pub fn line_row(id: i64, account: i64, line: &Line, ends: Option<i64>) -> Option<LineRow>
-    ensures { result ≡ inner_spec.line_row id account line.now ends }
+    ensures { result ≡ inner_spec.row_of_line id account line.now ends }
 {
     let domain = domain_columns(&line.roid)?;
     let cents = exact_column(line.cents)?;
@@ -47,11 +47,11 @@ pub fn line_row(id: i64, account: i64, line: &Line, ends: Option<i64>) -> Option
 
 /// The line of a row, if it's one's. The end of its grace isn't looked at.
 pub fn line_of_row(row: &LineRow) -> Option<Line>
-    ensures value { result ≡ spec.line_in row.now }
-    ensures found { IfSome result (λ line. inner_spec.line_row row.now.id row.now.account line
+    ensures value { result ≡ spec.line_of_columns row.now }
+    ensures found { IfSome result (λ line. inner_spec.row_of_line row.now.id row.now.account line
         row.now.grace.ends ≡ Some row.now) }
     ensures only { (line : Line) → inner_spec.IsLine line
-        → inner_spec.line_row row.now.id row.now.account line row.now.grace.ends ≡ Some row.now
+        → inner_spec.row_of_line row.now.id row.now.account line row.now.grace.ends ≡ Some row.now
         → result ≡ Some line }
 {
     line_made(

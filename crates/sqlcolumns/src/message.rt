@@ -20,7 +20,7 @@ pub fn message_row(
     account: i64,
     message: &Message,
 ) -> Result<Option<MessageRow>, AllocError>
-    ensures { IfOk result (λ row. row ≡ spec.message_row id account message.now) }
+    ensures { IfOk result (λ row. row ≡ spec.row_of_message id account message.now) }
 {
     let name = message.name.clone()?;
     let Some(origin) = origin_columns(message.origin) else {
@@ -40,10 +40,10 @@ pub fn message_row(
 
 /// The message of a row, if it's one's.
 pub fn message_of_row(row: MessageRow) -> Option<Message>
-    ensures value { result ≡ spec.message_in row }
-    ensures found { IfSome result (λ m. spec.message_row row.id row.account m ≡ Some row) }
+    ensures value { result ≡ spec.message_of_columns row }
+    ensures found { IfSome result (λ m. spec.row_of_message row.id row.account m ≡ Some row) }
     ensures only { (m : Message) → IsMoment m.moment
-        → spec.message_row row.id row.account m ≡ Some row → result ≡ Some m }
+        → spec.row_of_message row.id row.account m ≡ Some row → result ≡ Some m }
 {
     let columns = OriginColumns {
         class: row.class,

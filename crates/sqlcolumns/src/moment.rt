@@ -30,7 +30,7 @@ pub fn moment_column(moment: Moment) -> i64
 
 /// The moment of a column, if it's one.
 pub fn moment_of_column(column: i64) -> Option<Moment>
-    ensures value { result ≡ spec.moment_in column }
+    ensures value { result ≡ spec.moment_in_column column }
     ensures found { IfSome result (λ m. column ≡ spec.moment_column m) }
     ensures only { (m : ℕ) → IsMoment m → column ≡ spec.moment_column m → result ≡ Some m }
 {

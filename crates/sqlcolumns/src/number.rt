@@ -96,7 +96,7 @@ pub fn years_column(years: u32) -> i64
 
 /// The number of years of a column, if it's one.
 pub fn years_of_column(column: i64) -> Option<u32>
-    ensures value { result ≡ spec.years_in column }
+    ensures value { result ≡ spec.years_in_column column }
     ensures found { IfSome result (λ years. column ≡ spec.years_column years) }
     ensures only { (years : ℕ) → years < 2 ^ 32 → column ≡ spec.years_column years
         → result ≡ Some years }

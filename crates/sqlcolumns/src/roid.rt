@@ -28,7 +28,7 @@ pub(crate) fn roid_columns(kind: ObjectKind, roid: &Roid) -> Option<RoidColumns>
 }
 
 fn is_kind(a: ObjectKind, b: ObjectKind) -> bool
-    ensures { result ≡ spec.is_kind a b }
+    ensures { result ≡ spec.is_object_kind a b }
 {
     a == b
 }

@@ -18,7 +18,7 @@ pub fn transfer_row(
     domain: Option<i64>,
     transfer: &Transfer,
 ) -> TransferRow
-    ensures { result ≡ spec.transfer_row id contact domain transfer.now }
+    ensures { result ≡ spec.row_of_transfer id contact domain transfer.now }
 {
     TransferRow {
         id,
@@ -65,11 +65,11 @@ pub(crate) fn maybe_due_column(transfer: &Option<Transfer>) -> Option<i64>
 
 /// The transfer of a row, if it's one's.
 pub fn transfer_of_row(row: &TransferRow) -> Option<Transfer>
-    ensures value { result ≡ spec.transfer_in row.now }
-    ensures found { IfSome result (λ t. spec.transfer_row row.now.id row.now.contact row.now.domain
+    ensures value { result ≡ spec.transfer_of_columns row.now }
+    ensures found { IfSome result (λ t. spec.row_of_transfer row.now.id row.now.contact row.now.domain
         t ≡ row.now) }
     ensures only { (t : Transfer) → spec.IsTransfer t
-        → spec.transfer_row row.now.id row.now.contact row.now.domain t ≡ row.now
+        → spec.row_of_transfer row.now.id row.now.contact row.now.domain t ≡ row.now
         → result ≡ Some t }
 {
     let transfer = transfer_made(
@@ -103,7 +103,7 @@ fn transfer_made(
 
 /// The transfer, if this is when it's due.
 fn with_due(transfer: Option<Transfer>, due: Option<i64>) -> Option<Transfer>
-    ensures { result ≡ spec.with_due transfer due }
+    ensures { result ≡ spec.transfer_due_at transfer due }
 {
     let transfer = transfer?;
     if is_same(due_column(&transfer), due) {

@@ -12,16 +12,16 @@ use Rattle.sqlcolumns.specs.Steps.{◌>>=◌}
 use Rattle.states.specs.declared.fault.BookFault.{BookFault}
 use Rattle.states.specs.States.{FindsSome, Reads, StateOf}
 use Rattle.sqlrows.proofs.StateLemmas.{reads-on, stays-on}
-use Rattle.sqlterms.specs.Terms.{days_of}
+use Rattle.sqlterms.specs.Terms.{days_of_rows}
 use Rattle.sqlderived.specs.Dues.{dues_are_right, is_due_right}
-use Rattle.sqlderived.specs.inner.Finding.{contact_in, contacts_until, domain_in, domains_until, objects_in, with_row, with_rows}
+use Rattle.sqlderived.specs.inner.Finding.{contact_due_in_row, contacts_until, domain_due_in_row, domains_until, objects_in, with_row, with_rows}
 use Rattle.sqlderived.proofs.DueLemmas.{all-found, all-under, some-right, until-there}
 
 pub due-told : (s a b t : StateOf Content) (p : PolicyRules) (m : ℕ) (contacts all list : List Due)
-    → Reads s a × (a.is_clean ≡ true → days_of s.content ≡ Some p.days)
+    → Reads s a × (a.is_clean ≡ true → days_of_rows s.content ≡ Some p.days)
     → (a.is_clean ≡ true → IsConsistent a.content)
-    → Reads a b × (b.is_clean ≡ true → with_rows (contact_in m a.content) [] (contacts_until m a.content) ≡ Some contacts)
-    → Reads b t × (t.is_clean ≡ true → list_all (is_due_right p.days b.content) (domains_until m b.content) ≡ true → with_rows (domain_in p m b.content) contacts (domains_until m b.content) ≡ Some all)
+    → Reads a b × (b.is_clean ≡ true → with_rows (contact_due_in_row m a.content) [] (contacts_until m a.content) ≡ Some contacts)
+    → Reads b t × (t.is_clean ≡ true → list_all (is_due_right p.days b.content) (domains_until m b.content) ≡ true → with_rows (domain_due_in_row p m b.content) contacts (domains_until m b.content) ≡ Some all)
     → list ≡ all
     → Reads s t × (t.is_clean ≡ true → dues_are_right s.content ≡ true → list ≡ due_by p m (objects_in s.content))
 due-told s a b t p m contacts all list days consistent first second is =
@@ -33,8 +33,8 @@ due-told s a b t p m contacts all list days consistent first second is =
           let same = days.0.content start in
           is
           ∙ all-found s.content p m (subst IsConsistent same (consistent start)) (days.1 start) right contacts all
-          (subst (λ (xs : Content). with_rows (contact_in m xs) [] (contacts_until m xs) ≡ Some contacts) same (first.1 before))
-          (subst (λ (xs : Content). list_all (is_due_right p.days xs) (domains_until m xs) ≡ true → with_rows (domain_in p m xs) contacts (domains_until m xs) ≡ Some all) (both.content before) (second.1 clean)
+          (subst (λ (xs : Content). with_rows (contact_due_in_row m xs) [] (contacts_until m xs) ≡ Some contacts) same (first.1 before))
+          (subst (λ (xs : Content). list_all (is_due_right p.days xs) (domains_until m xs) ≡ true → with_rows (domain_due_in_row p m xs) contacts (domains_until m xs) ≡ Some all) (both.content before) (second.1 clean)
           (some-right (is_due_right p.days s.content) s.content.domains (domains_until m s.content) (until-there s.content m) (all-under p.days s.content (days.1 start) right))),
     )
 
@@ -53,7 +53,7 @@ module _ (p : PolicyRules) (moment : ℕ) (s : StateOf Content) where
   test = is_due_right p.days s.content
 
   abbrev read : DomainRow → Option (Option Due)
-  read = domain_in p moment s.content
+  read = domain_due_in_row p moment s.content
 
   -- of rows whose columns are right these are left, and give with what was found what all of them give
   abbrev pub IsLeft : (before : List Due) (rows : List DomainRow) (found : List Due) (rest : List DomainRow) → StateOf Content → Type 0
@@ -63,7 +63,7 @@ module _ (p : PolicyRules) (moment : ℕ) (s : StateOf Content) where
 
   -- one row fewer is left
   pub one-fewer : (before : List Due) (rows : List DomainRow) (found more : List Due) (row : DomainRow) (rest : List DomainRow) (m t : StateOf Content) → IsLeft before rows found (row ∷ rest) m
-      → Reads m t × (t.is_clean ≡ true → is_due_right p.days m.content row ≡ true → with_row found (domain_in p moment m.content row) ≡ Some more) → IsLeft before rows more rest t
+      → Reads m t × (t.is_clean ≡ true → is_due_right p.days m.content row ≡ true → with_row found (domain_due_in_row p moment m.content row) ≡ Some more) → IsLeft before rows more rest t
   one-fewer before rows found more row rest m t left step = (
     reads-on s m t left.0 step.0,
     λ clean right.
@@ -72,6 +72,6 @@ module _ (p : PolicyRules) (moment : ℕ) (s : StateOf Content) where
         let was = left.1 w right in
         let parts = and_parts (test row) (list_all test rest) was.0 in
         let is : with_row found (read row) ≡ Some more =
-        subst (λ (xs : Content). is_due_right p.days xs row ≡ true → with_row found (domain_in p moment xs row) ≡ Some more) same (step.1 clean) parts.0 in
+        subst (λ (xs : Content). is_due_right p.days xs row ≡ true → with_row found (domain_due_in_row p moment xs row) ≡ Some more) same (step.1 clean) parts.0 in
         (parts.1, sym (ap (λ o. o >>= (λ f. with_rows read f rest)) is) ∙ was.1),
   )

@@ -14,13 +14,13 @@ use Rattle.states.specs.States.{Finds, FindsSome, StateOf}
 use Rattle.sqlrows.specs.Read.{first_read}
 use Rattle.sqlrows.proofs.StateLemmas.{reads-on, stays-on}
 use Rattle.sqlobjects.proofs.PutLemmas.{filter-has}
-use Rattle.sqldomains.specs.Domains.{domain_of, domains_of}
+use Rattle.sqldomains.specs.Domains.{domain_read, domains_of}
 use Rattle.sqldomains.proofs.FoundLemmas.{domain-named}
 use Rattle.sqlderived.specs.Dues.{is_due_right}
 
 pub checked-domain-found : (s m t : StateOf Content) (given name : List ℕ) (same : given ≡ name) (days : Schedule) (r : Result (Option Domain) BookFault) (rows : List DomainRow)
     → Finds {A = List DomainRow} (Ok rows) (filter (table.domain_with_name given) s.content.domains) s m
-    → FindsSome r (λ d. (first_read (domain_of m.content) rows ≡ d) × ((row : DomainRow) → Has rows row → is_due_right days m.content row ≡ true)) m t
+    → FindsSome r (λ d. (first_read (domain_read m.content) rows ≡ d) × ((row : DomainRow) → Has rows row → is_due_right days m.content row ≡ true)) m t
     → FindsSome r (λ d. (get (domains_of s.content) name ≡ d) × ((row : DomainRow) → Has s.content.domains row → row.name ≡ name → is_due_right days s.content row ≡ true)) s t
 checked-domain-found s m t given name same days (Err fault) rows asked met = stays-on s m t asked.0 met
 checked-domain-found s m t given name same days (Ok it) rows asked met = (
@@ -28,8 +28,8 @@ checked-domain-found s m t given name same days (Ok it) rows asked met = (
   λ e.
       let start = met.0.clean e in
       let told = met.1 e in (
-        sym ((λ i. first_read (domain_of (asked.0.content start i)) (asked.1 start i))
-            ∙ ap (λ (n : List ℕ). first_read (domain_of s.content) (filter (table.domain_with_name n) s.content.domains)) same
+        sym ((λ i. first_read (domain_read (asked.0.content start i)) (asked.1 start i))
+            ∙ ap (λ (n : List ℕ). first_read (domain_read s.content) (filter (table.domain_with_name n) s.content.domains)) same
             ∙ domain-named s.content name)
             ∙ told.0,
         λ row there named.

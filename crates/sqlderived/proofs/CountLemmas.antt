@@ -9,7 +9,7 @@ use Rattle.std.specs.Option.{option_map_or}
 use Rattle.std.specs.Ordering.{nat_cmp}
 use Rattle.basis.specs.Sweeps.{given_list}
 use Rattle.basis.proofs.ApartLaws.{given_apart, given_insert}
-use Rattle.sqlobjects.specs.inner.Changes.{put}
+use Rattle.sqlobjects.specs.inner.Changes.{with_named}
 use Rattle.sqlderived.specs.Held.{counts_one, counts_where}
 
 one_more : (c n : ℕ) → c + suc n ≡ suc c + n
@@ -77,7 +77,7 @@ module _ {K X : Type 0} (p : X → Bool) where
 
 -- of what stands under names
 module _ {X : Type 0} (p : X → Bool) where
-  pub count-put : (m : FinMap (slice_cmp nat_cmp) X) (name : List ℕ) (it : Option X) → count p (values (put m name it)) + counts_where p (get m name) ≡ count p (values m) + counts_where p it
+  pub count-put : (m : FinMap (slice_cmp nat_cmp) X) (name : List ℕ) (it : Option X) → count p (values (with_named m name it)) + counts_where p (get m name) ≡ count p (values m) + counts_where p it
   count-put m name (Some x) = count-insert p (slice_cmp nat_cmp) nat_list_cmp_total (slice_cmp-IsAntisymmetric nat_cmp-IsAntisymmetric) m name x
   count-put m name None = count-remove p (slice_cmp nat_cmp) nat_list_cmp_total (slice_cmp-IsAntisymmetric nat_cmp-IsAntisymmetric) m name ∙ none (count p (values m))
     where

@@ -18,7 +18,7 @@ use Rattle.objects.specs.declared.domain.Domain.{Domain}
 use Rattle.objects.specs.declared.roid.ObjectKind.{ObjectKind}
 use Rattle.objects.specs.declared.roid.ObjectKind.TheVariants as kinds
 use Rattle.objects.specs.declared.transfer.Transfer.{Transfer}
-use Rattle.sqlcolumns.specs.Contacts.{columns_of, contact_in, contact_with}
+use Rattle.sqlcolumns.specs.Contacts.{contact_of_columns, contact_registration_columns, contact_with}
 use Rattle.sqlcolumns.specs.Registrations.{registration_in}
 use Rattle.sqlcolumns.specs.Texts.{statuses_in, street_in}
 use Rattle.sqlcolumns.specs.Transfers.{is_same, maybe_due_column}
@@ -38,14 +38,14 @@ use Rattle.sqltables.specs.inner.Due.{is_due_by}
 use Rattle.sqltables.specs.Transfer.{transfer_with_contact}
 use Rattle.sqltables.specs.inner.Consistent.{IsConsistent}
 use Rattle.sqlrows.specs.Read.{first_read, or_else}
-use Rattle.sqlobjects.specs.Objects.{contact_of, contacts_of, last_transfer}
+use Rattle.sqlobjects.specs.Objects.{contact_read, contacts_of, last_transfer}
 use Rattle.sqlobjects.proofs.NameLemmas.{contact-named}
 use Rattle.sqlobjects.proofs.PutLemmas.{bytes_is, filter-has, has-filter, only_named}
 use Rattle.sqlobjects.proofs.VerdictLemmas.{all-pass, each-passes}
-use Rattle.sqldomains.specs.Domains.{domain_of, domains_of}
+use Rattle.sqldomains.specs.Domains.{domain_read, domains_of}
 use Rattle.sqldomains.proofs.LinkedLemmas.{first-has}
 use Rattle.sqldomains.proofs.NameOrderLemmas.{name-read, row-under, stands-there}
-use Rattle.sqlterms.specs.Terms.{days_of}
+use Rattle.sqlterms.specs.Terms.{days_of_rows}
 use Rattle.sqlderived.specs.Dues.{dues_are_right, is_due_right}
 use Rattle.sqlderived.specs.inner.Finding as spec
 use Rattle.sqlderived.proofs.FoundLemmas.{InOrder, found-of_rows, found-rises}
@@ -107,10 +107,10 @@ pub record IsContactRow (row : ContactRow) (c : Contact) : Type 0 where
   pub name : c.name ≡ row.name
   pub due : maybe_due_column c.transfer ≡ row.due
 
-pub contact-row : (xs : Content) (row : ContactRow) (c : Contact) → contact_of xs row ≡ Some c → IsContactRow row c
+pub contact-row : (xs : Content) (row : ContactRow) (c : Contact) → contact_read xs row ≡ Some c → IsContactRow row c
 contact-row xs row c e =
-    let transfer = step (last_transfer (filter (transfer_with_contact row.id) xs.transfers)) (contact_in row) c e in
-    let r = step (registration_in kinds.Contact (columns_of row)) _ c transfer.rest in
+    let transfer = step (last_transfer (filter (transfer_with_contact row.id) xs.transfers)) (contact_of_columns row) c e in
+    let r = step (registration_in kinds.Contact (contact_registration_columns row)) _ c transfer.rest in
     let s = step (statuses_in row.statuses) _ c r.rest in
     let due = kept (contact_with row r.given s.given (street_in row.postal.street) transfer.given) c (is_same (maybe_due_column transfer.given) row.due) s.rest in
     record {
@@ -118,13 +118,13 @@ contact-row xs row c e =
       due = ap (λ (x : Contact). maybe_due_column x.transfer) (sym due.1) ∙ same_is_equal (maybe_due_column transfer.given) row.due due.0;
     }
 
-pub contact-stands : (xs : Content) (row : ContactRow) (c : Contact) → IsConsistent xs → Has xs.contacts row → contact_of xs row ≡ Some c → get (contacts_of xs) row.name ≡ Some c
+pub contact-stands : (xs : Content) (row : ContactRow) (c : Contact) → IsConsistent xs → Has xs.contacts row → contact_read xs row ≡ Some c → get (contacts_of xs) row.name ≡ Some c
 contact-stands xs row c consistent there reads =
-    sym (contact-named xs row.name) ∙ ap (first_read (contact_of xs)) (only_named contact_table.contacts.key (λ (r : ContactRow). r.name) xs.contacts row consistent.keyed.contacts consistent.named.contacts there) ∙ ap (λ o. or_else o None) reads
+    sym (contact-named xs row.name) ∙ ap (first_read (contact_read xs)) (only_named contact_table.contacts.key (λ (r : ContactRow). r.name) xs.contacts row consistent.keyed.contacts consistent.named.contacts there) ∙ ap (λ o. or_else o None) reads
 
-pub contact-under : (xs : Content) (n : List ℕ) (c : Contact) → get (contacts_of xs) n ≡ Some c → (row : ContactRow) × Has xs.contacts row × (contact_of xs row ≡ Some c) × (row.name ≡ n)
+pub contact-under : (xs : Content) (n : List ℕ) (c : Contact) → get (contacts_of xs) n ≡ Some c → (row : ContactRow) × Has xs.contacts row × (contact_read xs row ≡ Some c) × (row.name ≡ n)
 contact-under xs n c e =
-    let it = first-has (contact_of xs) (filter (contact_table.contact_with_name n) xs.contacts) c (contact-named xs n ∙ e) in
+    let it = first-has (contact_read xs) (filter (contact_table.contact_with_name n) xs.contacts) c (contact-named xs n ∙ e) in
     let there = has-filter (contact_table.contact_with_name n) xs.contacts it.0 it.1 in
     (it.0, there.0, it.2, bytes_is it.0.name n there.1)
 
@@ -144,20 +144,20 @@ column-within t u (Some x) e = go (is_pending_state x.state) e
     go false f = cc
 
 -- a contact that is due has a row that may be
-pub contact-within : (xs : Content) (t : ℕ) (row : ContactRow) (c : Contact) (d : Due) → contact_of xs row ≡ Some c → contact_due t (row.name, c) ≡ Some d → contact_table.contact_within_due (pos t) row ≡ true
+pub contact-within : (xs : Content) (t : ℕ) (row : ContactRow) (c : Contact) (d : Due) → contact_read xs row ≡ Some c → contact_due t (row.name, c) ≡ Some d → contact_table.contact_within_due (pos t) row ≡ true
 contact-within xs t row c d reads due =
     let moment = some-due kinds.Contact row.name (option_and_then (passed t) (completes_at c.transfer)) d due in
     ap (is_due_by (pos t)) (sym (contact-row xs row c reads).due) ∙ column-within t moment.0 c.transfer moment.1
 
-contact-asked : (xs : Content) (t : ℕ) (row : ContactRow) (c : Contact) (d : Due) → Has xs.contacts row → contact_of xs row ≡ Some c → contact_due t (row.name, c) ≡ Some d
+contact-asked : (xs : Content) (t : ℕ) (row : ContactRow) (c : Contact) (d : Due) → Has xs.contacts row → contact_read xs row ≡ Some c → contact_due t (row.name, c) ≡ Some d
     → Has (spec.contacts_until t xs) row
 contact-asked xs t row c d there reads due =
     sorted-has (by_then_key contact_table.contacts contact_table.by_due) (filter (contact_table.contact_within_due (pos t)) xs.contacts) row
     (filter-has (contact_table.contact_within_due (pos t)) xs.contacts row there (contact-within xs t row c d reads due))
 
-pub contacts-found : (xs : Content) (t : ℕ) (found : List Due) → IsConsistent xs → spec.with_rows (spec.contact_in t xs) [] (spec.contacts_until t xs) ≡ Some found → found ≡ found_due (contact_due t) [] (entries (contacts_of xs))
+pub contacts-found : (xs : Content) (t : ℕ) (found : List Due) → IsConsistent xs → spec.with_rows (spec.contact_due_in_row t xs) [] (spec.contacts_until t xs) ≡ Some found → found ≡ found_due (contact_due t) [] (entries (contacts_of xs))
 contacts-found xs t found consistent e =
-    found-of_rows (λ (r : ContactRow). r.name) (λ (c : Contact). c.name) (contact_of xs) (contact_due t) xs.contacts (spec.contacts_until t xs) (contacts_of xs)
+    found-of_rows (λ (r : ContactRow). r.name) (λ (c : Contact). c.name) (contact_read xs) (contact_due t) xs.contacts (spec.contacts_until t xs) (contacts_of xs)
     (λ row c reads. (contact-row xs row c reads).name)
     (λ row c there reads. contact-stands xs row c consistent there reads)
     (contact-under xs)
@@ -181,7 +181,7 @@ no-later a b c e f = grind (arith, e, f)
 -- ---- a right column
 
 -- under the days that were put down
-pub all-under : (days : Schedule) (xs : Content) → days_of xs ≡ Some days → dues_are_right xs ≡ true → list_all (is_due_right days xs) xs.domains ≡ true
+pub all-under : (days : Schedule) (xs : Content) → days_of_rows xs ≡ Some days → dues_are_right xs ≡ true → list_all (is_due_right days xs) xs.domains ≡ true
 all-under days xs are right = sym (λ i. list_all (λ row. option_map_or (λ ds. is_due_right ds xs row) (are i) true) xs.domains) ∙ right
 
 -- those of some of the rows
@@ -196,10 +196,10 @@ column-is n m before e = grind (arith, ints, e)
 
 -- where it isn't the last moment it is when the domain is due
 pub due-by-column : (p : PolicyRules) (t : ℕ) (xs : Content) (row : DomainRow) (n : ℕ) → row.due ≡ pos n → n < 7_258_118_399 → is_due_right p.days xs row ≡ true
-    → spec.domain_in p t xs row ≡ Some (due_then kinds.Domain row.name (passed t n))
-due-by-column p t xs row n column before right = go (domain_of xs row) refl
+    → spec.domain_due_in_row p t xs row ≡ Some (due_then kinds.Domain row.name (passed t n))
+due-by-column p t xs row n column before right = go (domain_read xs row) refl
   where
-    go : (o : Option Domain) → domain_of xs row ≡ o → option_map (λ (d : Domain). domain_due p t (d.name, d)) o ≡ Some (due_then kinds.Domain row.name (passed t n))
+    go : (o : Option Domain) → domain_read xs row ≡ o → option_map (λ (d : Domain). domain_due p t (d.name, d)) o ≡ Some (due_then kinds.Domain row.name (passed t n))
     go None reads = absurd (true≢false (sym right ∙ ap (λ o. option_map_or (λ x. int_eq row.due (pos (capped (due_at (rules_with p.days) x)))) o false) reads))
     go (Some d) reads =
         let is : int_eq (pos n) (pos (capped (due_at (rules_with p.days) d))) ≡ true =
@@ -211,25 +211,25 @@ pub until-there : (xs : Content) (t : ℕ) (row : DomainRow) → Has (spec.domai
 until-there xs t row there =
     (has-filter (domain_table.domain_within_due (pos t)) xs.domains row (has-sorted (by_then_key domain_table.domains domain_table.by_due) (filter (domain_table.domain_within_due (pos t)) xs.domains) row there)).0
 
-module _ (xs : Content) (p : PolicyRules) (t : ℕ) (consistent : IsConsistent xs) (days : days_of xs ≡ Some p.days) (right : dues_are_right xs ≡ true) where
+module _ (xs : Content) (p : PolicyRules) (t : ℕ) (consistent : IsConsistent xs) (days : days_of_rows xs ≡ Some p.days) (right : dues_are_right xs ≡ true) where
   row-right : (row : DomainRow) → Has xs.domains row → is_due_right p.days xs row ≡ true
   row-right row there = each-passes (is_due_right p.days xs) xs.domains (all-under p.days xs days right) row there
 
   -- a domain that is due has a row that may be
-  pub domain-within : (row : DomainRow) (d : Domain) (it : Due) → Has xs.domains row → domain_of xs row ≡ Some d → domain_due p t (row.name, d) ≡ Some it → domain_table.domain_within_due (pos t) row ≡ true
+  pub domain-within : (row : DomainRow) (d : Domain) (it : Due) → Has xs.domains row → domain_read xs row ≡ Some d → domain_due p t (row.name, d) ≡ Some it → domain_table.domain_within_due (pos t) row ≡ true
   domain-within row d it there reads due =
       let moment = some-due kinds.Domain row.name (passed t (due_at p d)) it due in
       let column : int_le row.due (pos (due_at (rules_with p.days) d)) ≡ true = column-comes row.due (due_at (rules_with p.days) d) (sym (ap (λ o. option_map_or (λ x. int_eq row.due (pos (capped (due_at (rules_with p.days) x)))) o false) reads) ∙ row-right row there) in
       no-later row.due (pos (due_at p d)) (pos t) (ap (λ m. int_le row.due (pos m)) (sym (same-due p d)) ∙ column) (has-come t (due_at p d) moment.0 moment.1)
 
-  domain-asked : (row : DomainRow) (d : Domain) (it : Due) → Has xs.domains row → domain_of xs row ≡ Some d → domain_due p t (row.name, d) ≡ Some it → Has (spec.domains_until t xs) row
+  domain-asked : (row : DomainRow) (d : Domain) (it : Due) → Has xs.domains row → domain_read xs row ≡ Some d → domain_due p t (row.name, d) ≡ Some it → Has (spec.domains_until t xs) row
   domain-asked row d it there reads due =
       sorted-has (by_then_key domain_table.domains domain_table.by_due) (filter (domain_table.domain_within_due (pos t)) xs.domains) row
       (filter-has (domain_table.domain_within_due (pos t)) xs.domains row there (domain-within row d it there reads due))
 
-  domains-found : (found all : List Due) → InOrder found → spec.with_rows (spec.domain_in p t xs) found (spec.domains_until t xs) ≡ Some all → all ≡ found_due (domain_due p t) found (entries (domains_of xs))
+  domains-found : (found all : List Due) → InOrder found → spec.with_rows (spec.domain_due_in_row p t xs) found (spec.domains_until t xs) ≡ Some all → all ≡ found_due (domain_due p t) found (entries (domains_of xs))
   domains-found found all rise e =
-      found-of_rows (λ (r : DomainRow). r.name) (λ (d : Domain). d.name) (domain_of xs) (domain_due p t) xs.domains (spec.domains_until t xs) (domains_of xs)
+      found-of_rows (λ (r : DomainRow). r.name) (λ (d : Domain). d.name) (domain_read xs) (domain_due p t) xs.domains (spec.domains_until t xs) (domains_of xs)
       (name-read xs)
       (λ row d there reads. stands-there xs row d consistent there reads)
       (row-under xs)
@@ -237,8 +237,8 @@ module _ (xs : Content) (p : PolicyRules) (t : ℕ) (consistent : IsConsistent x
       domain-asked
       found all rise e
 
-  pub all-found : (contacts all : List Due) → spec.with_rows (spec.contact_in t xs) [] (spec.contacts_until t xs) ≡ Some contacts
-      → spec.with_rows (spec.domain_in p t xs) contacts (spec.domains_until t xs) ≡ Some all → all ≡ found_due (domain_due p t) (found_due (contact_due t) [] (entries (contacts_of xs))) (entries (domains_of xs))
+  pub all-found : (contacts all : List Due) → spec.with_rows (spec.contact_due_in_row t xs) [] (spec.contacts_until t xs) ≡ Some contacts
+      → spec.with_rows (spec.domain_due_in_row p t xs) contacts (spec.domains_until t xs) ≡ Some all → all ≡ found_due (domain_due p t) (found_due (contact_due t) [] (entries (contacts_of xs))) (entries (domains_of xs))
   all-found contacts all first second =
       let are = contacts-found xs t contacts consistent first in
       domains-found contacts all (subst InOrder (sym are) (found-rises (contact_due t) [] (entries (contacts_of xs)) tt)) second

@@ -7,7 +7,7 @@ use Rattle.objects.specs.declared.transfer.Transfer.{Transfer}
 use Rattle.objects.specs.Transfers.{is_incoming, is_pending_state}
 use Rattle.sqlderived.specs.declared.holders.Holders.{Holders}
 use Rattle.sqlderived.specs.Held.{counts_one, counts_where, is_held_by}
-use Rattle.sqlderived.specs.inner.Holders.{incoming_of, incoming_without, is_in, maybe_holders_of, sponsor_without}
+use Rattle.sqlderived.specs.inner.Holders.{incoming_of, incoming_without, is_some_holder, maybe_holders_of, sponsor_without}
 
 -- ---- the parties of a domain hold it
 
@@ -19,7 +19,7 @@ incoming-is r (Some t) = go (is_pending_state t.state)
     go true = refl
     go false = refl
 
-pub held-by : (r : ℕ) (d : Option Domain) → counts_where (is_held_by r) d ≡ counts_one (is_in r (maybe_holders_of d))
+pub held-by : (r : ℕ) (d : Option Domain) → counts_where (is_held_by r) d ≡ counts_one (is_some_holder r (maybe_holders_of d))
 held-by r None = refl
 held-by r (Some d) = ap (λ b. counts_one ((d.sponsor == r) || b)) (sym (incoming-is r d.transfer))
 
@@ -58,17 +58,17 @@ seat r q false = go (q == r)
 
 -- who was among the first and isn't among the others
 pub leaving : (r : ℕ) (first others : Option Holders)
-    → counts_where (λ q. q == r) (sponsor_without first others) + counts_where (λ q. q == r) (incoming_without first others) ≡ counts_one (is_in r first && not (is_in r others))
+    → counts_where (λ q. q == r) (sponsor_without first others) + counts_where (λ q. q == r) (incoming_without first others) ≡ counts_one (is_some_holder r first && not (is_some_holder r others))
 leaving r None others = refl
 leaving r (Some p) others = go p.incoming
   where
     go : (q : Option ℕ) → counts_where (λ x. x == r) (sponsor_without (Some p) others) + counts_where (λ x. x == r) (incoming_without (Some (record p { incoming = q })) others)
-        ≡ counts_one (is_in r (Some (record p { incoming = q })) && not (is_in r others))
-    go None = (λ i. seat r p.sponsor (is_in p.sponsor others) i + 0)
-        ∙ bits (p.sponsor == r) false (is_in p.sponsor others) false (is_in r others) false (λ e. ap (λ x. is_in x others) (eqb-true p.sponsor r e)) (λ e. cc) (λ e. cc)
-    go (Some q) = (λ i. seat r p.sponsor (is_in p.sponsor others) i + seat r q ((p.sponsor == q) || is_in q others) i)
-        ∙ bits (p.sponsor == r) (q == r) (is_in p.sponsor others) (is_in q others) (is_in r others) (p.sponsor == q)
-        (λ e. ap (λ x. is_in x others) (eqb-true p.sponsor r e)) (λ e. ap (λ x. is_in x others) (eqb-true q r e)) (λ e. ap (λ x. p.sponsor == x) (eqb-true q r e))
+        ≡ counts_one (is_some_holder r (Some (record p { incoming = q })) && not (is_some_holder r others))
+    go None = (λ i. seat r p.sponsor (is_some_holder p.sponsor others) i + 0)
+        ∙ bits (p.sponsor == r) false (is_some_holder p.sponsor others) false (is_some_holder r others) false (λ e. ap (λ x. is_some_holder x others) (eqb-true p.sponsor r e)) (λ e. cc) (λ e. cc)
+    go (Some q) = (λ i. seat r p.sponsor (is_some_holder p.sponsor others) i + seat r q ((p.sponsor == q) || is_some_holder q others) i)
+        ∙ bits (p.sponsor == r) (q == r) (is_some_holder p.sponsor others) (is_some_holder q others) (is_some_holder r others) (p.sponsor == q)
+        (λ e. ap (λ x. is_some_holder x others) (eqb-true p.sponsor r e)) (λ e. ap (λ x. is_some_holder x others) (eqb-true q r e)) (λ e. ap (λ x. p.sponsor == x) (eqb-true q r e))
 
 -- whoever leaves, and those of the others, are those who come, and those of the first
 pub balanced : (a b : Bool) → (counts_one (a && not b) + 0) + counts_one b ≡ (0 + counts_one (b && not a)) + counts_one a

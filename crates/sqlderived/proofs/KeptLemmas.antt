@@ -16,7 +16,7 @@ use Rattle.sqlaccounts.specs.Accounts.{ident_and_held, row_of}
 use Rattle.sqlaccounts.specs.inner.Changes.{AreOthersKept, IsChange, IsOpened, opened_row}
 use Rattle.sqlaccounts.proofs.FindingLemmas.{equal}
 use Rattle.sqldomains.specs.Domains.{domains_of}
-use Rattle.sqlobjects.specs.inner.Changes.{put}
+use Rattle.sqlobjects.specs.inner.Changes.{with_named}
 use Rattle.sqlderived.specs.Held.{counts_where, has_right_held, held_of, helds_are_right, is_held_by, is_held_right}
 use Rattle.sqlderived.specs.inner.Recounts.{AreAlike, AreCounted, IsRecounted}
 use Rattle.sqlderived.proofs.CountLemmas.{count, count-put}
@@ -103,7 +103,7 @@ module _ (xs ys : Content) (l m : ℕ → ℕ) (domains : (r : ℕ) → held_of 
 
 -- the registrars are counted anew, and then one domain, or none, is put in the place of the other
 pub held-kept : (old mid new : Content) (before after : Option Domain) (name : List ℕ)
-    → IsRecounted before after old mid → get (domains_of old) name ≡ before → domains_of new ≡ put (domains_of mid) name after → new.accounts ≡ mid.accounts
+    → IsRecounted before after old mid → get (domains_of old) name ≡ before → domains_of new ≡ with_named (domains_of mid) name after → new.accounts ≡ mid.accounts
     → helds_are_right new ≡ helds_are_right old
 held-kept old mid new before after name counted was is accounts =
     counted-right old new (λ r. counts_where (is_held_by r) before) (λ r. counts_where (is_held_by r) after) domains
@@ -118,7 +118,7 @@ held-kept old mid new before after name counted was is accounts =
 
     domains : (r : ℕ) → held_of new r + counts_where (is_held_by r) before ≡ held_of old r + counts_where (is_held_by r) after
     domains r =
-        (λ i. count (is_held_by r) (values ((is ∙ ap (λ m. put m name after) mid-is) i)) + counts_where (is_held_by r) (sym was i))
+        (λ i. count (is_held_by r) (values ((is ∙ ap (λ m. with_named m name after) mid-is) i)) + counts_where (is_held_by r) (sym was i))
         ∙ count-put (is_held_by r) (domains_of old) name after
 
 -- ---- other changes

@@ -20,12 +20,12 @@ use Rattle.objects.specs.declared.domain.Domain.{Domain}
 use Rattle.objects.specs.declared.roid.ObjectKind.TheVariants as kinds
 use Rattle.objects.specs.declared.roid.Roid.{Roid}
 use Rattle.objects.specs.declared.transfer.Transfer.{Transfer}
-use Rattle.sqlcolumns.specs.Contacts.{columns_of, contact_in, contact_with}
-use Rattle.sqlcolumns.specs.Numbers.{counter_column, maybe_moment_in, moment_in, registrar_column, registrar_in}
+use Rattle.sqlcolumns.specs.Contacts.{contact_of_columns, contact_registration_columns, contact_with}
+use Rattle.sqlcolumns.specs.Numbers.{counter_column, maybe_moment_in, moment_in_column, registrar_column, registrar_in}
 use Rattle.sqlcolumns.specs.Registrations.{registration_in}
 use Rattle.sqlcolumns.specs.Roids.{roid_in}
 use Rattle.sqlcolumns.specs.Texts.{statuses_in, street_in}
-use Rattle.sqlcolumns.specs.Transfers.{is_same, maybe_due_column, transfer_in, transfer_row}
+use Rattle.sqlcolumns.specs.Transfers.{is_same, maybe_due_column, row_of_transfer, transfer_of_columns}
 use Rattle.sqlcolumns.proofs.NumberLemmas.{registrar_written, serial_written}
 use Rattle.sqlcolumns.proofs.ReadLemmas.{kept, same_some, step}
 use Rattle.sqlcolumns.proofs.RoidLemmas.{roid_read}
@@ -54,17 +54,17 @@ use Rattle.sqltables.specs.Transfer as transfer_table
 use Rattle.sqltables.specs.declared.transfer.TransferRow.{TransferRow}
 use Rattle.sqltables.specs.inner.Consistent.{IsConsistent}
 use Rattle.sqltables.proofs.RowLemmas.{bytes_same}
-use Rattle.sqlobjects.specs.Objects.{contact_of, contacts_of, last_transfer}
+use Rattle.sqlobjects.specs.Objects.{contact_read, contacts_of, last_transfer}
 use Rattle.sqlobjects.proofs.PutLemmas.{filter-has, has-filter}
-use Rattle.sqldomains.specs.Domains.{domain_of, domains_of}
+use Rattle.sqldomains.specs.Domains.{domain_read, domains_of}
 use Rattle.sqldomains.proofs.AnswerLemmas.{equal}
 use Rattle.sqldomains.proofs.LeadingLemmas.{LinksContact, names-contact, names-host}
 use Rattle.sqldomains.proofs.NameOrderLemmas.{name-read, row-under, stands-there}
 use Rattle.sqldomains.proofs.SponsorLemmas.{parts, sponsor-read}
-use Rattle.sqlterms.specs.Terms.{days_of}
+use Rattle.sqlterms.specs.Terms.{days_of_rows}
 use Rattle.sqlderived.specs.Dues.{dues_are_right, is_due_right}
 use Rattle.sqlderived.specs.inner.Finding as spec
-use Rattle.sqlderived.specs.inner.Near.{HasAllNear, IsFoundNear, concerned_in, contact_numbered, contact_of_transfer, contacts_asked, contacts_found, contacts_named, contacts_near, contacts_sponsored, domain_numbered, domain_of_link, domain_of_transfer, domains_alike, domains_asked, domains_by_names, domains_found, domains_named, domains_near, domains_sponsored, domains_to_contact, domains_to_contacts, domains_to_host, domains_to_hosts, each_of, hosts_named, is_any, is_behind, pending_of}
+use Rattle.sqlderived.specs.inner.Near.{HasAllNear, IsFoundNear, concerned_in, contact_numbered, contact_of_transfer, contacts_found, contacts_named, contacts_near, contacts_near_due, contacts_sponsored, domain_numbered, domain_of_link, domain_of_transfer, domains_alike, domains_by_names, domains_found, domains_named, domains_near, domains_near_due, domains_sponsored, domains_to_contact, domains_to_contacts, domains_to_host, domains_to_hosts, each_of, hosts_named, is_any, is_behind, pending_of}
 use Rattle.sqlderived.proofs.FoundLemmas.{InOrder, found-rises, objects-found, rows-found, rows-read, same-picked, shown}
 use Rattle.sqlderived.proofs.DueLemmas.{all-found, all-under, contact-row, contact-stands, contact-under, contact-within, domain-within, never-before, some-right}
 
@@ -210,11 +210,11 @@ contact-name-is xs k c e = let it = contact-under xs k c e in (contact-row xs it
 
 -- ---- pending transfers
 
-last-has : (rows : List TransferRow) (x : Transfer) → last_transfer rows ≡ Some (Some x) → (row : TransferRow) × Has rows row × (transfer_in row ≡ Some x)
+last-has : (rows : List TransferRow) (x : Transfer) → last_transfer rows ≡ Some (Some x) → (row : TransferRow) × Has rows row × (transfer_of_columns row ≡ Some x)
 last-has [] x e = cc
-last-has (row ∷ []) x e = go (transfer_in row) refl e
+last-has (row ∷ []) x e = go (transfer_of_columns row) refl e
   where
-    go : (o : Option Transfer) → transfer_in row ≡ o → option_map Some o ≡ Some (Some x) → (r : TransferRow) × Has (row ∷ []) r × (transfer_in r ≡ Some x)
+    go : (o : Option Transfer) → transfer_of_columns row ≡ o → option_map Some o ≡ Some (Some x) → (r : TransferRow) × Has (row ∷ []) r × (transfer_of_columns r ≡ Some x)
     go None is f = cc
     go (Some y) is f = (row, inl refl, is ∙ same_some (Some y) (Some x) f)
 last-has (row ∷ next ∷ rows) x e = cc
@@ -224,10 +224,10 @@ points-is None id e = cc
 points-is (Some a) id e = ap Some (same_int a id e)
 
 -- the row of a pending transfer that is about a registrar is found by it
-pending-has : (xs : Content) (r : ℕ) (x : Transfer) (row : TransferRow) → Has xs.transfers row → transfer_in row ≡ Some x → (is_pending_state x.state && names r x) ≡ true → Has (pending_of (Some r) xs) row
+pending-has : (xs : Content) (r : ℕ) (x : Transfer) (row : TransferRow) → Has xs.transfers row → transfer_of_columns row ≡ Some x → (is_pending_state x.state && names r x) ≡ true → Has (pending_of (Some r) xs) row
 pending-has xs r x row there reads at = go (is_pending_state x.state) refl at
   where
-    written : transfer_row row.id row.contact row.domain x ≡ row
+    written : row_of_transfer row.id row.contact row.domain x ≡ row
     written = transfer_written row x reads
 
     go : (b : Bool) → is_pending_state x.state ≡ b → (b && names r x) ≡ true → Has (pending_of (Some r) xs) row
@@ -252,15 +252,15 @@ record ContactParts (xs : Content) (row : ContactRow) (c : Contact) : Type 0 whe
   pub sponsor : row.sponsor ≡ registrar_column c.sponsor
   pub transfer : last_transfer (filter (transfer_table.transfer_with_contact row.id) xs.transfers) ≡ Some c.transfer
 
-contact-parts : (xs : Content) (row : ContactRow) (c : Contact) → contact_of xs row ≡ Some c → ContactParts xs row c
+contact-parts : (xs : Content) (row : ContactRow) (c : Contact) → contact_read xs row ≡ Some c → ContactParts xs row c
 contact-parts xs row c e =
-    let transfer = step (last_transfer (filter (transfer_table.transfer_with_contact row.id) xs.transfers)) (contact_in row) c e in
-    let r = step (registration_in kinds.Contact (columns_of row)) _ c transfer.rest in
+    let transfer = step (last_transfer (filter (transfer_table.transfer_with_contact row.id) xs.transfers)) (contact_of_columns row) c e in
+    let r = step (registration_in kinds.Contact (contact_registration_columns row)) _ c transfer.rest in
     let s = step (statuses_in row.statuses) _ c r.rest in
     let due = kept (contact_with row r.given s.given (street_in row.postal.street) transfer.given) c (is_same (maybe_due_column transfer.given) row.due) s.rest in
     let roid = step (roid_in kinds.Contact row.creator row.serial) _ r.given r.is in
     let sponsor = step (registrar_in row.sponsor) _ r.given roid.rest in
-    let created = step (moment_in row.created) _ r.given sponsor.rest in
+    let created = step (moment_in_column row.created) _ r.given sponsor.rest in
     let transferred = step (maybe_moment_in row.transferred) _ r.given created.rest in
     let updated = step (maybe_moment_in row.updated) _ r.given transferred.rest in
     record {
@@ -268,7 +268,7 @@ contact-parts xs row c e =
       transfer = transfer.is ∙ ap (λ (z : Contact). Some z.transfer) due.1;
     }
 
-module _ (xs : Content) (t : ℕ) (g : Names) (row : ContactRow) (c : Contact) (there : Has xs.contacts row) (reads : contact_of xs row ≡ Some c) (within : contact_table.contact_within_due (pos t) row ≡ true) where
+module _ (xs : Content) (t : ℕ) (g : Names) (row : ContactRow) (c : Contact) (there : Has xs.contacts row) (reads : contact_read xs row ≡ Some c) (within : contact_table.contact_within_due (pos t) row ≡ true) where
   contact-later : (r : Option ℕ) → Has (each_of (contact_of_transfer xs) (pending_of r xs) ++ each_of (contacts_named xs) g.contacts) row → Has (contacts_near r g t xs) row
   contact-later r has = has-right (contacts_sponsored r t xs) (each_of (contact_of_transfer xs) (pending_of r xs) ++ each_of (contacts_named xs) g.contacts) row has
 
@@ -310,14 +310,14 @@ read-object : {X A : Type 0} (of_it : X → A) (o : Option X) (a : A) → option
 read-object of_it None a e = cc
 read-object of_it (Some x) a e = (x, refl, same_some (of_it x) a e)
 
-module _ (xs : Content) (row : DomainRow) (d : Domain) (reads : domain_of xs row ≡ Some d) where
+module _ (xs : Content) (row : DomainRow) (d : Domain) (reads : domain_read xs row ≡ Some d) where
   creator-read : row.creator ≡ registrar_column d.roid.creator
   creator-read = sym (registrar_written row.creator d.roid.creator (roid_read kinds.Domain row.creator row.serial d.roid (parts xs row d reads).roid).creator_is)
 
   serial-read : row.serial ≡ counter_column d.roid.serial
   serial-read = sym (serial_written row.serial d.roid.serial (roid_read kinds.Domain row.creator row.serial d.roid (parts xs row d reads).roid).serial_is)
 
-module _ (xs : Content) (t : ℕ) (g : Names) (row : DomainRow) (d : Domain) (there : Has xs.domains row) (reads : domain_of xs row ≡ Some d) (within : int_le row.due (pos t) ≡ true) where
+module _ (xs : Content) (t : ℕ) (g : Names) (row : DomainRow) (d : Domain) (there : Has xs.domains row) (reads : domain_read xs row ≡ Some d) (within : int_le row.due (pos t) ≡ true) where
   abbrev alike : List DomainRow
   alike = each_of (domains_alike xs) (each_of (domains_named xs) g.domains)
 
@@ -445,20 +445,20 @@ picked-domain : (xs : Content) (r : Option ℕ) (g : Names) (n : List ℕ) (o : 
 picked-domain xs r g n None d e picked = cc
 picked-domain xs r g n (Some m) d e picked = ap (is_picked (concerned_in r g xs)) (same_some _ d e) ∙ picked
 
-module _ (xs : Content) (p : PolicyRules) (t : ℕ) (r : Option ℕ) (g : Names) (consistent : IsConsistent xs) (days : days_of xs ≡ Some p.days) (right : dues_are_right xs ≡ true) where
+module _ (xs : Content) (p : PolicyRules) (t : ℕ) (r : Option ℕ) (g : Names) (consistent : IsConsistent xs) (days : days_of_rows xs ≡ Some p.days) (right : dues_are_right xs ≡ true) where
   abbrev pick : Due → Bool
   pick = is_picked (concerned_in r g xs)
 
   abbrev all_contacts : List Due
   all_contacts = found_due (contact_due t) [] (entries (contacts_of xs))
 
-  module _ (contacts : List Due) (first : spec.with_rows (spec.contact_in t xs) [] (contacts_asked r g t xs) ≡ Some contacts) where
-    contacts-are : contacts ≡ found_due (λ row. shown (spec.contact_in t xs row)) [] (contacts_asked r g t xs)
-    contacts-are = rows-read (spec.contact_in t xs) [] contacts (contacts_asked r g t xs) first
+  module _ (contacts : List Due) (first : spec.with_rows (spec.contact_due_in_row t xs) [] (contacts_near_due r g t xs) ≡ Some contacts) where
+    contacts-are : contacts ≡ found_due (λ row. shown (spec.contact_due_in_row t xs row)) [] (contacts_near_due r g t xs)
+    contacts-are = rows-read (spec.contact_due_in_row t xs) [] contacts (contacts_near_due r g t xs) first
 
     contacts-forth : (d : Due) → Has contacts d → Has all_contacts d
     contacts-forth d has =
-        objects-found (λ (x : ContactRow). x.name) (λ (c : Contact). c.name) (contact_of xs) (contact_due t) xs.contacts (contacts_asked r g t xs) (contacts_of xs)
+        objects-found (λ (x : ContactRow). x.name) (λ (c : Contact). c.name) (contact_read xs) (contact_due t) xs.contacts (contacts_near_due r g t xs) (contacts_of xs)
         (λ row c reads. (contact-row xs row c reads).name)
         (λ row c there reads. contact-stands xs row c consistent there reads)
         (λ row has. contact-there xs r g t row (in-filter (contact_table.contact_within_due (pos t)) (contacts_near r g t xs) row has))
@@ -466,7 +466,7 @@ module _ (xs : Content) (p : PolicyRules) (t : ℕ) (r : Option ℕ) (g : Names)
 
     contacts-back : (d : Due) → pick d ≡ true → Has all_contacts d → Has contacts d
     contacts-back d picked has =
-        subst (λ l. Has l d) (sym contacts-are) (rows-found (λ (x : ContactRow). x.name) (λ (c : Contact). c.name) (contact_of xs) (contact_due t) xs.contacts (contacts_asked r g t xs) (contacts_of xs) pick
+        subst (λ l. Has l d) (sym contacts-are) (rows-found (λ (x : ContactRow). x.name) (λ (c : Contact). c.name) (contact_read xs) (contact_due t) xs.contacts (contacts_near_due r g t xs) (contacts_of xs) pick
         (λ row c reads. (contact-row xs row c reads).name)
         (contact-under xs)
         (λ row c due there reads is chosen.
@@ -474,21 +474,21 @@ module _ (xs : Content) (p : PolicyRules) (t : ℕ) (r : Option ℕ) (g : Names)
         filter-has (contact_table.contact_within_due (pos t)) (contacts_near r g t xs) row (contact-near xs t g row c there reads within r consistent (picked-contact xs r g row.name _ due is chosen)) within)
         [] [] (λ other chosen none. none) d picked has)
 
-    pub near-found : (all : List Due) → spec.with_rows (spec.domain_in p t xs) contacts (domains_asked r g t xs) ≡ Some all
+    pub near-found : (all : List Due) → spec.with_rows (spec.domain_due_in_row p t xs) contacts (domains_near_due r g t xs) ≡ Some all
         → filter pick all ≡ filter pick (found_due (domain_due p t) all_contacts (entries (domains_of xs)))
     near-found all second =
-        let are : all ≡ found_due (λ row. shown (spec.domain_in p t xs row)) contacts (domains_asked r g t xs) = rows-read (spec.domain_in p t xs) contacts all (domains_asked r g t xs) second in
+        let are : all ≡ found_due (λ row. shown (spec.domain_due_in_row p t xs row)) contacts (domains_near_due r g t xs) = rows-read (spec.domain_due_in_row p t xs) contacts all (domains_near_due r g t xs) second in
         same-picked pick all (found_due (domain_due p t) all_contacts (entries (domains_of xs)))
-        (subst InOrder (sym are) (found-rises (λ row. shown (spec.domain_in p t xs row)) contacts (domains_asked r g t xs) (subst InOrder (sym contacts-are) (found-rises (λ row. shown (spec.contact_in t xs row)) [] (contacts_asked r g t xs) tt))))
+        (subst InOrder (sym are) (found-rises (λ row. shown (spec.domain_due_in_row p t xs row)) contacts (domains_near_due r g t xs) (subst InOrder (sym contacts-are) (found-rises (λ row. shown (spec.contact_due_in_row t xs row)) [] (contacts_near_due r g t xs) tt))))
         (found-rises (domain_due p t) all_contacts (entries (domains_of xs)) (found-rises (contact_due t) [] (entries (contacts_of xs)) tt))
         (λ d picked has.
-        objects-found (λ (x : DomainRow). x.name) (λ (c : Domain). c.name) (domain_of xs) (domain_due p t) xs.domains (domains_asked r g t xs) (domains_of xs)
+        objects-found (λ (x : DomainRow). x.name) (λ (c : Domain). c.name) (domain_read xs) (domain_due p t) xs.domains (domains_near_due r g t xs) (domains_of xs)
         (name-read xs)
         (λ row c there reads. stands-there xs row c consistent there reads)
         (λ row has. domain-there xs r g t row (in-filter (domain_table.domain_within_due (pos t)) (domains_near r g t xs) row has))
         contacts all_contacts contacts-forth d (subst (λ l. Has l d) are has))
         (λ d picked has.
-        subst (λ l. Has l d) (sym are) (rows-found (λ (x : DomainRow). x.name) (λ (c : Domain). c.name) (domain_of xs) (domain_due p t) xs.domains (domains_asked r g t xs) (domains_of xs) pick
+        subst (λ l. Has l d) (sym are) (rows-found (λ (x : DomainRow). x.name) (λ (c : Domain). c.name) (domain_read xs) (domain_due p t) xs.domains (domains_near_due r g t xs) (domains_of xs) pick
         (name-read xs)
         (row-under xs)
         (λ row c due there reads is chosen.
@@ -503,13 +503,13 @@ any-of [] e = refl
 any-of (row ∷ rows) e = cc
 
 -- where nothing is due by the columns of rows, nothing is
-pub nothing-due : (xs : Content) (p : PolicyRules) (t : ℕ) → IsConsistent xs → days_of xs ≡ Some p.days → dues_are_right xs ≡ true → is_behind t xs ≡ false
+pub nothing-due : (xs : Content) (p : PolicyRules) (t : ℕ) → IsConsistent xs → days_of_rows xs ≡ Some p.days → dues_are_right xs ≡ true → is_behind t xs ≡ false
     → [] ≡ found_due (domain_due p t) (found_due (contact_due t) [] (entries (contacts_of xs))) (entries (domains_of xs))
 nothing-due xs p t consistent days right still =
     let both = or_parts (is_any (take 1 (spec.contacts_until t xs))) (is_any (take 1 (spec.domains_until t xs))) still in
     all-found xs p t consistent days right [] []
-    (ap (spec.with_rows (spec.contact_in t xs) []) (any-of (spec.contacts_until t xs) both.0))
-    (ap (spec.with_rows (spec.domain_in p t xs) []) (any-of (spec.domains_until t xs) both.1))
+    (ap (spec.with_rows (spec.contact_due_in_row t xs) []) (any-of (spec.contacts_until t xs) both.0))
+    (ap (spec.with_rows (spec.domain_due_in_row p t xs) []) (any-of (spec.domains_until t xs) both.1))
 
 -- ---- one call after another
 
@@ -518,11 +518,11 @@ pub near-told : (s a b c d e : StateOf Content) (p : PolicyRules) (r : Option �
     → first ≡ pending
     → Reads a b × (b.is_clean ≡ true → cfound ≡ contacts_found r first g m a.content)
     → crows ≡ filter (contact_table.contact_within_due (pos m)) cfound
-    → Reads b c × (c.is_clean ≡ true → spec.with_rows (spec.contact_in m b.content) [] crows ≡ Some contacts)
+    → Reads b c × (c.is_clean ≡ true → spec.with_rows (spec.contact_due_in_row m b.content) [] crows ≡ Some contacts)
     → second ≡ pending
     → Reads c d × (d.is_clean ≡ true → dfound ≡ domains_found r second g m c.content)
     → drows ≡ filter (domain_table.domain_within_due (pos m)) dfound
-    → Reads d e × (e.is_clean ≡ true → list_all (is_due_right p.days d.content) drows ≡ true → spec.with_rows (spec.domain_in p m d.content) contacts drows ≡ Some all)
+    → Reads d e × (e.is_clean ≡ true → list_all (is_due_right p.days d.content) drows ≡ true → spec.with_rows (spec.domain_due_in_row p m d.content) contacts drows ≡ Some all)
     → list ≡ all
     → Reads s e × (e.is_clean ≡ true → list_all (is_due_right p.days s.content) s.content.domains ≡ true → IsFoundNear p r g m s.content list)
 near-told s a b c d e p r g m pending first second cfound crows contacts dfound drows all list asked one cgot ckept cread two dgot dkept dread is =
@@ -542,21 +542,21 @@ near-told s a b c d e p r g m pending first second cfound crows contacts dfound 
           let pend : pending ≡ pending_of r s.content = asked.1 at_a in
           let here : first ≡ pending_of r s.content = one ∙ pend in
           let there : second ≡ pending_of r s.content = two ∙ pend in
-          let cs : crows ≡ contacts_asked r g m s.content = ckept ∙ ap (filter (contact_table.contact_within_due (pos m))) (cgot.1 at_b ∙ (λ i. contacts_found r (here i) g m (of_a i))) in
-          let ds : drows ≡ domains_asked r g m s.content = dkept ∙ ap (filter (domain_table.domain_within_due (pos m))) (dgot.1 at_d ∙ (λ i. domains_found r (there i) g m (of_c i))) in
+          let cs : crows ≡ contacts_near_due r g m s.content = ckept ∙ ap (filter (contact_table.contact_within_due (pos m))) (cgot.1 at_b ∙ (λ i. contacts_found r (here i) g m (of_a i))) in
+          let ds : drows ≡ domains_near_due r g m s.content = dkept ∙ ap (filter (domain_table.domain_within_due (pos m))) (dgot.1 at_d ∙ (λ i. domains_found r (there i) g m (of_c i))) in
           let asked_right : list_all (is_due_right p.days d.content) drows ≡ true =
           (λ i. list_all (is_due_right p.days (of_d i)) (ds i))
-          ∙ some-right (is_due_right p.days s.content) s.content.domains (domains_asked r g m s.content)
+          ∙ some-right (is_due_right p.days s.content) s.content.domains (domains_near_due r g m s.content)
           (λ row has. domain-there s.content r g m row (in-filter (domain_table.domain_within_due (pos m)) (domains_near r g m s.content) row has)) right in
           record {
             contacts = contacts;
-            first = sym (λ i. spec.with_rows (spec.contact_in m (of_b i)) [] (cs i)) ∙ cread.1 at_c;
-            second = sym (λ i. spec.with_rows (spec.domain_in p m (of_d i)) contacts (ds i)) ∙ dread.1 clean asked_right ∙ ap Some (sym is);
+            first = sym (λ i. spec.with_rows (spec.contact_due_in_row m (of_b i)) [] (cs i)) ∙ cread.1 at_c;
+            second = sym (λ i. spec.with_rows (spec.domain_due_in_row p m (of_d i)) contacts (ds i)) ∙ dread.1 clean asked_right ∙ ap Some (sym is);
           },
     )
 
 module _ (s a b : StateOf Content) (p : PolicyRules) (r : Option ℕ) (g : Names) (m : ℕ) (behind : Bool)
-    (days : Reads s a × (a.is_clean ≡ true → days_of s.content ≡ Some p.days)) (consistent : a.is_clean ≡ true → IsConsistent a.content) (asked : Reads a b × (b.is_clean ≡ true → behind ≡ is_behind m a.content)) where
+    (days : Reads s a × (a.is_clean ≡ true → days_of_rows s.content ≡ Some p.days)) (consistent : a.is_clean ≡ true → IsConsistent a.content) (asked : Reads a b × (b.is_clean ≡ true → behind ≡ is_behind m a.content)) where
   abbrev chosen : Due → Bool
   chosen = is_picked (concerned_in r g s.content)
 

@@ -9,14 +9,14 @@ use Rattle.objects.specs.declared.domain.Domain.{Domain}
 use Rattle.objects.specs.declared.transfer.Transfer.{Transfer}
 use Rattle.objects.specs.Transfers.{is_incoming, is_pending_state}
 use Rattle.sqlcolumns.specs.Codes.{state_in}
-use Rattle.sqlcolumns.specs.Numbers.{is_place, moment_in, registrar_in}
-use Rattle.sqlcolumns.specs.Transfers.{transfer_in, transfer_made}
+use Rattle.sqlcolumns.specs.Numbers.{is_place, moment_in_column, registrar_in}
+use Rattle.sqlcolumns.specs.Transfers.{transfer_made, transfer_of_columns}
 use Rattle.sqlcolumns.proofs.ReadLemmas.{kept, same_some, step}
 use Rattle.sqlaccounts.specs.Accounts.{row_of}
 use Rattle.sqlaccounts.proofs.FindingLemmas.{equal}
 use Rattle.sqlobjects.specs.Objects.{last_transfer}
 use Rattle.sqlobjects.proofs.PutLemmas.{has-filter}
-use Rattle.sqldomains.specs.Domains.{domain_of, domains_of}
+use Rattle.sqldomains.specs.Domains.{domain_read, domains_of}
 use Rattle.sqldomains.proofs.LinkedLemmas.{none-passes}
 use Rattle.sqldomains.proofs.SponsorLemmas.{parts}
 use Rattle.sqlderived.specs.Held.{held_of, is_held_by}
@@ -34,13 +34,13 @@ place-read : (column : ℤ) (q : ℕ) → registrar_in column ≡ Some q → col
 place-read (pos n) q e = ap pos (kept n q (is_place n) e).1
 place-read (negsuc n) q e = cc
 
-requested : (row : TransferRow) (t : Transfer) → transfer_in row ≡ Some t → registrar_in row.requester ≡ Some t.requester
+requested : (row : TransferRow) (t : Transfer) → transfer_of_columns row ≡ Some t → registrar_in row.requester ≡ Some t.requester
 requested row t e =
-    let made = step (transfer_made (registrar_in row.requester) (registrar_in row.losing) (moment_in row.requested) (moment_in row.ac_date) (state_in row.state)) _ t e in
+    let made = step (transfer_made (registrar_in row.requester) (registrar_in row.losing) (moment_in_column row.requested) (moment_in_column row.ac_date) (state_in row.state)) _ t e in
     let requester = step (registrar_in row.requester) _ made.given made.is in
     let losing = step (registrar_in row.losing) _ made.given requester.rest in
-    let moment = step (moment_in row.requested) _ made.given losing.rest in
-    let ac_date = step (moment_in row.ac_date) _ made.given moment.rest in
+    let moment = step (moment_in_column row.requested) _ made.given losing.rest in
+    let ac_date = step (moment_in_column row.ac_date) _ made.given moment.rest in
     let state = step (state_in row.state) _ made.given ac_date.rest in
     requester.is ∙ ap (λ (x : Transfer). Some x.requester) (same_some _ made.given state.rest ∙ (kept made.given t _ made.rest).1)
 
@@ -80,9 +80,9 @@ module _ (xs : Content) (r : ℕ) (consistent : IsConsistent xs) (none : row_of 
 
   no-incoming : (rows : List TransferRow) (o : Option Transfer) → last_transfer rows ≡ Some o → ((x : TransferRow) → Has rows x → Has xs.transfers x) → is_incoming r o ≡ false
   no-incoming [] o e among = ap (is_incoming r) (sym (same_some None o e))
-  no-incoming (row ∷ []) o e among = go (transfer_in row) refl e
+  no-incoming (row ∷ []) o e among = go (transfer_of_columns row) refl e
     where
-      go : (read : Option Transfer) → transfer_in row ≡ read → option_map Some read ≡ Some o → is_incoming r o ≡ false
+      go : (read : Option Transfer) → transfer_of_columns row ≡ read → option_map Some read ≡ Some o → is_incoming r o ≡ false
       go None is e = cc
       go (Some t) is e =
           ap (is_incoming r) (sym (same_some (Some t) o e))
@@ -90,7 +90,7 @@ module _ (xs : Content) (r : ℕ) (consistent : IsConsistent xs) (none : row_of 
           ∙ and-false (is_pending_state t.state)
   no-incoming (row ∷ next ∷ rows) o e among = cc
 
-  unheld : (row : DomainRow) (d : Domain) → Has xs.domains row → domain_of xs row ≡ Some d → is_held_by r d ≡ false
+  unheld : (row : DomainRow) (d : Domain) → Has xs.domains row → domain_read xs row ≡ Some d → is_held_by r d ≡ false
   unheld row d here reads =
       let it = parts xs row d reads in
       let rows = filter (transfer_with_domain row.id) xs.transfers in

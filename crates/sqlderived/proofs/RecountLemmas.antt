@@ -8,7 +8,7 @@ use Rattle.sqlite_keyed.specs.Keyed.{insert_by}
 use Rattle.sqlite_keyed.proofs.KeyedLemmas.{key-get_by, same_int}
 use Rattle.accounts.specs.Account.{empty_account}
 use Rattle.sqlcolumns.specs.Numbers.{is_place}
-use Rattle.sqlaccounts.specs.Accounts.{account_in, accounts_of, has_right_sums, is_right, row_of}
+use Rattle.sqlaccounts.specs.Accounts.{account_of_row, accounts_of, has_right_sums, is_right, row_of}
 use Rattle.sqlaccounts.proofs.AccountLemmas.{accounts-put, get-found, kept_accounts, row_here, row_there, sums-put}
 use Rattle.sqlaccounts.proofs.FindingLemmas.{equal}
 use Rattle.sqlderived.specs.Held.{counts_where}
@@ -108,8 +108,8 @@ module _ (xs : Content) (r l m : ℕ) (row new : AccountRow) (place : is_place r
   at : new.id ≡ pos r
   at = ap (λ (a : AccountRow). a.id) it.rest ∙ key-get_by key xs.accounts (pos r) row (sym found)
 
-  here : account_in ys new ≡ unwrap_or (get (accounts_of xs) r) empty_account
-  here = ap (account_in xs) it.rest ∙ sym (ap (λ a. unwrap_or a empty_account) (get-found xs r row place (sym found)))
+  here : account_of_row ys new ≡ unwrap_or (get (accounts_of xs) r) empty_account
+  here = ap (account_of_row xs) it.rest ∙ sym (ap (λ a. unwrap_or a empty_account) (get-found xs r row place (sym found)))
 
   right : is_right ys new ≡ has_right_sums xs (pos r)
   right = ap (is_right xs) it.rest ∙ ap (λ o. option_map_or (is_right xs) o true) found

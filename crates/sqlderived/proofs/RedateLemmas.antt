@@ -7,7 +7,7 @@ use Rattle.std.specs.List.{list_all}
 use Rattle.std.specs.Option.{option_map_or}
 use Rattle.calendar.specs.Moment.{capped, is_moment}
 use Rattle.sqlcolumns.specs.Domains.{deletion_in}
-use Rattle.sqlcolumns.specs.Numbers.{moment_in}
+use Rattle.sqlcolumns.specs.Numbers.{moment_in_column}
 use Rattle.sqlcolumns.proofs.DomainLemmas.{deletion_reads}
 use Rattle.sqlcolumns.proofs.ReadLemmas.{step}
 use Rattle.lifecycle.specs.Lapse.{completes_at, due_at, due_of, earlier}
@@ -21,13 +21,13 @@ use Rattle.sqltables.specs.Content.{Content}
 use Rattle.sqltables.specs.declared.domain.DomainRow.{DomainRow}
 use Rattle.sqltables.specs.Transfer.{transfer_with_domain}
 use Rattle.sqlobjects.specs.Objects.{last_transfer}
-use Rattle.sqldomains.specs.Domains.{domain_of, links_of}
-use Rattle.sqlterms.specs.Terms.{days_of}
+use Rattle.sqldomains.specs.Domains.{domain_read, links_of}
+use Rattle.sqlterms.specs.Terms.{days_of_rows}
 use Rattle.sqlderived.specs.Dues.{dues_are_right, is_due_right}
 use Rattle.sqlderived.specs.Redates.{ends_are, is_end, is_live_right, is_timed, lives_are_right, of_deletion}
 
 -- a domain that reads is deleted as its row says
-deletion-read : (xs : Content) (row : DomainRow) (d : object.Domain) → domain_of xs row ≡ Some d
+deletion-read : (xs : Content) (row : DomainRow) (d : object.Domain) → domain_read xs row ≡ Some d
     → deletion_in row.deleted row.restore_requested ≡ Some d.deletion
 deletion-read xs row d e =
     let links = step (links_of xs row) _ d e in
@@ -47,9 +47,9 @@ module _ (days : Schedule) (xs : Content) where
   one-due row d is (Some x) reads = sym (ap (of_deletion (ends row)) reads) ∙ is
 
   one-live : (row : DomainRow) → is_end days row ≡ true → is_due_right days xs row ≡ is_live_right xs row
-  one-live row is = go (domain_of xs row) refl
+  one-live row is = go (domain_read xs row) refl
     where
-      go : (o : Option object.Domain) → domain_of xs row ≡ o
+      go : (o : Option object.Domain) → domain_read xs row ≡ o
           → option_map_or (λ d. int_eq row.due (pos (capped (due_at (rules_with days) d)))) o false
           ≡ option_map_or (λ (d : object.Domain). is_some d.deletion || int_eq row.due (pos (capped (earlier (expiry d) (completes_at d.transfer))))) o false
       go None reads = refl
@@ -64,7 +64,7 @@ module _ (days : Schedule) (xs : Content) where
       λ i. here i && rest i
 
   -- where each deleted domain's column is the end of its deletion, columns are right if those of the others are
-  pub dues-live : ends_are days xs ≡ true → days_of xs ≡ Some days → dues_are_right xs ≡ lives_are_right xs
+  pub dues-live : ends_are days xs ≡ true → days_of_rows xs ≡ Some days → dues_are_right xs ≡ lives_are_right xs
   dues-live are put_down = (λ i. list_all (λ row. option_map_or (λ ds. is_due_right ds xs row) (put_down i) true) xs.domains) ∙ all-live xs.domains are
 
 -- ---- what is checked of the columns
@@ -82,7 +82,7 @@ module _ (days : Schedule) where
   by-moment n true (Some None) e = refl
   by-moment n true (Some (Some x)) e = same-column n (end x) e
 
-  by-column : (column : ℤ) (c : Option (Option Deletion)) → option_map_or (λ due. of_deletion (λ x. due == end x) c) (moment_in column) false ≡ true → of_deletion (λ x. int_eq column (pos (end x))) c ≡ true
+  by-column : (column : ℤ) (c : Option (Option Deletion)) → option_map_or (λ due. of_deletion (λ x. due == end x) c) (moment_in_column column) false ≡ true → of_deletion (λ x. int_eq column (pos (end x))) c ≡ true
   by-column (pos n) c e = by-moment n (is_moment n) c e
   by-column (negsuc n) c e = absurd (true≢false (sym e))
 

@@ -5,7 +5,7 @@ use Rattle.std.specs.Option.{option_map_or}
 use Rattle.std.specs.Ordering.{int_eq}
 use Rattle.calendar.specs.Moment.{capped}
 use Rattle.sqlcolumns.specs.Domains.{deletion_in}
-use Rattle.sqlcolumns.specs.Numbers.{moment_in}
+use Rattle.sqlcolumns.specs.Numbers.{moment_in_column}
 use Rattle.lifecycle.specs.Lapse.{completes_at, earlier}
 use Rattle.lifecycle.specs.Periods.{rules_with}
 use Rattle.lifecycle.specs.Phases.{purge_at}
@@ -15,7 +15,7 @@ use Rattle.objects.specs.declared.domain.Domain as object
 use Rattle.policy.specs.declared.schedule.Schedule.{Schedule}
 use Rattle.sqltables.specs.Content.{Content}
 use Rattle.sqltables.specs.declared.domain.DomainRow.{DomainRow}
-use Rattle.sqldomains.specs.Domains.{domain_of}
+use Rattle.sqldomains.specs.Domains.{domain_read}
 
 -- what is asked of the column of a deleted domain, by its deletion; of another nothing is
 abbrev pub of_deletion : (Deletion → Bool) → Option (Option Deletion) → Bool
@@ -37,7 +37,7 @@ ends_are days xs = list_all (is_end days) xs.domains
 abbrev pub is_timed : Schedule → DomainRow → Bool
 is_timed days row =
     option_map_or (λ due. of_deletion (λ x. due == capped (purge_at (rules_with days) x)) (deletion_in row.deleted row.restore_requested))
-    (moment_in row.due) false
+    (moment_in_column row.due) false
 
 -- ---- which domains are right by any lengths
 
@@ -45,7 +45,7 @@ is_timed days row =
 abbrev pub is_live_right : Content → DomainRow → Bool
 is_live_right xs row =
     option_map_or (λ (d : object.Domain). is_some d.deletion || int_eq row.due (pos (capped (earlier (expiry d) (completes_at d.transfer)))))
-    (domain_of xs row) false
+    (domain_read xs row) false
 
 abbrev pub lives_are_right : Content → Bool
 lives_are_right xs = list_all (is_live_right xs) xs.domains

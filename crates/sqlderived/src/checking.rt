@@ -68,7 +68,7 @@ fn first_right<S: Alter>(
     rows: Seq<DomainRow>,
     policy: &Policy,
 ) -> Result<Option<Domain>, BookFault>
-    ensures { FindsSome result (λ domain. (first_read (domains.domain_of store.old.content) rows
+    ensures { FindsSome result (λ domain. (first_read (domains.domain_read store.old.content) rows
         ≡ domain) × ((row : DomainRow) → Has rows row
         → is_due_right policy.now.days store.old.content row ≡ true)) store.old store.new }
 {
@@ -85,7 +85,7 @@ fn right_domain<S: Alter>(
     row: DomainRow,
     policy: &Policy,
 ) -> Result<Domain, BookFault>
-    ensures { FindsSome result (λ domain. (domains.domain_of store.old.content row ≡ Some domain)
+    ensures { FindsSome result (λ domain. (domains.domain_read store.old.content row ≡ Some domain)
         × (is_due_right policy.now.days store.old.content row ≡ true)) store.old store.new }
 {
     let due = due_in(&row)?;

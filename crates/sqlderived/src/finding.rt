@@ -52,7 +52,7 @@ fn contacts_due<S: Alter>(
     alloc: Global,
     moment: Moment,
 ) -> Result<BTreeSet<Due>, BookFault>
-    ensures { FindsSome result (λ found. spec.with_rows (spec.contact_in moment store.old.content) []
+    ensures { FindsSome result (λ found. spec.with_rows (spec.contact_due_in_row moment store.old.content) []
         (spec.contacts_until moment store.old.content) ≡ Some found.keys) store.old store.new }
 {
     let rows = contact_rows(store, moment)?;
@@ -76,7 +76,7 @@ pub(crate) fn of_contacts<S: Alter>(
     moment: Moment,
     rows: Seq<ContactRow>,
 ) -> Result<BTreeSet<Due>, BookFault>
-    ensures { FindsSome result (λ found. spec.with_rows (spec.contact_in moment store.old.content) []
+    ensures { FindsSome result (λ found. spec.with_rows (spec.contact_due_in_row moment store.old.content) []
         rows ≡ Some found.keys) store.old store.new }
 {
     let mut found = BTreeSet::new(alloc);
@@ -94,7 +94,7 @@ fn with_contact<S: Alter>(
     row: ContactRow,
 ) -> Result<BTreeSet<Due>, BookFault>
     ensures { FindsSome result (λ more. spec.with_row found.keys
-        (spec.contact_in moment store.old.content row) ≡ Some more.keys) store.old store.new }
+        (spec.contact_due_in_row moment store.old.content row) ≡ Some more.keys) store.old store.new }
 {
     let contact = contact_of(store, alloc, row)?;
     let due = contact_due_by(&contact, moment);
@@ -117,7 +117,7 @@ fn with_domains_due<S: Alter>(
 ) -> Result<BTreeSet<Due>, BookFault>
     ensures { FindsSome result (λ all. list_all (is_due_right policy.now.days store.old.content)
         (spec.domains_until moment store.old.content) ≡ true
-        → spec.with_rows (spec.domain_in policy.now moment store.old.content) found.keys
+        → spec.with_rows (spec.domain_due_in_row policy.now moment store.old.content) found.keys
         (spec.domains_until moment store.old.content) ≡ Some all.keys) store.old store.new }
 {
     let rows = domain_rows(store, moment)?;
@@ -145,7 +145,7 @@ pub(crate) fn with_domains<S: Alter>(
 ) -> Result<BTreeSet<Due>, BookFault>
     ensures { FindsSome result
         (λ all. list_all (is_due_right policy.now.days store.old.content) rows ≡ true
-        → spec.with_rows (spec.domain_in policy.now moment store.old.content) found.keys rows
+        → spec.with_rows (spec.domain_due_in_row policy.now moment store.old.content) found.keys rows
         ≡ Some all.keys) store.old store.new }
 {
     let mut found = found;
@@ -167,7 +167,7 @@ fn with_domain<S: Alter>(
 ) -> Result<BTreeSet<Due>, BookFault>
     ensures { FindsSome result
         (λ more. is_due_right policy.now.days store.old.content row ≡ true
-        → spec.with_row found.keys (spec.domain_in policy.now moment store.old.content row)
+        → spec.with_row found.keys (spec.domain_due_in_row policy.now moment store.old.content row)
         ≡ Some more.keys) store.old store.new }
 {
     let column = due_in(&row)?;
@@ -205,7 +205,7 @@ fn with_domain_read<S: Alter>(
     found: BTreeSet<Due>,
     row: DomainRow,
 ) -> Result<BTreeSet<Due>, BookFault>
-    ensures { FindsSome result (λ more. spec.with_row found.keys (spec.domain_in policy.now moment
+    ensures { FindsSome result (λ more. spec.with_row found.keys (spec.domain_due_in_row policy.now moment
         store.old.content row) ≡ Some more.keys) store.old store.new }
 {
     let domain = domain_of(store, alloc, row)?;

@@ -46,7 +46,7 @@ fn incoming_by(transfer: &Transfer) -> Option<RegistrarNo>
 
 impl Holders {
     fn is_among(&self, registrar: RegistrarNo) -> bool
-        ensures { result ≡ spec.is_among registrar self.now }
+        ensures { result ≡ spec.is_holder registrar self.now }
     {
         self.sponsor == registrar || is_same(self.incoming, registrar)
     }
@@ -62,7 +62,7 @@ fn is_same(incoming: Option<RegistrarNo>, registrar: RegistrarNo) -> bool
 }
 
 fn is_in(registrar: RegistrarNo, parties: &Option<Holders>) -> bool
-    ensures { result ≡ spec.is_in registrar parties.now }
+    ensures { result ≡ spec.is_some_holder registrar parties.now }
 {
     match parties {
         None => false,

@@ -16,7 +16,7 @@ pub fn same_days<S: Alter>(
     alloc: Global,
     these: &Schedule,
 ) -> Result<(), BookFault>
-    ensures { FindsSome result (λ done. IfSome (terms.days_of store.old.content) (λ days. days
+    ensures { FindsSome result (λ done. IfSome (terms.days_of_rows store.old.content) (λ days. days
         ≡ these.now)) store.old store.new }
 {
     let Some(days) = days(store, alloc)? else {
@@ -34,7 +34,7 @@ pub(crate) fn have_days<S: Alter>(
     alloc: Global,
     policy: &Policy,
 ) -> Result<(), BookFault>
-    ensures { FindsSome result (λ done. terms.days_of store.old.content ≡ Some policy.now.days)
+    ensures { FindsSome result (λ done. terms.days_of_rows store.old.content ≡ Some policy.now.days)
         store.old store.new }
 {
     let Some(days) = days(store, alloc)? else {

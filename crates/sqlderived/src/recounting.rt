@@ -3,7 +3,7 @@ ghost use Rattle.std.specs.Prelude.{◌≡◌, ◌==◌, ◌&&◌, ◌+ℤ◌, �
 ghost use Rattle.std.specs.Int.{w64};
 ghost use Rattle.sqlrows.specs.Meanings.{Changes};
 ghost use Rattle.sqlderived.specs.Held.{counts_one, counts_where};
-ghost use Rattle.sqlderived.specs.inner.Holders.{is_in};
+ghost use Rattle.sqlderived.specs.inner.Holders.{is_some_holder};
 ghost use Rattle.sqlderived.specs.inner.Recounts.{IsCounted, IsCountedAnew, IsRecounted};
 
 use crate::holders::{Holders, holders_of, incoming_without, sponsor_without};
@@ -38,8 +38,8 @@ fn leave<S: Alter>(
     after: &Option<Holders>,
 ) -> Result<(), BookFault>
     requires { store.old.is_open ≡ true }
-    ensures { Changes result (IsCountedAnew (λ r. counts_one (is_in r before.now
-        && not (is_in r after.now))) (λ r. 0)) store.old store.new }
+    ensures { Changes result (IsCountedAnew (λ r. counts_one (is_some_holder r before.now
+        && not (is_some_holder r after.now))) (λ r. 0)) store.old store.new }
 {
     one_less(store, sponsor_without(before, after))?;
     one_less(store, incoming_without(before, after))?;
@@ -53,8 +53,8 @@ fn join<S: Alter>(
     after: &Option<Holders>,
 ) -> Result<(), BookFault>
     requires { store.old.is_open ≡ true }
-    ensures { Changes result (IsCountedAnew (λ r. 0) (λ r. counts_one (is_in r after.now
-        && not (is_in r before.now)))) store.old store.new }
+    ensures { Changes result (IsCountedAnew (λ r. 0) (λ r. counts_one (is_some_holder r after.now
+        && not (is_some_holder r before.now)))) store.old store.new }
 {
     one_more(store, sponsor_without(after, before))?;
     one_more(store, incoming_without(after, before))?;

@@ -17,9 +17,9 @@ use Rattle.sqltables.specs.Link.{link_with_contact, link_with_host}
 use Rattle.sqltables.specs.inner.Consistent.{IsConsistent}
 use Rattle.sqltables.proofs.RowLemmas.{bytes_same}
 use Rattle.sqlrows.specs.Read.{rows_of}
-use Rattle.sqlobjects.specs.Changes.{contact_name, host_name}
+use Rattle.sqlobjects.specs.Changes.{contact_name_by_number, host_name_by_number}
 use Rattle.sqlobjects.proofs.PutLemmas.{bytes_is, filter-has, has-filter, has-get_by}
-use Rattle.sqldomains.specs.inner.Links.{IsNoContact, IsNumberOfContact, IsNumberOfHost, IsUseOfContact, IsUseOfHost, Passes, is_linked_contact, is_linked_host}
+use Rattle.sqldomains.specs.inner.Links.{IsNoContact, IsNumberOfContact, IsNumberOfHost, IsUseOfContact, IsUseOfHost, Passes, some_domain_names_contact, some_domain_names_host}
 use Rattle.sqldomains.proofs.LinkedLemmas.{contact-unnamed, host-unnamed, one-passes}
 
 pub equal : (a b : ℤ) → a ≡ b → int_eq a b ≡ true
@@ -53,7 +53,7 @@ number-of-contact xs given name rows (Some row) id same asked one is =
     subst (IsNumberOfContact xs name) (sym is) (row, found.0, bytes_is row.name given found.1 ∙ same, refl)
 
 -- the row of a contact whose name something leads to
-pub row-of-contact : (xs : Content) (name : List ℕ) (id : ℤ) → contact_name xs id ≡ Some name → (row : ContactRow) × Has xs.contacts row × (row.name ≡ name) × (row.id ≡ id)
+pub row-of-contact : (xs : Content) (name : List ℕ) (id : ℤ) → contact_name_by_number xs id ≡ Some name → (row : ContactRow) × Has xs.contacts row × (row.name ≡ name) × (row.id ≡ id)
 row-of-contact xs name id e = go (get_by contact_table.contacts.key xs.contacts id) refl e
   where
     go : (o : Option ContactRow) → get_by contact_table.contacts.key xs.contacts id ≡ o → option_map (λ (r : ContactRow). r.name) o ≡ Some name
@@ -62,26 +62,26 @@ row-of-contact xs name id e = go (get_by contact_table.contacts.key xs.contacts 
     go (Some row) is f = (row, has-get_by contact_table.contacts.key xs.contacts id row is, cc, key-get_by contact_table.contacts.key xs.contacts id row is)
 
 module _ (xs : Content) (name : List ℕ) (consistent : IsConsistent xs) where
-  nowhere-contact : IsNumberOfContact xs name None → (id : ℤ) → contact_name xs id ≡ Some name → ⊥
+  nowhere-contact : IsNumberOfContact xs name None → (id : ℤ) → contact_name_by_number xs id ≡ Some name → ⊥
   nowhere-contact none id e =
       let it = row-of-contact xs name id e in
       subst (λ l. Has l it.0) none (filter-has (contact_table.contact_with_name name) xs.contacts it.0 it.1 (bytes_same it.0.name name it.2))
 
-  only-contact : (id : ℤ) → IsNumberOfContact xs name (Some id) → (other : ℤ) → contact_name xs other ≡ Some name → other ≡ id
+  only-contact : (id : ℤ) → IsNumberOfContact xs name (Some id) → (other : ℤ) → contact_name_by_number xs other ≡ Some name → other ≡ id
   only-contact id it other e =
       let that = row-of-contact xs name other e in
       sym that.3 ∙ ap (λ (r : ContactRow). r.id) (consistent.named.contacts that.0 it.0 that.1 it.1 (that.2 ∙ sym it.2)) ∙ it.3
 
-  pub contact-nowhere : IsNumberOfContact xs name None → is_linked_contact xs name ≡ false
+  pub contact-nowhere : IsNumberOfContact xs name None → some_domain_names_contact xs name ≡ false
   contact-nowhere none = contact-unnamed xs name (λ row there at. nowhere-contact none row.registrant at) (λ row there leads. nowhere-contact none leads.0 leads.2)
 
-  pub contact-unused : (id : ℤ) → IsNumberOfContact xs name (Some id) → IsNoContact xs id → is_linked_contact xs name ≡ false
+  pub contact-unused : (id : ℤ) → IsNumberOfContact xs name (Some id) → IsNoContact xs id → some_domain_names_contact xs name ≡ false
   contact-unused id it none =
       contact-unnamed xs name
       (λ row there at. subst (λ l. Has l row) none.registrant (filter-has (table.domain_with_registrant id) xs.domains row there (equal row.registrant id (only-contact id it row.registrant at))))
       (λ row there leads. subst (λ l. Has l row) none.links (filter-has (link_with_contact id) xs.links row there (subst (λ c. link_with_contact id (record row { contact = c }) ≡ true) (sym leads.1) (equal leads.0 id (only-contact id it leads.0 leads.2)))))
 
-  pub contact-used : (row : DomainRow) → Has xs.domains row → Passes xs (λ d. names_contact name d.links) row → is_linked_contact xs name ≡ true
+  pub contact-used : (row : DomainRow) → Has xs.domains row → Passes xs (λ d. names_contact name d.links) row → some_domain_names_contact xs name ≡ true
   contact-used row there passes = one-passes xs (λ d. names_contact name d.links) consistent row passes.0 there passes.1 passes.2
 
 -- ---- hosts
@@ -95,7 +95,7 @@ number-of-host xs given name rows (Some row) id same asked one is =
     subst (IsNumberOfHost xs name) (sym is) (row, found.0, bytes_is row.name given found.1 ∙ same, refl)
 
 -- the row of a host whose name something leads to
-pub row-of-host : (xs : Content) (name : List ℕ) (id : ℤ) → host_name xs id ≡ Some name → (row : HostRow) × Has xs.hosts row × (row.name ≡ name) × (row.id ≡ id)
+pub row-of-host : (xs : Content) (name : List ℕ) (id : ℤ) → host_name_by_number xs id ≡ Some name → (row : HostRow) × Has xs.hosts row × (row.name ≡ name) × (row.id ≡ id)
 row-of-host xs name id e = go (get_by host_table.hosts.key xs.hosts id) refl e
   where
     go : (o : Option HostRow) → get_by host_table.hosts.key xs.hosts id ≡ o → option_map (λ (r : HostRow). r.name) o ≡ Some name
@@ -104,25 +104,25 @@ row-of-host xs name id e = go (get_by host_table.hosts.key xs.hosts id) refl e
     go (Some row) is f = (row, has-get_by host_table.hosts.key xs.hosts id row is, cc, key-get_by host_table.hosts.key xs.hosts id row is)
 
 module _ (xs : Content) (name : List ℕ) (consistent : IsConsistent xs) where
-  pub nowhere-host : IsNumberOfHost xs name None → (id : ℤ) → host_name xs id ≡ Some name → ⊥
+  pub nowhere-host : IsNumberOfHost xs name None → (id : ℤ) → host_name_by_number xs id ≡ Some name → ⊥
   nowhere-host none id e =
       let it = row-of-host xs name id e in
       subst (λ l. Has l it.0) none (filter-has (host_table.host_with_name name) xs.hosts it.0 it.1 (bytes_same it.0.name name it.2))
 
-  pub only-host : (id : ℤ) → IsNumberOfHost xs name (Some id) → (other : ℤ) → host_name xs other ≡ Some name → other ≡ id
+  pub only-host : (id : ℤ) → IsNumberOfHost xs name (Some id) → (other : ℤ) → host_name_by_number xs other ≡ Some name → other ≡ id
   only-host id it other e =
       let that = row-of-host xs name other e in
       sym that.3 ∙ ap (λ (r : HostRow). r.id) (consistent.named.hosts that.0 it.0 that.1 it.1 (that.2 ∙ sym it.2)) ∙ it.3
 
-  pub host-nowhere : IsNumberOfHost xs name None → is_linked_host xs name ≡ false
+  pub host-nowhere : IsNumberOfHost xs name None → some_domain_names_host xs name ≡ false
   host-nowhere none = host-unnamed xs name (λ row there leads. nowhere-host none leads.0 leads.2)
 
-  pub host-unused : (id : ℤ) → IsNumberOfHost xs name (Some id) → filter (link_with_host id) xs.links ≡ [] → is_linked_host xs name ≡ false
+  pub host-unused : (id : ℤ) → IsNumberOfHost xs name (Some id) → filter (link_with_host id) xs.links ≡ [] → some_domain_names_host xs name ≡ false
   host-unused id it none =
       host-unnamed xs name
       (λ row there leads. subst (λ l. Has l row) none (filter-has (link_with_host id) xs.links row there (subst (λ h. link_with_host id (record row { host = h }) ≡ true) (sym leads.1) (equal leads.0 id (only-host id it leads.0 leads.2)))))
 
-  pub host-used : (row : DomainRow) → Has xs.domains row → Passes xs (λ d. names_host name d.links) row → is_linked_host xs name ≡ true
+  pub host-used : (row : DomainRow) → Has xs.domains row → Passes xs (λ d. names_host name d.links) row → some_domain_names_host xs name ≡ true
   host-used row there passes = one-passes xs (λ d. names_host name d.links) consistent row passes.0 there passes.1 passes.2
 
 -- ---- the same of states that are alike

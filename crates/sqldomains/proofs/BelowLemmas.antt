@@ -17,7 +17,7 @@ use Rattle.sqltables.specs.Content.{Content}
 use Rattle.sqltables.specs.Host as table
 use Rattle.sqltables.specs.declared.host.HostRow.{HostRow}
 use Rattle.sqltables.proofs.RowLemmas.{bytes_same}
-use Rattle.sqlobjects.specs.Objects.{addresses_of, host_of, hosts_of}
+use Rattle.sqlobjects.specs.Objects.{addresses_of, host_read, hosts_of}
 use Rattle.sqlobjects.proofs.NameLemmas.{host-named}
 use Rattle.sqlobjects.proofs.PutLemmas.{bytes_is, filter-has, has-filter}
 use Rattle.sqldomains.specs.inner.Names.{NameSet, host_standing, hosts_below, is_dotted, rows_around, with_read}
@@ -25,7 +25,7 @@ use Rattle.sqldomains.proofs.LinkedLemmas.{first-has}
 use Rattle.sqldomains.proofs.NameOrderLemmas.{by-rows}
 
 -- a host that reads lies below the last two labels of its name
-above-read : (xs : Content) (row : HostRow) (h : Host) → host_of xs row ≡ Some h → row.above ≡ above row.name
+above-read : (xs : Content) (row : HostRow) (h : Host) → host_read xs row ≡ Some h → row.above ≡ above row.name
 above-read xs row h e =
     let texts = addresses_of xs row.id in
     let columns = reading.step (columns_in row) (λ c. statuses_in row.statuses >>= (λ s. cond (str.bytes_eq row.above (above row.name)) (Some (host_with row c s texts)) None)) h e in
@@ -58,7 +58,7 @@ module _ (xs : Content) (domain : List ℕ) where
   found_below = filter (is_below domain) (map name_of (rows_around domain xs))
 
   -- the row of each host below it is among those that are looked at
-  is-around : (row : HostRow) (h : Host) → host_of xs row ≡ Some h → Has xs.hosts row → is_below domain row.name ≡ true → Has (rows_around domain xs) row
+  is-around : (row : HostRow) (h : Host) → host_read xs row ≡ Some h → Has xs.hosts row → is_below domain row.name ≡ true → Has (rows_around domain xs) row
   is-around row h reads there below = go (is_dotted domain) refl
     where
       go : (b : Bool) → is_dotted domain ≡ b → Has (cond b (filter (table.host_with_above (above domain)) xs.hosts) xs.hosts) row
@@ -71,7 +71,7 @@ module _ (xs : Content) (domain : List ℕ) where
   -- so each host below it is found
   is-found : (n : List ℕ) (h : Host) → get (hosts_of xs) n ≡ Some h → is_below domain n ≡ true → Has found_below n
   is-found n h e below =
-      let it = first-has (host_of xs) (filter (table.host_with_name n) xs.hosts) h (host-named xs n ∙ e) in
+      let it = first-has (host_read xs) (filter (table.host_with_name n) xs.hosts) h (host-named xs n ∙ e) in
       let there = has-filter (table.host_with_name n) xs.hosts it.0 it.1 in
       let name : it.0.name ≡ n = bytes_is it.0.name n there.1 in
       let row = is-around it.0 h it.2 there.0 (ap (is_below domain) name ∙ below) in

@@ -7,9 +7,9 @@ use Rattle.sqlite_rules.specs.Lists.{Has}
 use Rattle.sqlite_typed.specs.Tests.{bytes_eq}
 use Rattle.objects.specs.declared.domain.Domain.{Domain}
 use Rattle.objects.specs.declared.roid.ObjectKind.TheVariants as kinds
-use Rattle.sqlcolumns.specs.Contacts.{contact_in}
-use Rattle.sqlcolumns.specs.inner.Domains.{IsDomain, deletion_columns, registration_of, row_with}
-use Rattle.sqlcolumns.specs.Domains.{domain_in}
+use Rattle.sqlcolumns.specs.Contacts.{contact_of_columns}
+use Rattle.sqlcolumns.specs.inner.Domains.{IsDomain, deletion_columns, domain_registration, domain_row_with}
+use Rattle.sqlcolumns.specs.Domains.{domain_of_columns}
 use Rattle.sqlcolumns.specs.Numbers.{maybe_registrar_column, moment_column, registrar_column}
 use Rattle.sqlcolumns.specs.Registrations.{columns_with, registration_columns}
 use Rattle.sqlcolumns.specs.Roids.{roid_columns}
@@ -26,16 +26,16 @@ use Rattle.sqltables.specs.Transfer.{transfer_with_contact, transfer_with_domain
 use Rattle.sqltables.specs.inner.Consistent.{IsConsistent}
 use Rattle.sqltables.proofs.RowLemmas.{bytes_same}
 use Rattle.sqlrows.specs.Read.{named, rows_of}
-use Rattle.sqlobjects.specs.Changes.{contact_name, host_name}
-use Rattle.sqlobjects.specs.inner.Changes.{put}
-use Rattle.sqlobjects.specs.Objects.{contact_entry, contact_of, contacts_of, hosts_of, last_transfer}
+use Rattle.sqlobjects.specs.Changes.{contact_name_by_number, host_name_by_number}
+use Rattle.sqlobjects.specs.inner.Changes.{with_named}
+use Rattle.sqlobjects.specs.Objects.{contact_entry, contact_read, contacts_of, hosts_of, last_transfer}
 use Rattle.sqlobjects.specs.inner.Stages.{AreOthersKept, IsPlaced}
 use Rattle.sqlobjects.specs.declared.transfers.Transferable.TheVariants as transferable
 use Rattle.sqlobjects.specs.inner.Transfers.{IsTransferCleared, IsTransferPut}
 use Rattle.sqlobjects.proofs.PutLemmas.{apart, drop-stands, map_of, none-stands, others-removed, none-removed, put-stands, row_there, filter-has}
 use Rattle.sqldomains.specs.declared.domain_rows.DerivedColumns.{DerivedColumns}
 use Rattle.sqldomains.specs.inner.Changes.{IsDomainPut, sponsor_in}
-use Rattle.sqldomains.specs.Domains.{are_dated, dated, domain_of, domains_of, links_of, registrant_alone, with_links}
+use Rattle.sqldomains.specs.Domains.{are_dated, dated, domain_read, domains_of, links_of, registrant_alone, with_links}
 use Rattle.sqldomains.specs.inner.Stages.{AreLinksCleared, AreLinksPut, AreOtherPartsKept, IsDomainDropped, IsDomainPlaced, IsDomainRemoved, row_beside}
 use Rattle.sqldomains.proofs.LinkRowLemmas.{links-alike}
 
@@ -49,23 +49,23 @@ key = table.domains.key
 
 module _ (xs ys : Content) (id : ℤ) (kept : AreOtherPartsKept id xs ys) where
   -- a domain whose row, links and transfer are as they were is read as before
-  pub reads-alike : (r : DomainRow) → int_eq id r.id ≡ false → domain_of ys r ≡ domain_of xs r
+  pub reads-alike : (r : DomainRow) → int_eq id r.id ≡ false → domain_read ys r ≡ domain_read xs r
   reads-alike r other =
       let links : links_of ys r ≡ links_of xs r =
-      λ i. ap (λ (x : Content). contact_name x r.registrant) kept.rest i >>= (λ a.
+      λ i. ap (λ (x : Content). contact_name_by_number x r.registrant) kept.rest i >>= (λ a.
       dated r.due (kept.links r.id other i) >>= (λ rows.
-      links-alike xs ys (λ k. ap (λ (x : Content). contact_name x k) kept.rest) (λ k. ap (λ (x : Content). host_name x k) kept.rest) rows (registrant_alone a) i)) in
-      λ i. links i >>= (λ l. last_transfer (kept.transfers r.id other i) >>= (λ transfer. domain_in r l transfer))
+      links-alike xs ys (λ k. ap (λ (x : Content). contact_name_by_number x k) kept.rest) (λ k. ap (λ (x : Content). host_name_by_number x k) kept.rest) rows (registrant_alone a) i)) in
+      λ i. links i >>= (λ l. last_transfer (kept.transfers r.id other i) >>= (λ transfer. domain_of_columns r l transfer))
 
-  contact-same : (row : ContactRow) → contact_of ys row ≡ contact_of xs row
-  contact-same row = λ i. last_transfer (kept.contacts row.id i) >>= (λ transfer. contact_in row transfer)
+  contact-same : (row : ContactRow) → contact_read ys row ≡ contact_read xs row
+  contact-same row = λ i. last_transfer (kept.contacts row.id i) >>= (λ transfer. contact_of_columns row transfer)
 
   contacts-same : contacts_of ys ≡ contacts_of xs
   contacts-same =
       ap (λ (x : Content). from_entries (filter_map (contact_entry ys) x.contacts)) kept.rest
       ∙ (λ i. from_entries (filter_map (λ (row : ContactRow). named row.name (contact-same row i)) xs.contacts))
 
-  assembled : (name : List ℕ) (value : Option Domain) (due : Option ℕ) → domains_of ys ≡ put (domains_of xs) name value → AreOthersKept name_of name xs.domains ys.domains
+  assembled : (name : List ℕ) (value : Option Domain) (due : Option ℕ) → domains_of ys ≡ with_named (domains_of xs) name value → AreOthersKept name_of name xs.domains ys.domains
       → ((r : DomainRow) → Has xs.domains r → Has ys.domains r → bytes_eq r.name name ≡ false → int_eq id r.id ≡ false)
       → ((r : DomainRow) → Has ys.domains r → r.name ≡ name → Some r.due ≡ option_map moment_column due)
       → ((r : DomainRow) → Has ys.domains r → r.name ≡ name → Some r.sponsor ≡ maybe_registrar_column (sponsor_in value))
@@ -122,7 +122,7 @@ module _ (xs ys : Content) (name : List ℕ) (consistent : IsConsistent xs) (aft
     where
       unchanged : AreOtherPartsKept (pos 0) xs xs → IsDomainPut name None None xs xs
       unchanged as_it_is = record {
-        domains = none-stands name_of (domain_of xs) name xs.domains none;
+        domains = none-stands name_of (domain_read xs) name xs.domains none;
         contacts = refl;
         hosts = refl;
         metas = refl;
@@ -145,8 +145,8 @@ module _ (xs ys : Content) (name : List ℕ) (consistent : IsConsistent xs) (aft
       let at = row_there key name_of name xs.domains row found in
       let none_now : filter (table.domain_with_name name) ys.domains ≡ [] = ap (filter (table.domain_with_name name)) gone.domains ∙ none-removed key name_of name xs.domains row found consistent.keyed.domains consistent.named.domains in
       assembled xs ys row.id gone.kept name None None
-      (ap (map_of name_of (domain_of ys)) gone.domains
-      ∙ drop-stands key name_of (domain_of xs) (domain_of ys) name row xs.domains found consistent.keyed.domains consistent.named.domains (λ r was e. reads-alike xs ys row.id gone.kept r e))
+      (ap (map_of name_of (domain_read ys)) gone.domains
+      ∙ drop-stands key name_of (domain_read xs) (domain_read ys) name row xs.domains found consistent.keyed.domains consistent.named.domains (λ r was e. reads-alike xs ys row.id gone.kept r e))
       (λ q e. ap (filter (table.domain_with_name q)) gone.domains ∙ others-removed key name_of name xs.domains row found consistent.keyed.domains q e)
       (λ r was now e. apart key name_of xs.domains row r name consistent.keyed.domains at.0 was at.1 e)
       (λ r there is. absurd (nobody name ys.domains none_now r there is))
@@ -168,47 +168,47 @@ pub record IsWritten (beside : DerivedColumns) (d : Domain) (row : DomainRow) : 
 
 pub written : (id : ℤ) (beside : DerivedColumns) (d : Domain) (row : DomainRow) → row_beside id beside d ≡ Some row → IsWritten beside d row
 written id beside d row e =
-    let columns = step (registration_columns kinds.Domain (registration_of d)) (λ x. Some (row_with id beside.registrant beside.due d x (deletion_columns d.deletion))) row e in
-    let roid = step (roid_columns kinds.Domain d.roid) (λ x. Some (columns_with (registration_of d) x)) columns.given columns.is in
-    let registered : columns_with (registration_of d) roid.given ≡ columns.given = same_some (columns_with (registration_of d) roid.given) columns.given roid.rest in
-    let same : row_with id beside.registrant beside.due d columns.given (deletion_columns d.deletion) ≡ row = same_some _ row columns.rest in
+    let columns = step (registration_columns kinds.Domain (domain_registration d)) (λ x. Some (domain_row_with id beside.registrant beside.due d x (deletion_columns d.deletion))) row e in
+    let roid = step (roid_columns kinds.Domain d.roid) (λ x. Some (columns_with (domain_registration d) x)) columns.given columns.is in
+    let registered : columns_with (domain_registration d) roid.given ≡ columns.given = same_some (columns_with (domain_registration d) roid.given) columns.given roid.rest in
+    let same : domain_row_with id beside.registrant beside.due d columns.given (deletion_columns d.deletion) ≡ row = same_some _ row columns.rest in
     record {
       name = sym (ap (λ (r : DomainRow). r.name) same);
       registrant = sym (ap (λ (r : DomainRow). r.registrant) same);
       due = sym (ap (λ (r : DomainRow). r.due) same);
       sponsor = sym ((λ i. (registered i).sponsor) ∙ ap (λ (r : DomainRow). r.sponsor) same);
-      again = λ k. (λ i. columns.is i >>= (λ x. Some (row_with k beside.registrant beside.due d x (deletion_columns d.deletion)))) ∙ ap (λ (r : DomainRow). Some (record r { id = k })) same;
+      again = λ k. (λ i. columns.is i >>= (λ x. Some (domain_row_with k beside.registrant beside.due d x (deletion_columns d.deletion)))) ∙ ap (λ (r : DomainRow). Some (record r { id = k })) same;
     }
 
 -- ---- put
 
-module _ (xs m b ys : Content) (beside : DerivedColumns) (d : Domain) (row : DomainRow) (consistent : IsConsistent xs) (after : IsConsistent ys) (is : IsDomain d) (registrant : contact_name xs beside.registrant ≡ Some d.links.registrant)
+module _ (xs m b ys : Content) (beside : DerivedColumns) (d : Domain) (row : DomainRow) (consistent : IsConsistent xs) (after : IsConsistent ys) (is : IsDomain d) (registrant : contact_name_by_number xs beside.registrant ≡ Some d.links.registrant)
     (placed : IsDomainPlaced d beside row xs m) (named_by : AreLinksPut row.id row.due d.links m b) (with : IsTransferPut (transferable.Domain row.id) d.transfer b ys) where
   rows_now : IsPlaced name_of d.name row xs.domains ys.domains
   rows_now = subst (IsPlaced name_of d.name row xs.domains) (sym (ap (λ (x : Content). x.domains) with.kept.rest ∙ ap (λ (x : Content). x.domains) named_by.others.rest)) placed.rows
 
   -- names are as they were
-  contact_now : (k : ℤ) → contact_name ys k ≡ contact_name xs k
-  contact_now k = ap (λ (x : Content). contact_name x k) with.kept.rest ∙ ap (λ (x : Content). contact_name x k) named_by.others.rest ∙ ap (λ (x : Content). contact_name x k) placed.rest
+  contact_now : (k : ℤ) → contact_name_by_number ys k ≡ contact_name_by_number xs k
+  contact_now k = ap (λ (x : Content). contact_name_by_number x k) with.kept.rest ∙ ap (λ (x : Content). contact_name_by_number x k) named_by.others.rest ∙ ap (λ (x : Content). contact_name_by_number x k) placed.rest
 
-  registrant_now : contact_name ys row.registrant ≡ Some d.links.registrant
-  registrant_now = ap (contact_name ys) (written row.id beside d row placed.is).registrant ∙ contact_now beside.registrant ∙ registrant
+  registrant_now : contact_name_by_number ys row.registrant ≡ Some d.links.registrant
+  registrant_now = ap (contact_name_by_number ys) (written row.id beside d row placed.is).registrant ∙ contact_now beside.registrant ∙ registrant
 
   links_now : with_links ys (registrant_alone d.links.registrant) (filter (link_with_domain row.id) ys.links) ≡ Some d.links
   links_now =
       ap (λ (x : Content). with_links ys (registrant_alone d.links.registrant) (filter (link_with_domain row.id) x.links)) with.kept.rest
-      ∙ links-alike b ys (λ k. ap (λ (x : Content). contact_name x k) with.kept.rest) (λ k. ap (λ (x : Content). host_name x k) with.kept.rest) (filter (link_with_domain row.id) b.links) (registrant_alone d.links.registrant)
+      ∙ links-alike b ys (λ k. ap (λ (x : Content). contact_name_by_number x k) with.kept.rest) (λ k. ap (λ (x : Content). host_name_by_number x k) with.kept.rest) (filter (link_with_domain row.id) b.links) (registrant_alone d.links.registrant)
       ∙ named_by.here.all
 
   dated_now : dated row.due (filter (link_with_domain row.id) ys.links) ≡ Some (filter (link_with_domain row.id) ys.links)
   dated_now = passed (filter (link_with_domain row.id) ys.links) (are_dated row.due (filter (link_with_domain row.id) ys.links))
       (ap (λ (x : Content). are_dated row.due (filter (link_with_domain row.id) x.links)) with.kept.rest ∙ named_by.here.dated)
 
-  reads_now : domain_of ys row ≡ Some d
+  reads_now : domain_read ys row ≡ Some d
   reads_now =
-      (λ i. (registrant_now i >>= (λ a. dated row.due (filter (link_with_domain row.id) ys.links) >>= (λ rows. with_links ys (registrant_alone a) rows))) >>= (λ l. last_transfer (filter (transfer_with_domain row.id) ys.transfers) >>= (λ transfer. domain_in row l transfer)))
-      ∙ (λ i. (dated_now i >>= (λ rows. with_links ys (registrant_alone d.links.registrant) rows)) >>= (λ l. last_transfer (filter (transfer_with_domain row.id) ys.transfers) >>= (λ transfer. domain_in row l transfer)))
-      ∙ (λ i. links_now i >>= (λ l. with.last i >>= (λ transfer. domain_in row l transfer)))
+      (λ i. (registrant_now i >>= (λ a. dated row.due (filter (link_with_domain row.id) ys.links) >>= (λ rows. with_links ys (registrant_alone a) rows))) >>= (λ l. last_transfer (filter (transfer_with_domain row.id) ys.transfers) >>= (λ transfer. domain_of_columns row l transfer)))
+      ∙ (λ i. (dated_now i >>= (λ rows. with_links ys (registrant_alone d.links.registrant) rows)) >>= (λ l. last_transfer (filter (transfer_with_domain row.id) ys.transfers) >>= (λ transfer. domain_of_columns row l transfer)))
+      ∙ (λ i. links_now i >>= (λ l. with.last i >>= (λ transfer. domain_of_columns row l transfer)))
       ∙ domain_back row.id beside.registrant beside.due d row is placed.is
 
   kept_now : AreOtherPartsKept row.id xs ys
@@ -227,7 +227,7 @@ module _ (xs m b ys : Content) (beside : DerivedColumns) (d : Domain) (row : Dom
 
   pub domain-put : IsDomainPut d.name (Some d) (Some beside.due) xs ys
   domain-put = assembled xs ys row.id kept_now d.name (Some d) (Some beside.due)
-      (put-stands key name_of (domain_of xs) (domain_of ys) d.name row d xs.domains ys.domains rows_now after.keyed.domains after.named.domains reads_now (λ r was now e. reads-alike xs ys row.id kept_now r e))
+      (put-stands key name_of (domain_read xs) (domain_read ys) d.name row d xs.domains ys.domains rows_now after.keyed.domains after.named.domains reads_now (λ r was now e. reads-alike xs ys row.id kept_now r e))
       rows_now.others
       (λ r was now e. apart key name_of ys.domains row r d.name after.keyed.domains rows_now.there now rows_now.named e)
       (λ r there same. ap Some (ap (λ (x : DomainRow). x.due) (after.named.domains r row there rows_now.there (same ∙ sym rows_now.named)) ∙ (written row.id beside d row placed.is).due))

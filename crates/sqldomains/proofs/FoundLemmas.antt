@@ -11,15 +11,15 @@ use Rattle.states.specs.States.{Finds, StateOf}
 use Rattle.sqlrows.specs.Read.{first_read}
 use Rattle.sqlrows.proofs.NameLemmas.{stands}
 use Rattle.sqlrows.proofs.StateLemmas.{finds-on}
-use Rattle.sqldomains.specs.Domains.{domain_of, domains_of}
+use Rattle.sqldomains.specs.Domains.{domain_read, domains_of}
 
-pub domain-named : (xs : Content) (name : List ℕ) → first_read (domain_of xs) (filter (table.domain_with_name name) xs.domains) ≡ get (domains_of xs) name
-domain-named xs name = stands (λ (r : DomainRow). r.name) (domain_of xs) name xs.domains
+pub domain-named : (xs : Content) (name : List ℕ) → first_read (domain_read xs) (filter (table.domain_with_name name) xs.domains) ≡ get (domains_of xs) name
+domain-named xs name = stands (λ (r : DomainRow). r.name) (domain_read xs) name xs.domains
 
 pub domain-found : (s m t : StateOf Content) (given name : List ℕ) (same : given ≡ name) (r : Result (Option Domain) BookFault) (rows : List DomainRow)
     → Finds {A = List DomainRow} (Ok rows) (filter (table.domain_with_name given) s.content.domains) s m
-    → Finds r (first_read (domain_of m.content) rows) m t → Finds r (get (domains_of s.content) name) s t
-domain-found s m t given name same r rows asked found = finds-on r s m t (first_read (domain_of m.content) rows) (get (domains_of s.content) name) asked.0 (λ e.
-    (λ i. first_read (domain_of (asked.0.content e i)) (asked.1 e i))
-    ∙ ap (λ (n : List ℕ). first_read (domain_of s.content) (filter (table.domain_with_name n) s.content.domains)) same
+    → Finds r (first_read (domain_read m.content) rows) m t → Finds r (get (domains_of s.content) name) s t
+domain-found s m t given name same r rows asked found = finds-on r s m t (first_read (domain_read m.content) rows) (get (domains_of s.content) name) asked.0 (λ e.
+    (λ i. first_read (domain_read (asked.0.content e i)) (asked.1 e i))
+    ∙ ap (λ (n : List ℕ). first_read (domain_read s.content) (filter (table.domain_with_name n) s.content.domains)) same
     ∙ domain-named s.content name) found

@@ -11,7 +11,7 @@ use Rattle.objects.specs.declared.host.Host.{Host}
 use Rattle.sqlcolumns.specs.declared.code.Role.{Role}
 use Rattle.sqlcolumns.specs.declared.code.Role.TheVariants as roles
 use Rattle.sqlcolumns.specs.Codes.{role_in}
-use Rattle.sqlcolumns.specs.Domains.{domain_in}
+use Rattle.sqlcolumns.specs.Domains.{domain_of_columns}
 use Rattle.sqlcolumns.specs.Numbers.{maybe_registrar_column}
 use Rattle.sqlcolumns.specs.Steps.{◌>>=◌}
 use Rattle.sqlcolumns.specs.Transfers.{is_same}
@@ -27,14 +27,14 @@ use Rattle.sqltables.specs.Transfer.{transfer_with_domain}
 use Rattle.sqltables.specs.inner.Consistent.{IsConsistent, LeadsTo}
 use Rattle.sqlrows.specs.Read.{named}
 use Rattle.sqlobjects.specs.inner.Changes.{IsContactPut, IsHostPut}
-use Rattle.sqlobjects.specs.Changes.{contact_name, host_name}
+use Rattle.sqlobjects.specs.Changes.{contact_name_by_number, host_name_by_number}
 use Rattle.sqlobjects.specs.Objects.{last_transfer}
-use Rattle.sqlobjects.specs.Sponsors.{IsSponsorSetBelow, domain_sponsor, takes_sponsor, with_sponsor}
+use Rattle.sqlobjects.specs.Sponsors.{IsSponsorSetBelow, sponsor_by_name, takes_sponsor, with_sponsor}
 use Rattle.sqlobjects.proofs.PutLemmas.{get_by-has, has-filter}
-use Rattle.sqldomains.specs.Domains.{are_dated, dated, domain_entry, domain_of, domains_of, linked_name, registrant_alone, with_links, with_name}
+use Rattle.sqldomains.specs.Domains.{are_dated, dated, domain_entry, domain_read, domains_of, linked_name, registrant_alone, with_linked_name, with_links}
 
 -- a row whose numbers lead to the same names
-name-where : (xs ys : Content) (role : Role) (contact host : Option ℤ) → ((id : ℤ) → contact ≡ Some id → contact_name ys id ≡ contact_name xs id) → ((id : ℤ) → host ≡ Some id → host_name ys id ≡ host_name xs id)
+name-where : (xs ys : Content) (role : Role) (contact host : Option ℤ) → ((id : ℤ) → contact ≡ Some id → contact_name_by_number ys id ≡ contact_name_by_number xs id) → ((id : ℤ) → host ≡ Some id → host_name_by_number ys id ≡ host_name_by_number xs id)
     → linked_name ys role contact host ≡ linked_name xs role contact host
 name-where xs ys roles.Host None (Some id) contacts hosts = hosts id refl
 name-where xs ys roles.Host None None contacts hosts = refl
@@ -56,20 +56,20 @@ if-kept true x f g e = e
 if-kept false x f g e = refl
 
 module _ (xs ys : Content) (links : ys.links ≡ xs.links) (domains : ys.domains ≡ xs.domains) (transfers : (id : ℤ) → filter (transfer_with_domain id) ys.transfers ≡ filter (transfer_with_domain id) xs.transfers)
-    (registrants : (row : DomainRow) → Has xs.domains row → contact_name ys row.registrant ≡ contact_name xs row.registrant)
+    (registrants : (row : DomainRow) → Has xs.domains row → contact_name_by_number ys row.registrant ≡ contact_name_by_number xs row.registrant)
     (names : (row : LinkRow) → Has xs.links row → (role : Role) → linked_name ys role row.contact row.host ≡ linked_name xs role row.contact row.host) where
   links-where : (rows : List LinkRow) → ((row : LinkRow) → Has rows row → Has xs.links row) → (l : Links) → with_links ys l rows ≡ with_links xs l rows
   links-where [] there l = refl
   links-where (row ∷ rows) there l =
-      λ i. (role_in row.role >>= (λ r. names row (there row (inl refl)) r i >>= (λ n. Some (with_name l r n)))) >>= (λ n. links-where rows (λ r h. there r (inr h)) n i)
+      λ i. (role_in row.role >>= (λ r. names row (there row (inl refl)) r i >>= (λ n. Some (with_linked_name l r n)))) >>= (λ n. links-where rows (λ r h. there r (inr h)) n i)
 
-  reads-same : (row : DomainRow) → Has xs.domains row → domain_of ys row ≡ domain_of xs row
+  reads-same : (row : DomainRow) → Has xs.domains row → domain_read ys row ≡ domain_read xs row
   reads-same row there =
       λ i. (registrants row there i >>= (λ a.
       (ap (λ ls. dated row.due (filter (link_with_domain row.id) ls) >>= (λ rows. with_links ys (registrant_alone a) rows)) links
       ∙ if-kept (are_dated row.due (filter (link_with_domain row.id) xs.links)) (filter (link_with_domain row.id) xs.links) (λ rows. with_links ys (registrant_alone a) rows) (λ rows. with_links xs (registrant_alone a) rows)
       (links-where (filter (link_with_domain row.id) xs.links) (λ r h. (has-filter (link_with_domain row.id) xs.links r h).0) (registrant_alone a))) i))
-      >>= (λ l. last_transfer (transfers row.id i) >>= (λ transfer. domain_in row l transfer))
+      >>= (λ l. last_transfer (transfers row.id i) >>= (λ transfer. domain_of_columns row l transfer))
 
   domains-same : domains_of ys ≡ domains_of xs
   domains-same =
@@ -78,18 +78,18 @@ module _ (xs ys : Content) (links : ys.links ≡ xs.links) (domains : ys.domains
 
 -- ---- a contact put
 
-contact-there : (xs : Content) (row : ContactRow) (id : ℤ) → IsConsistent xs → Has xs.contacts row → row.id ≡ id → contact_name xs id ≡ Some row.name
+contact-there : (xs : Content) (row : ContactRow) (id : ℤ) → IsConsistent xs → Has xs.contacts row → row.id ≡ id → contact_name_by_number xs id ≡ Some row.name
 contact-there xs row id consistent there is =
-    ap (contact_name xs) (sym is) ∙ ap (option_map (λ (r : ContactRow). r.name)) (get_by-has contact_table.contacts.key xs.contacts row consistent.keyed.contacts there)
+    ap (contact_name_by_number xs) (sym is) ∙ ap (option_map (λ (r : ContactRow). r.name)) (get_by-has contact_table.contacts.key xs.contacts row consistent.keyed.contacts there)
 
-host-there : (xs : Content) (row : HostRow) (id : ℤ) → IsConsistent xs → Has xs.hosts row → row.id ≡ id → host_name xs id ≡ Some row.name
+host-there : (xs : Content) (row : HostRow) (id : ℤ) → IsConsistent xs → Has xs.hosts row → row.id ≡ id → host_name_by_number xs id ≡ Some row.name
 host-there xs row id consistent there is =
-    ap (host_name xs) (sym is) ∙ ap (option_map (λ (r : HostRow). r.name)) (get_by-has host_table.hosts.key xs.hosts row consistent.keyed.hosts there)
+    ap (host_name_by_number xs) (sym is) ∙ ap (option_map (λ (r : HostRow). r.name)) (get_by-has host_table.hosts.key xs.hosts row consistent.keyed.hosts there)
 
 module _ (name : List ℕ) (value : Option Contact) (xs ys : Content) (put : IsContactPut name value xs ys) where
   -- a number that something refers to before and after
   same-contact : {X : Type 0} (a b : List X) (column : X → Option ℤ) (x : X) (id : ℤ) → LeadsTo a column xs.contacts contact_table.contacts.key → LeadsTo b column ys.contacts contact_table.contacts.key → b ≡ a → Has a x → column x ≡ Some id
-      → contact_name ys id ≡ contact_name xs id
+      → contact_name_by_number ys id ≡ contact_name_by_number xs id
   same-contact a b column x id was now same there is =
       let old = was x there id is in
       let new = now x (subst (λ l. Has l x) (sym same) there) id is in
@@ -97,7 +97,7 @@ module _ (name : List ℕ) (value : Option Contact) (xs ys : Content) (put : IsC
       let after = contact-there ys new.0 id put.consistent.1 new.1 new.2 in
       after ∙ ap Some (sym (put.names id old.0.name new.0.name before after)) ∙ sym before
 
-  contact-registrants : (row : DomainRow) → Has xs.domains row → contact_name ys row.registrant ≡ contact_name xs row.registrant
+  contact-registrants : (row : DomainRow) → Has xs.domains row → contact_name_by_number ys row.registrant ≡ contact_name_by_number xs row.registrant
   contact-registrants row there =
       same-contact xs.domains ys.domains (λ (x : DomainRow). Some x.registrant) row row.registrant put.consistent.0.linked.domain_registrant put.consistent.1.linked.domain_registrant put.domains there refl
 
@@ -105,9 +105,9 @@ module _ (name : List ℕ) (value : Option Contact) (xs ys : Content) (put : IsC
   contact-names row there role =
       name-where xs ys role row.contact row.host
       (λ id is. same-contact xs.links ys.links (λ (x : LinkRow). x.contact) row id put.consistent.0.linked.link_contact put.consistent.1.linked.link_contact put.links there is)
-      (λ id is. ap (λ rows. host_name (record ys { hosts = rows }) id) put.host_rows)
+      (λ id is. ap (λ rows. host_name_by_number (record ys { hosts = rows }) id) put.host_rows)
 
-  pub contact-leaves-reading : (row : DomainRow) → Has xs.domains row → domain_of ys row ≡ domain_of xs row
+  pub contact-leaves-reading : (row : DomainRow) → Has xs.domains row → domain_read ys row ≡ domain_read xs row
   contact-leaves-reading = reads-same xs ys put.links put.domains put.transfers contact-registrants contact-names
 
   pub contact-leaves-domains : domains_of ys ≡ domains_of xs
@@ -119,7 +119,7 @@ module _ (name : List ℕ) (value : Option Host) (xs ys : Content) (put : IsHost
   host-names : (row : LinkRow) → Has xs.links row → (role : Role) → linked_name ys role row.contact row.host ≡ linked_name xs role row.contact row.host
   host-names row there role =
       name-where xs ys role row.contact row.host
-      (λ id is. ap (λ rows. contact_name (record ys { contacts = rows }) id) put.contact_rows)
+      (λ id is. ap (λ rows. contact_name_by_number (record ys { contacts = rows }) id) put.contact_rows)
       (λ id is.
       let old = put.consistent.0.linked.link_host row there id is in
       let new = put.consistent.1.linked.link_host row (subst (λ l. Has l row) (sym put.links) there) id is in
@@ -127,13 +127,13 @@ module _ (name : List ℕ) (value : Option Host) (xs ys : Content) (put : IsHost
       let after = host-there ys new.0 id put.consistent.1 new.1 new.2 in
       after ∙ ap Some (sym (put.names id old.0.name new.0.name before after)) ∙ sym before)
 
-  host-registrants : (row : DomainRow) → Has xs.domains row → contact_name ys row.registrant ≡ contact_name xs row.registrant
-  host-registrants row there = ap (λ rows. contact_name (record ys { contacts = rows }) row.registrant) put.contact_rows
+  host-registrants : (row : DomainRow) → Has xs.domains row → contact_name_by_number ys row.registrant ≡ contact_name_by_number xs row.registrant
+  host-registrants row there = ap (λ rows. contact_name_by_number (record ys { contacts = rows }) row.registrant) put.contact_rows
 
   host-transfers : (id : ℤ) → filter (transfer_with_domain id) ys.transfers ≡ filter (transfer_with_domain id) xs.transfers
   host-transfers id = ap (filter (transfer_with_domain id)) put.transfers
 
-  pub host-leaves-reading : (row : DomainRow) → Has xs.domains row → domain_of ys row ≡ domain_of xs row
+  pub host-leaves-reading : (row : DomainRow) → Has xs.domains row → domain_read ys row ≡ domain_read xs row
   host-leaves-reading = reads-same xs ys put.links put.domains host-transfers host-registrants host-names
 
   pub host-leaves-domains : domains_of ys ≡ domains_of xs
@@ -161,25 +161,25 @@ names-kept above sponsor (row ∷ rows) id = go (takes_sponsor above row) (names
     go false more = at (int_eq row.id id) row _ _ refl more
 
 module _ (above : List ℕ) (after : Option ℕ) (xs ys : Content) (it : IsSponsorSetBelow above after xs ys) where
-  sponsor-names : (id : ℤ) → host_name ys id ≡ host_name xs id
-  sponsor-names id = go (is_same (domain_sponsor xs above) (maybe_registrar_column after)) refl
+  sponsor-names : (id : ℤ) → host_name_by_number ys id ≡ host_name_by_number xs id
+  sponsor-names id = go (is_same (sponsor_by_name xs above) (maybe_registrar_column after)) refl
     where
-      go : (b : Bool) → is_same (domain_sponsor xs above) (maybe_registrar_column after) ≡ b → host_name ys id ≡ host_name xs id
+      go : (b : Bool) → is_same (sponsor_by_name xs above) (maybe_registrar_column after) ≡ b → host_name_by_number ys id ≡ host_name_by_number xs id
       go true e = ap (λ rows. name_in (get_by host_table.hosts.key rows id)) (it.stays e)
       go false e =
           ap (λ rows. name_in (get_by host_table.hosts.key rows id)) (it.moves e).has
           ∙ names-kept above (maybe_registrar_column after) xs.hosts id
 
   sponsor-linked : (row : LinkRow) → Has xs.links row → (role : Role) → linked_name ys role row.contact row.host ≡ linked_name xs role row.contact row.host
-  sponsor-linked row there role = name-where xs ys role row.contact row.host (λ id is. ap (λ (x : Content). contact_name x id) it.rest) (λ id is. sponsor-names id)
+  sponsor-linked row there role = name-where xs ys role row.contact row.host (λ id is. ap (λ (x : Content). contact_name_by_number x id) it.rest) (λ id is. sponsor-names id)
 
-  sponsor-registrants : (row : DomainRow) → Has xs.domains row → contact_name ys row.registrant ≡ contact_name xs row.registrant
-  sponsor-registrants row there = ap (λ (x : Content). contact_name x row.registrant) it.rest
+  sponsor-registrants : (row : DomainRow) → Has xs.domains row → contact_name_by_number ys row.registrant ≡ contact_name_by_number xs row.registrant
+  sponsor-registrants row there = ap (λ (x : Content). contact_name_by_number x row.registrant) it.rest
 
   sponsor-transfers : (id : ℤ) → filter (transfer_with_domain id) ys.transfers ≡ filter (transfer_with_domain id) xs.transfers
   sponsor-transfers id = ap (λ (x : Content). filter (transfer_with_domain id) x.transfers) it.rest
 
-  pub sponsors-leave-reading : (row : DomainRow) → Has xs.domains row → domain_of ys row ≡ domain_of xs row
+  pub sponsors-leave-reading : (row : DomainRow) → Has xs.domains row → domain_read ys row ≡ domain_read xs row
   sponsors-leave-reading = reads-same xs ys (ap (λ (x : Content). x.links) it.rest) (ap (λ (x : Content). x.domains) it.rest) sponsor-transfers sponsor-registrants sponsor-linked
 
   pub sponsors-leave-domains : domains_of ys ≡ domains_of xs

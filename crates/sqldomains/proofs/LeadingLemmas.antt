@@ -16,9 +16,9 @@ use Rattle.sqltables.specs.declared.domain.DomainRow.{DomainRow}
 use Rattle.sqltables.specs.declared.host.HostRow.{HostRow}
 use Rattle.sqltables.specs.Link.{link_with_domain}
 use Rattle.sqltables.specs.declared.link.LinkRow.{LinkRow}
-use Rattle.sqlobjects.specs.Changes.{contact_name}
+use Rattle.sqlobjects.specs.Changes.{contact_name_by_number}
 use Rattle.sqlobjects.proofs.PutLemmas.{has-filter}
-use Rattle.sqldomains.specs.Domains.{domain_of, linked_name, registrant_alone, with_name}
+use Rattle.sqldomains.specs.Domains.{domain_read, linked_name, registrant_alone, with_linked_name}
 use Rattle.sqldomains.proofs.AnswerLemmas.{row-of-contact, row-of-host}
 use Rattle.sqldomains.proofs.LinkedLemmas.{LeadsToContact, LeadsToHost, Naming, admin-more, all-rows, host-more, naming, registrant-kept, tech-more}
 use Rattle.sqlobjects.proofs.VerdictLemmas.{each-passes}
@@ -51,7 +51,7 @@ pub record NamesHost (xs : Content) (row : DomainRow) (name : List ℕ) : Type 0
   pub named : host.name ≡ name
   pub way : LinksHost xs row host.id
 
-module _ (xs : Content) (row : DomainRow) (d : Domain) (reads : domain_of xs row ≡ Some d) (name : List ℕ) where
+module _ (xs : Content) (row : DomainRow) (d : Domain) (reads : domain_read xs row ≡ Some d) (name : List ℕ) where
   is : Naming xs row d.links
   is = naming xs row d reads
 
@@ -59,7 +59,7 @@ module _ (xs : Content) (row : DomainRow) (d : Domain) (reads : domain_of xs row
   dated-so l there = same_int l.due row.due (each-passes (λ (x : LinkRow). int_eq x.due row.due) (filter (link_with_domain row.id) xs.links) is.all_dated l there)
 
   listed-leads : (pick : Links → List (List ℕ)) (Leads : LinkRow → Type 0) → ((r : List ℕ) → has_name (pick (registrant_alone r)) name ≡ false)
-      → ((l : Links) (r : LinkRow) (role : Role) (new : List ℕ) → linked_name xs role r.contact r.host ≡ Some new → has_name (pick (with_name l role new)) name ≡ true → (has_name (pick l) name ≡ true) ⊎ Leads r)
+      → ((l : Links) (r : LinkRow) (role : Role) (new : List ℕ) → linked_name xs role r.contact r.host ≡ Some new → has_name (pick (with_linked_name l role new)) name ≡ true → (has_name (pick l) name ≡ true) ⊎ Leads r)
       → has_name (pick d.links) name ≡ true → (l : LinkRow) × Has (filter (link_with_domain row.id) xs.links) l × Leads l
   listed-leads pick Leads none more has = go (all-rows xs name pick Leads more (filter (link_with_domain row.id) xs.links) (registrant_alone is.registrant) d.links is.all has)
     where
@@ -69,7 +69,7 @@ module _ (xs : Content) (row : DomainRow) (d : Domain) (reads : domain_of xs row
 
   by-registrant : str.bytes_eq d.links.registrant name ≡ true → NamesContact xs row name
   by-registrant same =
-      let at : contact_name xs row.registrant ≡ Some name = is.registrant_is ∙ ap Some (sym (registrant-kept xs (filter (link_with_domain row.id) xs.links) (registrant_alone is.registrant) d.links is.all) ∙ (bytes_eq-Decides d.links.registrant name).0 same) in
+      let at : contact_name_by_number xs row.registrant ≡ Some name = is.registrant_is ∙ ap Some (sym (registrant-kept xs (filter (link_with_domain row.id) xs.links) (registrant_alone is.registrant) d.links is.all) ∙ (bytes_eq-Decides d.links.registrant name).0 same) in
       let it = row-of-contact xs name row.registrant at in
       record { contact = it.0; there = it.1; named = it.2; way = inl (sym it.3) }
 

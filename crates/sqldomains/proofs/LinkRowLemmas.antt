@@ -22,17 +22,17 @@ use Rattle.sqltables.specs.Link as table
 use Rattle.sqltables.specs.Link.{link_with_domain}
 use Rattle.sqltables.specs.declared.link.LinkRow.{LinkRow}
 use Rattle.sqltables.specs.inner.Consistent.{IsConsistent}
-use Rattle.sqlobjects.specs.Changes.{contact_name, host_name}
+use Rattle.sqlobjects.specs.Changes.{contact_name_by_number, host_name_by_number}
 use Rattle.sqlobjects.proofs.PutLemmas.{filter-append, filter-append_pass, filter-delete, filter-deleted, get_by-has}
 use Rattle.sqldomains.specs.declared.comparison.LinkComparison.TheVariants as comparisons
-use Rattle.sqldomains.specs.Domains.{are_dated, in_places, linked_name, placed, registrant_alone, with_link, with_links, with_name}
+use Rattle.sqldomains.specs.Domains.{are_dated, in_places, linked_name, placed, registrant_alone, with_link_read, with_linked_name, with_links}
 use Rattle.sqldomains.specs.inner.Links.{IsNumberOfContact, IsNumberOfHost}
 use Rattle.sqldomains.specs.inner.Stages.{AreLinksCleared, AreLinksPutOver, AreNamesAdded, AreOtherLinksKept, IsLinkTo, Names, with_names}
 use Rattle.sqldomains.proofs.LinkedLemmas.{registrant-more}
 
 -- ---- rows read where names are alike
 
-module _ (xs ys : Content) (contacts : (id : ℤ) → contact_name ys id ≡ contact_name xs id) (hosts : (id : ℤ) → host_name ys id ≡ host_name xs id) where
+module _ (xs ys : Content) (contacts : (id : ℤ) → contact_name_by_number ys id ≡ contact_name_by_number xs id) (hosts : (id : ℤ) → host_name_by_number ys id ≡ host_name_by_number xs id) where
   name-alike : (role : Role) (contact host : Option ℤ) → linked_name ys role contact host ≡ linked_name xs role contact host
   name-alike roles.Host None (Some id) = hosts id
   name-alike roles.Host None None = refl
@@ -44,8 +44,8 @@ module _ (xs ys : Content) (contacts : (id : ℤ) → contact_name ys id ≡ con
   name-alike roles.Tech (Some id) (Some h) = refl
   name-alike roles.Tech None host = refl
 
-  link-alike : (l : Links) (row : LinkRow) → with_link ys l row ≡ with_link xs l row
-  link-alike l row = λ i. role_in row.role >>= (λ r. name-alike r row.contact row.host i >>= (λ n. Some (with_name l r n)))
+  link-alike : (l : Links) (row : LinkRow) → with_link_read ys l row ≡ with_link_read xs l row
+  link-alike l row = λ i. role_in row.role >>= (λ r. name-alike r row.contact row.host i >>= (λ n. Some (with_linked_name l r n)))
 
   pub links-alike : (rows : List LinkRow) (l : Links) → with_links ys l rows ≡ with_links xs l rows
   links-alike [] l = refl
@@ -61,16 +61,16 @@ bind-assoc : {A B C : Type 0} (o : Option A) (f : A → Option B) (g : B → Opt
 bind-assoc None f g = refl
 bind-assoc (Some x) f g = refl
 
-with-more : (xs : Content) (rows : List LinkRow) (l : Links) (row : LinkRow) → with_links xs l (rows ++ row ∷ []) ≡ with_links xs l rows >>= (λ m. with_link xs m row)
-with-more xs [] l row = bind-some (with_link xs l row)
+with-more : (xs : Content) (rows : List LinkRow) (l : Links) (row : LinkRow) → with_links xs l (rows ++ row ∷ []) ≡ with_links xs l rows >>= (λ m. with_link_read xs m row)
+with-more xs [] l row = bind-some (with_link_read xs l row)
 with-more xs (r ∷ rows) l row =
-    (λ i. with_link xs l r >>= (λ n. with-more xs rows n row i))
-    ∙ sym (bind-assoc (with_link xs l r) (λ n. with_links xs n rows) (λ m. with_link xs m row))
+    (λ i. with_link_read xs l r >>= (λ n. with-more xs rows n row i))
+    ∙ sym (bind-assoc (with_link_read xs l r) (λ n. with_links xs n rows) (λ m. with_link_read xs m row))
 
-one-leads : (xs : Content) (id due k : ℤ) (role : Role) (name : List ℕ) (row : LinkRow) (m : Links) → IsLinkTo xs id due role name row → with_link xs m (record row { id = k }) ≡ Some (with_name m role name)
+one-leads : (xs : Content) (id due k : ℤ) (role : Role) (name : List ℕ) (row : LinkRow) (m : Links) → IsLinkTo xs id due role name row → with_link_read xs m (record row { id = k }) ≡ Some (with_linked_name m role name)
 one-leads xs id due k role name row m is =
-    (λ i. (ap role_in is.role_is ∙ role_back role) i >>= (λ r. linked_name xs r row.contact row.host >>= (λ n. Some (with_name m r n))))
-    ∙ (λ i. is.leads i >>= (λ n. Some (with_name m role n)))
+    (λ i. (ap role_in is.role_is ∙ role_back role) i >>= (λ r. linked_name xs r row.contact row.host >>= (λ n. Some (with_linked_name m r n))))
+    ∙ (λ i. is.leads i >>= (λ n. Some (with_linked_name m role n)))
 
 -- one more that says so
 dated-more : (due : ℤ) (rows : List LinkRow) (row : LinkRow) → are_dated due rows ≡ true → row.due ≡ due → are_dated due (rows ++ row ∷ []) ≡ true
@@ -96,7 +96,7 @@ name-added id due role name xs row is =
             ∙ links-alike xs ys (λ i. refl) (λ i. refl) (filter (link_with_domain id) ys.links) (registrant_alone l.registrant)
             ∙ ap (with_links xs (registrant_alone l.registrant)) more
             ∙ with-more xs (filter (link_with_domain id) xs.links) (registrant_alone l.registrant) new
-            ∙ ap (λ o. o >>= (λ m. with_link xs m new)) before.all
+            ∙ ap (λ o. o >>= (λ m. with_link_read xs m new)) before.all
             ∙ one-leads xs id due k role name row l is;
         dated = ap (are_dated due) more ∙ dated-more due (filter (link_with_domain id) xs.links) new before.dated is.due_is;
       };
@@ -113,7 +113,7 @@ none-named id due role xs = record { here = λ l is. is; others = record { domai
 
 with_names-append : (role : Role) (ts us : List (List ℕ)) (l : Links) → with_names role l (ts ++ us) ≡ with_names role (with_names role l ts) us
 with_names-append role [] us l = refl
-with_names-append role (t ∷ ts) us l = with_names-append role ts us (with_name l role t)
+with_names-append role (t ∷ ts) us l = with_names-append role ts us (with_linked_name l role t)
 
 then-kept : (id : ℤ) (a b c : Content) → AreOtherLinksKept id a b → AreOtherLinksKept id b c → AreOtherLinksKept id a c
 then-kept id a b c one two = record {
@@ -142,15 +142,15 @@ links-cleared id xs = record {
 
 admins : (names : List (List ℕ)) (l : Links) → with_names roles.Admin l names ≡ record l { admin = l.admin ++ names }
 admins [] l = λ i. record l { admin = sym (append-nil l.admin) i }
-admins (n ∷ ns) l = admins ns (with_name l roles.Admin n) ∙ (λ i. record l { admin = append_assoc l.admin (n ∷ []) ns i })
+admins (n ∷ ns) l = admins ns (with_linked_name l roles.Admin n) ∙ (λ i. record l { admin = append_assoc l.admin (n ∷ []) ns i })
 
 techs : (names : List (List ℕ)) (l : Links) → with_names roles.Tech l names ≡ record l { tech = l.tech ++ names }
 techs [] l = λ i. record l { tech = sym (append-nil l.tech) i }
-techs (n ∷ ns) l = techs ns (with_name l roles.Tech n) ∙ (λ i. record l { tech = append_assoc l.tech (n ∷ []) ns i })
+techs (n ∷ ns) l = techs ns (with_linked_name l roles.Tech n) ∙ (λ i. record l { tech = append_assoc l.tech (n ∷ []) ns i })
 
 all_hosts : (names : List (List ℕ)) (l : Links) → with_names roles.Host l names ≡ record l { hosts = fold (λ all name. placed name all) l.hosts names }
 all_hosts [] l = refl
-all_hosts (n ∷ ns) l = all_hosts ns (with_name l roles.Host n)
+all_hosts (n ∷ ns) l = all_hosts ns (with_linked_name l roles.Host n)
 
 in-all : (l : Links) → in_places l.hosts ≡ l.hosts → with_names roles.Host (with_names roles.Tech (with_names roles.Admin (registrant_alone l.registrant) l.admin) l.tech) l.hosts ≡ l
 in-all l so =
@@ -206,7 +206,7 @@ module _ (id due : ℤ) where
   -- where rows lead doesn't hang on when they are due
   lead-alike : (xs : Content) (rows : List LinkRow) (l : Links) → with_links xs l (map (due_then due) rows) ≡ with_links xs l rows
   lead-alike xs [] l = refl
-  lead-alike xs (row ∷ rows) l = λ i. with_link xs l row >>= (λ n. lead-alike xs rows n i)
+  lead-alike xs (row ∷ rows) l = λ i. with_link_read xs l row >>= (λ n. lead-alike xs rows n i)
 
   all-dated : (rows : List LinkRow) → are_dated due (map (due_then due) rows) ≡ true
   all-dated [] = refl
@@ -227,10 +227,10 @@ module _ (id due : ℤ) where
 
 -- ---- numbers of names
 
-pub contact-of-number : (xs : Content) (name : List ℕ) (id : ℤ) → IsConsistent xs → IsNumberOfContact xs name (Some id) → contact_name xs id ≡ Some name
+pub contact-of-number : (xs : Content) (name : List ℕ) (id : ℤ) → IsConsistent xs → IsNumberOfContact xs name (Some id) → contact_name_by_number xs id ≡ Some name
 contact-of-number xs name id consistent it =
-    ap (contact_name xs) (sym it.3) ∙ ap (option_map (λ (r : ContactRow). r.name)) (get_by-has contact_table.contacts.key xs.contacts it.0 consistent.keyed.contacts it.1) ∙ ap Some it.2
+    ap (contact_name_by_number xs) (sym it.3) ∙ ap (option_map (λ (r : ContactRow). r.name)) (get_by-has contact_table.contacts.key xs.contacts it.0 consistent.keyed.contacts it.1) ∙ ap Some it.2
 
-pub host-of-number : (xs : Content) (name : List ℕ) (id : ℤ) → IsConsistent xs → IsNumberOfHost xs name (Some id) → host_name xs id ≡ Some name
+pub host-of-number : (xs : Content) (name : List ℕ) (id : ℤ) → IsConsistent xs → IsNumberOfHost xs name (Some id) → host_name_by_number xs id ≡ Some name
 host-of-number xs name id consistent it =
-    ap (host_name xs) (sym it.3) ∙ ap (option_map (λ (r : HostRow). r.name)) (get_by-has host_table.hosts.key xs.hosts it.0 consistent.keyed.hosts it.1) ∙ ap Some it.2
+    ap (host_name_by_number xs) (sym it.3) ∙ ap (option_map (λ (r : HostRow). r.name)) (get_by-has host_table.hosts.key xs.hosts it.0 consistent.keyed.hosts it.1) ∙ ap Some it.2

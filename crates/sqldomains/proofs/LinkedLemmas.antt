@@ -17,8 +17,8 @@ use Rattle.objects.specs.Links.{has_name, names_contact, names_host}
 use Rattle.sqlcolumns.specs.declared.code.Role.{Role}
 use Rattle.sqlcolumns.specs.declared.code.Role.TheVariants as roles
 use Rattle.sqlcolumns.specs.Codes.{role_in}
-use Rattle.sqlcolumns.specs.Domains.{columns_of, deletion_in, domain_in}
-use Rattle.sqlcolumns.specs.Numbers.{years_in}
+use Rattle.sqlcolumns.specs.Domains.{deletion_in, domain_of_columns, domain_registration_columns}
+use Rattle.sqlcolumns.specs.Numbers.{years_in_column}
 use Rattle.sqlcolumns.specs.Registrations.{registration_in}
 use Rattle.sqlcolumns.specs.Steps.{◌>>=◌}
 use Rattle.sqlcolumns.specs.Texts.{statuses_in}
@@ -32,10 +32,10 @@ use Rattle.sqltables.specs.declared.link.LinkRow.{LinkRow}
 use Rattle.sqltables.specs.Transfer.{transfer_with_domain}
 use Rattle.sqltables.specs.inner.Consistent.{IsConsistent}
 use Rattle.sqlrows.specs.Read.{first_read, or_else}
-use Rattle.sqlobjects.specs.Changes.{contact_name, host_name}
+use Rattle.sqlobjects.specs.Changes.{contact_name_by_number, host_name_by_number}
 use Rattle.sqlobjects.specs.Objects.{last_transfer}
 use Rattle.sqlobjects.proofs.PutLemmas.{has-filter, only_named}
-use Rattle.sqldomains.specs.Domains.{are_dated, dated, domain_of, domains_of, links_of, placed, registrant_alone, linked_name, with_link, with_links, with_name}
+use Rattle.sqldomains.specs.Domains.{are_dated, dated, domain_read, domains_of, links_of, placed, registrant_alone, linked_name, with_link_read, with_links, with_linked_name}
 use Rattle.sqldomains.proofs.FoundLemmas.{domain-named}
 
 -- ---- the domains that rows mean, one by one
@@ -55,41 +55,41 @@ module _ (xs : Content) (test : Domain → Bool) where
   each-any (e ∷ es) all = ap (λ b. b || list_any test (map (λ (f : List ℕ × Domain). f.1) es)) all.0 ∙ each-any es all.1
 
   -- where no row's domain passes, none does
-  pub none-passes : ((row : DomainRow) (d : Domain) → Has xs.domains row → domain_of xs row ≡ Some d → test d ≡ false) → list_any test (values (domains_of xs)) ≡ false
+  pub none-passes : ((row : DomainRow) (d : Domain) → Has xs.domains row → domain_read xs row ≡ Some d → test d ≡ false) → list_any test (values (domains_of xs)) ≡ false
   none-passes fails =
       each-any (entries (domains_of xs)) (each_entry (slice_cmp nat_cmp) nat_list_cmp_total (slice_cmp-IsAntisymmetric nat_cmp-IsAntisymmetric) (λ k d. test d ≡ false) (domains_of xs) (λ k d found.
-      let it = first-has (domain_of xs) (filter (table.domain_with_name k) xs.domains) d (domain-named xs k ∙ found) in
+      let it = first-has (domain_read xs) (filter (table.domain_with_name k) xs.domains) d (domain-named xs k ∙ found) in
       fails it.0 d (has-filter (table.domain_with_name k) xs.domains it.0 it.1).0 it.2))
 
   -- where the domain of a row passes, one does
-  pub one-passes : IsConsistent xs → (row : DomainRow) (d : Domain) → Has xs.domains row → domain_of xs row ≡ Some d → test d ≡ true → list_any test (values (domains_of xs)) ≡ true
+  pub one-passes : IsConsistent xs → (row : DomainRow) (d : Domain) → Has xs.domains row → domain_read xs row ≡ Some d → test d ≡ true → list_any test (values (domains_of xs)) ≡ true
   one-passes consistent row d there reads passes =
       let alone = only_named table.domains.key (λ (r : DomainRow). r.name) xs.domains row consistent.keyed.domains consistent.named.domains there in
-      let found : get (domains_of xs) row.name ≡ Some d = sym (domain-named xs row.name) ∙ ap (first_read (domain_of xs)) alone ∙ ap (λ o. or_else o None) reads in
+      let found : get (domains_of xs) row.name ≡ Some d = sym (domain-named xs row.name) ∙ ap (first_read (domain_read xs)) alone ∙ ap (λ o. or_else o None) reads in
       among_values (slice_cmp nat_cmp) test (domains_of xs) row.name d passes found
 
 -- ---- what the domain of a row names
 
-links-read : (row : DomainRow) (links : Links) (transfer : Option _) (d : Domain) → domain_in row links transfer ≡ Some d → links ≡ d.links
+links-read : (row : DomainRow) (links : Links) (transfer : Option _) (d : Domain) → domain_of_columns row links transfer ≡ Some d → links ≡ d.links
 links-read row links transfer d e =
-    let r = step (registration_in kinds.Domain (columns_of row)) _ d e in
-    let y = step (years_in row.years) _ d r.rest in
+    let r = step (registration_in kinds.Domain (domain_registration_columns row)) _ d e in
+    let y = step (years_in_column row.years) _ d r.rest in
     let s = step (statuses_in row.statuses) _ d y.rest in
     let x = step (deletion_in row.deleted row.restore_requested) _ d s.rest in
     ap (λ (z : Domain). z.links) (same_some _ d x.rest)
 
 pub record Naming (xs : Content) (row : DomainRow) (links : Links) : Type 0 where
   pub registrant : List ℕ
-  pub registrant_is : contact_name xs row.registrant ≡ Some registrant
+  pub registrant_is : contact_name_by_number xs row.registrant ≡ Some registrant
   pub all : with_links xs (registrant_alone registrant) (filter (link_with_domain row.id) xs.links) ≡ Some links
   pub all_dated : are_dated row.due (filter (link_with_domain row.id) xs.links) ≡ true
 
-pub naming : (xs : Content) (row : DomainRow) (d : Domain) → domain_of xs row ≡ Some d → Naming xs row d.links
+pub naming : (xs : Content) (row : DomainRow) (d : Domain) → domain_read xs row ≡ Some d → Naming xs row d.links
 naming xs row d e =
     let links = step (links_of xs row) _ d e in
     let transfer = step (last_transfer (filter (transfer_with_domain row.id) xs.transfers)) _ d links.rest in
     let same = links-read row links.given transfer.given d transfer.rest in
-    let registrant = step (contact_name xs row.registrant) _ links.given links.is in
+    let registrant = step (contact_name_by_number xs row.registrant) _ links.given links.is in
     let found = filter (link_with_domain row.id) xs.links in
     let rows = step (dated row.due found) (λ rows. with_links xs (registrant_alone registrant.given) rows) links.given registrant.rest in
     let so = kept found rows.given (are_dated row.due found) rows.is in
@@ -123,10 +123,10 @@ not_true false never = refl
 
 -- a row leads to a contact, or a host, of this name
 abbrev pub LeadsToContact : Content → List ℕ → LinkRow → Type 0
-LeadsToContact xs name row = (id : ℤ) × (row.contact ≡ Some id) × (contact_name xs id ≡ Some name)
+LeadsToContact xs name row = (id : ℤ) × (row.contact ≡ Some id) × (contact_name_by_number xs id ≡ Some name)
 
 abbrev pub LeadsToHost : Content → List ℕ → LinkRow → Type 0
-LeadsToHost xs name row = (id : ℤ) × (row.host ≡ Some id) × (host_name xs id ≡ Some name)
+LeadsToHost xs name row = (id : ℤ) × (row.host ≡ Some id) × (host_name_by_number xs id ≡ Some name)
 
 admin-leads : (xs : Content) (row : LinkRow) (contact host : Option ℤ) (new : List ℕ) → row.contact ≡ contact → linked_name xs roles.Admin contact host ≡ Some new → LeadsToContact xs new row
 admin-leads xs row (Some id) None new at e = (id, at, e)
@@ -145,7 +145,7 @@ host-leads xs row (Some c) host new at e = cc
 
 -- one name more, in its list
 module _ (xs : Content) (name : List ℕ) (l : Links) (row : LinkRow) where
-  pub admin-more : (role : Role) (new : List ℕ) → linked_name xs role row.contact row.host ≡ Some new → has_name (with_name l role new).admin name ≡ true → (has_name l.admin name ≡ true) ⊎ LeadsToContact xs name row
+  pub admin-more : (role : Role) (new : List ℕ) → linked_name xs role row.contact row.host ≡ Some new → has_name (with_linked_name l role new).admin name ≡ true → (has_name l.admin name ≡ true) ⊎ LeadsToContact xs name row
   admin-more roles.Admin new e has = go (is_there name l.admin new has)
     where
       go : (has_name l.admin name ≡ true) ⊎ (new ≡ name) → (has_name l.admin name ≡ true) ⊎ LeadsToContact xs name row
@@ -154,7 +154,7 @@ module _ (xs : Content) (name : List ℕ) (l : Links) (row : LinkRow) where
   admin-more roles.Tech new e has = inl has
   admin-more roles.Host new e has = inl has
 
-  pub tech-more : (role : Role) (new : List ℕ) → linked_name xs role row.contact row.host ≡ Some new → has_name (with_name l role new).tech name ≡ true → (has_name l.tech name ≡ true) ⊎ LeadsToContact xs name row
+  pub tech-more : (role : Role) (new : List ℕ) → linked_name xs role row.contact row.host ≡ Some new → has_name (with_linked_name l role new).tech name ≡ true → (has_name l.tech name ≡ true) ⊎ LeadsToContact xs name row
   tech-more roles.Tech new e has = go (is_there name l.tech new has)
     where
       go : (has_name l.tech name ≡ true) ⊎ (new ≡ name) → (has_name l.tech name ≡ true) ⊎ LeadsToContact xs name row
@@ -163,7 +163,7 @@ module _ (xs : Content) (name : List ℕ) (l : Links) (row : LinkRow) where
   tech-more roles.Admin new e has = inl has
   tech-more roles.Host new e has = inl has
 
-  pub host-more : (role : Role) (new : List ℕ) → linked_name xs role row.contact row.host ≡ Some new → has_name (with_name l role new).hosts name ≡ true → (has_name l.hosts name ≡ true) ⊎ LeadsToHost xs name row
+  pub host-more : (role : Role) (new : List ℕ) → linked_name xs role row.contact row.host ≡ Some new → has_name (with_linked_name l role new).hosts name ≡ true → (has_name l.hosts name ≡ true) ⊎ LeadsToHost xs name row
   host-more roles.Host new e has = go (is_placed name l.hosts new has)
     where
       go : (has_name l.hosts name ≡ true) ⊎ (new ≡ name) → (has_name l.hosts name ≡ true) ⊎ LeadsToHost xs name row
@@ -172,27 +172,27 @@ module _ (xs : Content) (name : List ℕ) (l : Links) (row : LinkRow) where
   host-more roles.Admin new e has = inl has
   host-more roles.Tech new e has = inl has
 
-pub registrant-more : (l : Links) (role : Role) (new : List ℕ) → (with_name l role new).registrant ≡ l.registrant
+pub registrant-more : (l : Links) (role : Role) (new : List ℕ) → (with_linked_name l role new).registrant ≡ l.registrant
 registrant-more l roles.Admin new = refl
 registrant-more l roles.Tech new = refl
 registrant-more l roles.Host new = refl
 
 module _ (xs : Content) (name : List ℕ) (pick : Links → List (List ℕ)) (Leads : LinkRow → Type 0)
-    (more : (l : Links) (row : LinkRow) (role : Role) (new : List ℕ) → linked_name xs role row.contact row.host ≡ Some new → has_name (pick (with_name l role new)) name ≡ true → (has_name (pick l) name ≡ true) ⊎ Leads row) where
-  one-row : (l n : Links) (row : LinkRow) → with_link xs l row ≡ Some n → has_name (pick n) name ≡ true → (has_name (pick l) name ≡ true) ⊎ Leads row
+    (more : (l : Links) (row : LinkRow) (role : Role) (new : List ℕ) → linked_name xs role row.contact row.host ≡ Some new → has_name (pick (with_linked_name l role new)) name ≡ true → (has_name (pick l) name ≡ true) ⊎ Leads row) where
+  one-row : (l n : Links) (row : LinkRow) → with_link_read xs l row ≡ Some n → has_name (pick n) name ≡ true → (has_name (pick l) name ≡ true) ⊎ Leads row
   one-row l n row e has =
-      let role = step (role_in row.role) (λ r. linked_name xs r row.contact row.host >>= (λ m. Some (with_name l r m))) n e in
-      let new = step (linked_name xs role.given row.contact row.host) (λ m. Some (with_name l role.given m)) n role.rest in
+      let role = step (role_in row.role) (λ r. linked_name xs r row.contact row.host >>= (λ m. Some (with_linked_name l r m))) n e in
+      let new = step (linked_name xs role.given row.contact row.host) (λ m. Some (with_linked_name l role.given m)) n role.rest in
       more l row role.given new.given new.is (ap (λ z. has_name (pick z) name) (same_some _ n new.rest) ∙ has)
 
   -- a name in the list was there before, or a row leads to it
   pub all-rows : (rows : List LinkRow) (l m : Links) → with_links xs l rows ≡ Some m → has_name (pick m) name ≡ true → (has_name (pick l) name ≡ true) ⊎ ((row : LinkRow) × Has rows row × Leads row)
   all-rows [] l m e has = inl (ap (λ z. has_name (pick z) name) (same_some l m e) ∙ has)
   all-rows (row ∷ rows) l m e has =
-      let first = step (with_link xs l row) (λ n. with_links xs n rows) m e in
+      let first = step (with_link_read xs l row) (λ n. with_links xs n rows) m e in
       go first.given first.is (all-rows rows first.given m first.rest has)
     where
-      go : (n : Links) → with_link xs l row ≡ Some n → (has_name (pick n) name ≡ true) ⊎ ((r : LinkRow) × Has rows r × Leads r) → (has_name (pick l) name ≡ true) ⊎ ((r : LinkRow) × Has (row ∷ rows) r × Leads r)
+      go : (n : Links) → with_link_read xs l row ≡ Some n → (has_name (pick n) name ≡ true) ⊎ ((r : LinkRow) × Has rows r × Leads r) → (has_name (pick l) name ≡ true) ⊎ ((r : LinkRow) × Has (row ∷ rows) r × Leads r)
       go n is (inr later) = inr (later.0, inr later.1, later.2)
       go n is (inl here) = at (one-row l n row is here)
         where
@@ -203,11 +203,11 @@ module _ (xs : Content) (name : List ℕ) (pick : Links → List (List ℕ)) (Le
 pub registrant-kept : (xs : Content) (rows : List LinkRow) (l m : Links) → with_links xs l rows ≡ Some m → m.registrant ≡ l.registrant
 registrant-kept xs [] l m e = sym (ap (λ (z : Links). z.registrant) (same_some l m e))
 registrant-kept xs (row ∷ rows) l m e =
-    let first = step (with_link xs l row) (λ n. with_links xs n rows) m e in
-    let role = step (role_in row.role) (λ r. linked_name xs r row.contact row.host >>= (λ a. Some (with_name l r a))) first.given first.is in
-    let new = step (linked_name xs role.given row.contact row.host) (λ a. Some (with_name l role.given a)) first.given role.rest in
+    let first = step (with_link_read xs l row) (λ n. with_links xs n rows) m e in
+    let role = step (role_in row.role) (λ r. linked_name xs r row.contact row.host >>= (λ a. Some (with_linked_name l r a))) first.given first.is in
+    let new = step (linked_name xs role.given row.contact row.host) (λ a. Some (with_linked_name l role.given a)) first.given role.rest in
     registrant-kept xs rows first.given m first.rest
-    ∙ sym (ap (λ (z : Links). z.registrant) (same_some (with_name l role.given new.given) first.given new.rest)) ∙ registrant-more l role.given new.given
+    ∙ sym (ap (λ (z : Links). z.registrant) (same_some (with_linked_name l role.given new.given) first.given new.rest)) ∙ registrant-more l role.given new.given
 
 -- ---- whether one names it
 
@@ -216,7 +216,7 @@ either_false a b c x y z = ap (λ t. t || (b || c)) x ∙ ap (λ t. t || c) y �
 
 module _ (xs : Content) (name : List ℕ) where
   listed-not : (pick : Links → List (List ℕ)) (Leads : LinkRow → Type 0) → ((r : List ℕ) → has_name (pick (registrant_alone r)) name ≡ false)
-      → ((l : Links) (row : LinkRow) (role : Role) (new : List ℕ) → linked_name xs role row.contact row.host ≡ Some new → has_name (pick (with_name l role new)) name ≡ true → (has_name (pick l) name ≡ true) ⊎ Leads row)
+      → ((l : Links) (row : LinkRow) (role : Role) (new : List ℕ) → linked_name xs role row.contact row.host ≡ Some new → has_name (pick (with_linked_name l role new)) name ≡ true → (has_name (pick l) name ≡ true) ⊎ Leads row)
       → ((row : LinkRow) → Has xs.links row → Leads row → ⊥) → (row : DomainRow) (links : Links) → Naming xs row links → has_name (pick links) name ≡ false
   listed-not pick Leads none more never row links is = not_true (has_name (pick links) name) (λ has. go (all-rows xs name pick Leads more (filter (link_with_domain row.id) xs.links) (registrant_alone is.registrant) links is.all has))
     where
@@ -224,7 +224,7 @@ module _ (xs : Content) (name : List ℕ) where
       go (inl before) = true≢false (sym before ∙ none is.registrant)
       go (inr found) = never found.0 (has-filter (link_with_domain row.id) xs.links found.0 found.1).0 found.2
 
-  pub contact-unnamed : ((row : DomainRow) → Has xs.domains row → contact_name xs row.registrant ≡ Some name → ⊥) → ((row : LinkRow) → Has xs.links row → LeadsToContact xs name row → ⊥)
+  pub contact-unnamed : ((row : DomainRow) → Has xs.domains row → contact_name_by_number xs row.registrant ≡ Some name → ⊥) → ((row : LinkRow) → Has xs.links row → LeadsToContact xs name row → ⊥)
       → list_any (λ d. names_contact name d.links) (values (domains_of xs)) ≡ false
   contact-unnamed no_registrant no_link = none-passes xs (λ d. names_contact name d.links) (λ row d there reads.
       let is = naming xs row d reads in

@@ -12,8 +12,8 @@ use Rattle.basis.proofs.ApartLaws.{get-kept}
 use Rattle.basis.proofs.MapLemmas.{entries-map_values, get-map_values}
 use Rattle.basis.proofs.SweepLaws.{entries-kept}
 use Rattle.objects.specs.declared.domain.Domain.{Domain}
-use Rattle.sqlcolumns.specs.Domains.{columns_of, deletion_in}
-use Rattle.sqlcolumns.specs.Numbers.{years_in}
+use Rattle.sqlcolumns.specs.Domains.{deletion_in, domain_registration_columns}
+use Rattle.sqlcolumns.specs.Numbers.{years_in_column}
 use Rattle.sqlcolumns.specs.Registrations.{registration_in}
 use Rattle.sqlcolumns.specs.Texts.{statuses_in}
 use Rattle.sqlcolumns.proofs.ReadLemmas.{same_some, step}
@@ -26,7 +26,7 @@ use Rattle.sqltables.specs.inner.Consistent.{IsConsistent}
 use Rattle.sqlrows.specs.Read.{first_read, or_else}
 use Rattle.sqlobjects.specs.Objects.{last_transfer}
 use Rattle.sqlobjects.proofs.PutLemmas.{bytes_is, has-filter, only_named}
-use Rattle.sqldomains.specs.Domains.{domain_of, domains_of, links_of}
+use Rattle.sqldomains.specs.Domains.{domain_read, domains_of, links_of}
 use Rattle.sqldomains.specs.inner.Names.{NameSet, with_one, with_read}
 use Rattle.sqldomains.proofs.FoundLemmas.{domain-named}
 use Rattle.sqldomains.proofs.LinkedLemmas.{first-has}
@@ -161,23 +161,23 @@ by-rows {P} {X} read rows names m q e stands leads = picked m q names (λ n. her
 
 -- ---- domains
 
-pub name-read : (xs : Content) (row : DomainRow) (d : Domain) → domain_of xs row ≡ Some d → d.name ≡ row.name
+pub name-read : (xs : Content) (row : DomainRow) (d : Domain) → domain_read xs row ≡ Some d → d.name ≡ row.name
 name-read xs row d e =
     let links = step (links_of xs row) _ d e in
     let transfer = step (last_transfer (filter (transfer_with_domain row.id) xs.transfers)) _ d links.rest in
-    let r = step (registration_in kinds.Domain (columns_of row)) _ d transfer.rest in
-    let y = step (years_in row.years) _ d r.rest in
+    let r = step (registration_in kinds.Domain (domain_registration_columns row)) _ d transfer.rest in
+    let y = step (years_in_column row.years) _ d r.rest in
     let s = step (statuses_in row.statuses) _ d y.rest in
     let x = step (deletion_in row.deleted row.restore_requested) _ d s.rest in
     sym (ap (λ (z : Domain). z.name) (same_some _ d x.rest))
 
-pub stands-there : (xs : Content) (row : DomainRow) (d : Domain) → IsConsistent xs → Has xs.domains row → domain_of xs row ≡ Some d → get (domains_of xs) row.name ≡ Some d
+pub stands-there : (xs : Content) (row : DomainRow) (d : Domain) → IsConsistent xs → Has xs.domains row → domain_read xs row ≡ Some d → get (domains_of xs) row.name ≡ Some d
 stands-there xs row d consistent there reads =
-    sym (domain-named xs row.name) ∙ ap (first_read (domain_of xs)) (only_named table.domains.key (λ (r : DomainRow). r.name) xs.domains row consistent.keyed.domains consistent.named.domains there) ∙ ap (λ o. or_else o None) reads
+    sym (domain-named xs row.name) ∙ ap (first_read (domain_read xs)) (only_named table.domains.key (λ (r : DomainRow). r.name) xs.domains row consistent.keyed.domains consistent.named.domains there) ∙ ap (λ o. or_else o None) reads
 
 -- the row under a name
-pub row-under : (xs : Content) (n : List ℕ) (d : Domain) → get (domains_of xs) n ≡ Some d → (row : DomainRow) × Has xs.domains row × (domain_of xs row ≡ Some d) × (row.name ≡ n)
+pub row-under : (xs : Content) (n : List ℕ) (d : Domain) → get (domains_of xs) n ≡ Some d → (row : DomainRow) × Has xs.domains row × (domain_read xs row ≡ Some d) × (row.name ≡ n)
 row-under xs n d e =
-    let it = first-has (domain_of xs) (filter (table.domain_with_name n) xs.domains) d (domain-named xs n ∙ e) in
+    let it = first-has (domain_read xs) (filter (table.domain_with_name n) xs.domains) d (domain-named xs n ∙ e) in
     let there = has-filter (table.domain_with_name n) xs.domains it.0 it.1 in
     (it.0, there.0, it.2, bytes_is it.0.name n there.1)

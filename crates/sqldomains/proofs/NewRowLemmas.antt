@@ -3,7 +3,7 @@ use Rattle.std.proofs.Common.{◌≡◌, [], filter, Some, refl, ap, ◌∙◌}
 use Rattle.sqlite_keyed.proofs.KeyedLemmas.{same_int}
 use Rattle.sqlite_rules.specs.Lists.{Has}
 use Rattle.objects.specs.declared.domain.Domain.{Domain}
-use Rattle.sqlobjects.specs.inner.Stages.{domains, rows_named}
+use Rattle.sqlobjects.specs.inner.Stages.{named_domains, rows_named}
 use Rattle.sqlobjects.proofs.NewRowLemmas.{fresh, none-pass, points-so}
 use Rattle.sqltables.specs.Content.{Content}
 use Rattle.sqltables.specs.declared.domain.DomainRow.{DomainRow}
@@ -14,9 +14,9 @@ use Rattle.sqldomains.specs.declared.domain_rows.DerivedColumns.{DerivedColumns}
 use Rattle.sqldomains.specs.inner.Stages.{HasNoParts, IsDomainPlaced, row_beside}
 
 module _ (xs m : Content) (beside : DerivedColumns) (d : Domain) (row : DomainRow) (consistent : IsConsistent xs) (still : IsConsistent m) (placed : IsDomainPlaced d beside row xs m)
-    (none : rows_named domains d.name xs ≡ []) where
+    (none : rows_named named_domains d.name xs ≡ []) where
   new : (r : DomainRow) → Has xs.domains r → r.id ≡ row.id → ⊥
-  new = fresh domains (λ (it : DomainRow). row_beside it.id beside d ≡ Some it) d.name row xs m still placed none
+  new = fresh named_domains (λ (it : DomainRow). row_beside it.id beside d ≡ Some it) d.name row xs m still placed none
 
   no-links : filter (link_with_domain row.id) xs.links ≡ []
   no-links = none-pass (link_with_domain row.id) xs.links (λ l there is.

@@ -13,8 +13,8 @@ use Rattle.objects.specs.declared.transfer.Transfer.{Transfer}
 use Rattle.sqlcolumns.specs.declared.code.Role.{Role}
 use Rattle.sqlcolumns.specs.declared.code.Role.TheVariants as roles
 use Rattle.sqlcolumns.specs.Codes.{role_in}
-use Rattle.sqlcolumns.specs.Domains.{columns_of, deletion_in, domain_in, domain_with}
-use Rattle.sqlcolumns.specs.Numbers.{years_in}
+use Rattle.sqlcolumns.specs.Domains.{deletion_in, domain_of_columns, domain_registration_columns, domain_with}
+use Rattle.sqlcolumns.specs.Numbers.{years_in_column}
 use Rattle.sqlcolumns.specs.Registrations.{registration_in}
 use Rattle.sqlcolumns.specs.Steps.{◌>>=◌}
 use Rattle.sqlcolumns.specs.Texts.{statuses_in}
@@ -27,9 +27,9 @@ use Rattle.sqltables.specs.declared.link.LinkRow.{LinkRow}
 use Rattle.sqltables.specs.Transfer.{transfer_with_domain}
 use Rattle.sqlrows.specs.Read.{first_read, or_else}
 use Rattle.sqlobjects.specs.inner.Changes.{IsRowRenamed, new_name}
-use Rattle.sqlobjects.specs.Changes.{contact_name}
+use Rattle.sqlobjects.specs.Changes.{contact_name_by_number}
 use Rattle.sqlobjects.specs.Objects.{last_transfer}
-use Rattle.sqldomains.specs.Domains.{dated, domain_of, domains_of, linked_name, links_of, placed, registrant_alone, with_link, with_links, with_name}
+use Rattle.sqldomains.specs.Domains.{dated, domain_read, domains_of, linked_name, links_of, placed, registrant_alone, with_link_read, with_linked_name, with_links}
 use Rattle.sqldomains.proofs.FoundLemmas.{domain-named}
 
 map-same : {A : Type 0} (f : A → A) → ((x : A) → f x ≡ x) → (o : Option A) → o ≡ option_map f o
@@ -57,17 +57,17 @@ module _ (from : List ℕ) (h : Host) (xs ys : Content) (it : IsRowRenamed from 
   name_after roles.Tech n = n
   name_after roles.Host n = new_name from h.name n
 
-  contact-same : (id : ℤ) → contact_name ys id ≡ contact_name xs id
-  contact-same id = ap (λ rows. contact_name (record ys { contacts = rows }) id) it.contact_rows
+  contact-same : (id : ℤ) → contact_name_by_number ys id ≡ contact_name_by_number xs id
+  contact-same id = ap (λ rows. contact_name_by_number (record ys { contacts = rows }) id) it.contact_rows
 
   name-after : (role : Role) (contact host : Option ℤ) → linked_name ys role contact host ≡ option_map (name_after role) (linked_name xs role contact host)
   name-after roles.Host None (Some id) = it.names id
   name-after roles.Host None None = refl
   name-after roles.Host (Some c) host = refl
-  name-after roles.Admin (Some id) None = contact-same id ∙ map-same (name_after roles.Admin) (λ n. refl) (contact_name xs id)
+  name-after roles.Admin (Some id) None = contact-same id ∙ map-same (name_after roles.Admin) (λ n. refl) (contact_name_by_number xs id)
   name-after roles.Admin (Some id) (Some k) = refl
   name-after roles.Admin None host = refl
-  name-after roles.Tech (Some id) None = contact-same id ∙ map-same (name_after roles.Tech) (λ n. refl) (contact_name xs id)
+  name-after roles.Tech (Some id) None = contact-same id ∙ map-same (name_after roles.Tech) (λ n. refl) (contact_name_by_number xs id)
   name-after roles.Tech (Some id) (Some k) = refl
   name-after roles.Tech None host = refl
 
@@ -81,42 +81,42 @@ module _ (from : List ℕ) (h : Host) (xs ys : Content) (it : IsRowRenamed from 
   host-free (Some c) host n e = cc
 
   -- with a name more, in its role
-  named-after : (role : Role) (l : Links) (contact host : Option ℤ) (n : List ℕ) → Before l.hosts → linked_name xs role contact host ≡ Some n → with_name (links_after l) role (name_after role n) ≡ links_after (with_name l role n)
+  named-after : (role : Role) (l : Links) (contact host : Option ℤ) (n : List ℕ) → Before l.hosts → linked_name xs role contact host ≡ Some n → with_linked_name (links_after l) role (name_after role n) ≡ links_after (with_linked_name l role n)
   named-after roles.Admin l contact host n before e = refl
   named-after roles.Tech l contact host n before e = refl
   named-after roles.Host l contact host n before e = λ i. record l { hosts = sym (each n l.hosts before (host-free contact host n e)) i }
 
-  named-before : (role : Role) (l : Links) (contact host : Option ℤ) (n : List ℕ) → Before l.hosts → linked_name xs role contact host ≡ Some n → Before (with_name l role n).hosts
+  named-before : (role : Role) (l : Links) (contact host : Option ℤ) (n : List ℕ) → Before l.hosts → linked_name xs role contact host ≡ Some n → Before (with_linked_name l role n).hosts
   named-before roles.Admin l contact host n before e = before
   named-before roles.Tech l contact host n before e = before
   named-before roles.Host l contact host n before e = more n l.hosts before (host-free contact host n e)
 
-  link-after : (l : Links) (row : LinkRow) → Before l.hosts → with_link ys (links_after l) row ≡ option_map links_after (with_link xs l row)
+  link-after : (l : Links) (row : LinkRow) → Before l.hosts → with_link_read ys (links_after l) row ≡ option_map links_after (with_link_read xs l row)
   link-after l row before = go (role_in row.role)
     where
-      at : (role : Role) (o : Option (List ℕ)) → linked_name xs role row.contact row.host ≡ o → (option_map (name_after role) o >>= (λ n. Some (with_name (links_after l) role n))) ≡ option_map links_after (o >>= (λ n. Some (with_name l role n)))
+      at : (role : Role) (o : Option (List ℕ)) → linked_name xs role row.contact row.host ≡ o → (option_map (name_after role) o >>= (λ n. Some (with_linked_name (links_after l) role n))) ≡ option_map links_after (o >>= (λ n. Some (with_linked_name l role n)))
       at role None e = refl
       at role (Some n) e = ap Some (named-after role l row.contact row.host n before e)
 
-      go : (o : Option Role) → (o >>= (λ role. linked_name ys role row.contact row.host >>= (λ n. Some (with_name (links_after l) role n)))) ≡ option_map links_after (o >>= (λ role. linked_name xs role row.contact row.host >>= (λ n. Some (with_name l role n))))
+      go : (o : Option Role) → (o >>= (λ role. linked_name ys role row.contact row.host >>= (λ n. Some (with_linked_name (links_after l) role n)))) ≡ option_map links_after (o >>= (λ role. linked_name xs role row.contact row.host >>= (λ n. Some (with_linked_name l role n))))
       go None = refl
       go (Some role) =
-          ap (λ o. o >>= (λ n. Some (with_name (links_after l) role n))) (name-after role row.contact row.host)
+          ap (λ o. o >>= (λ n. Some (with_linked_name (links_after l) role n))) (name-after role row.contact row.host)
           ∙ at role (linked_name xs role row.contact row.host) refl
 
-  link-before : (l m : Links) (row : LinkRow) → Before l.hosts → with_link xs l row ≡ Some m → Before m.hosts
+  link-before : (l m : Links) (row : LinkRow) → Before l.hosts → with_link_read xs l row ≡ Some m → Before m.hosts
   link-before l m row before e =
-      let role = step (role_in row.role) (λ r. linked_name xs r row.contact row.host >>= (λ n. Some (with_name l r n))) m e in
-      let name = step (linked_name xs role.given row.contact row.host) (λ n. Some (with_name l role.given n)) m role.rest in
-      subst (λ (z : Links). Before z.hosts) (same_some (with_name l role.given name.given) m name.rest) (named-before role.given l row.contact row.host name.given before name.is)
+      let role = step (role_in row.role) (λ r. linked_name xs r row.contact row.host >>= (λ n. Some (with_linked_name l r n))) m e in
+      let name = step (linked_name xs role.given row.contact row.host) (λ n. Some (with_linked_name l role.given n)) m role.rest in
+      subst (λ (z : Links). Before z.hosts) (same_some (with_linked_name l role.given name.given) m name.rest) (named-before role.given l row.contact row.host name.given before name.is)
 
   -- ---- the rows of a domain
 
   rows-after : (rows : List LinkRow) (l : Links) → Before l.hosts → with_links ys (links_after l) rows ≡ option_map links_after (with_links xs l rows)
   rows-after [] l before = refl
-  rows-after (row ∷ rows) l before = ap (λ o. o >>= (λ n. with_links ys n rows)) (link-after l row before) ∙ go (with_link xs l row) refl (rows-after rows)
+  rows-after (row ∷ rows) l before = ap (λ o. o >>= (λ n. with_links ys n rows)) (link-after l row before) ∙ go (with_link_read xs l row) refl (rows-after rows)
     where
-      go : (o : Option Links) → with_link xs l row ≡ o → ((m : Links) → Before m.hosts → with_links ys (links_after m) rows ≡ option_map links_after (with_links xs m rows))
+      go : (o : Option Links) → with_link_read xs l row ≡ o → ((m : Links) → Before m.hosts → with_links ys (links_after m) rows ≡ option_map links_after (with_links xs m rows))
           → (option_map links_after o >>= (λ n. with_links ys n rows)) ≡ option_map links_after (o >>= (λ n. with_links xs n rows))
       go None e later = refl
       go (Some m) e later = later m (link-before l m row before e)
@@ -124,7 +124,7 @@ module _ (from : List ℕ) (h : Host) (xs ys : Content) (it : IsRowRenamed from 
   links-after : (row : DomainRow) → links_of ys row ≡ option_map links_after (links_of xs row)
   links-after row =
       (λ i. contact-same row.registrant i >>= (λ a. dated row.due (filter (link_with_domain row.id) (it.links i)) >>= (λ rows. with_links ys (registrant_alone a) rows)))
-      ∙ go (contact_name xs row.registrant) (dated row.due (filter (link_with_domain row.id) xs.links))
+      ∙ go (contact_name_by_number xs row.registrant) (dated row.due (filter (link_with_domain row.id) xs.links))
     where
       go : (a : Option (List ℕ)) (rows : Option (List LinkRow)) → (a >>= (λ r. rows >>= (λ all. with_links ys (registrant_alone r) all))) ≡ option_map links_after (a >>= (λ r. rows >>= (λ all. with_links xs (registrant_alone r) all)))
       go None rows = refl
@@ -133,10 +133,10 @@ module _ (from : List ℕ) (h : Host) (xs ys : Content) (it : IsRowRenamed from 
 
   -- ---- domains
 
-  columns-after : (row : DomainRow) (l : Links) (transfer : Option Transfer) → domain_in row (links_after l) transfer ≡ option_map domain_after (domain_in row l transfer)
+  columns-after : (row : DomainRow) (l : Links) (transfer : Option Transfer) → domain_of_columns row (links_after l) transfer ≡ option_map domain_after (domain_of_columns row l transfer)
   columns-after row l transfer =
       go (λ r y s x links. domain_with row r y s x links transfer) (λ r y s x. refl)
-      (registration_in kinds.Domain (columns_of row)) (years_in row.years) (statuses_in row.statuses) (deletion_in row.deleted row.restore_requested)
+      (registration_in kinds.Domain (domain_registration_columns row)) (years_in_column row.years) (statuses_in row.statuses) (deletion_in row.deleted row.restore_requested)
     where
       go : {R : Type 0} (made : R → ℕ → List Status → Option Deletion → Links → Domain) → ((r : R) (y : ℕ) (s : List Status) (x : Option Deletion) → made r y s x (links_after l) ≡ domain_after (made r y s x l))
           → (a : Option R) (b : Option ℕ) (c : Option (List Status)) (d : Option (Option Deletion))
@@ -148,21 +148,21 @@ module _ (from : List ℕ) (h : Host) (xs ys : Content) (it : IsRowRenamed from 
       go made alike (Some r) (Some y) (Some s) None = refl
       go made alike (Some r) (Some y) (Some s) (Some x) = ap Some (alike r y s x)
 
-  pub reading-after : (row : DomainRow) → domain_of ys row ≡ option_map domain_after (domain_of xs row)
+  pub reading-after : (row : DomainRow) → domain_read ys row ≡ option_map domain_after (domain_read xs row)
   reading-after row =
-      (λ i. links-after row i >>= (λ l. last_transfer (filter (transfer_with_domain row.id) (it.transfers i)) >>= (λ transfer. domain_in row l transfer)))
+      (λ i. links-after row i >>= (λ l. last_transfer (filter (transfer_with_domain row.id) (it.transfers i)) >>= (λ transfer. domain_of_columns row l transfer)))
       ∙ go (links_of xs row) (last_transfer (filter (transfer_with_domain row.id) xs.transfers))
     where
-      go : (o : Option Links) (t : Option (Option Transfer)) → (option_map links_after o >>= (λ l. t >>= (λ transfer. domain_in row l transfer))) ≡ option_map domain_after (o >>= (λ l. t >>= (λ transfer. domain_in row l transfer)))
+      go : (o : Option Links) (t : Option (Option Transfer)) → (option_map links_after o >>= (λ l. t >>= (λ transfer. domain_of_columns row l transfer))) ≡ option_map domain_after (o >>= (λ l. t >>= (λ transfer. domain_of_columns row l transfer)))
       go None t = refl
       go (Some l) None = refl
       go (Some l) (Some transfer) = columns-after row l transfer
 
   pub domains-after : (q : List ℕ) → get (domains_of ys) q ≡ option_map domain_after (get (domains_of xs) q)
   domains-after q =
-      sym (domain-named ys q) ∙ ap (λ rows. first_read (domain_of ys) (filter (table.domain_with_name q) rows)) it.domains
+      sym (domain-named ys q) ∙ ap (λ rows. first_read (domain_read ys) (filter (table.domain_with_name q) rows)) it.domains
       ∙ firsts (filter (table.domain_with_name q) xs.domains) ∙ ap (option_map domain_after) (domain-named xs q)
     where
-      firsts : (rows : List DomainRow) → first_read (domain_of ys) rows ≡ option_map domain_after (first_read (domain_of xs) rows)
+      firsts : (rows : List DomainRow) → first_read (domain_read ys) rows ≡ option_map domain_after (first_read (domain_read xs) rows)
       firsts [] = refl
-      firsts (row ∷ rows) = (λ i. or_else (reading-after row i) (firsts rows i)) ∙ map-or domain_after (domain_of xs row) (first_read (domain_of xs) rows)
+      firsts (row ∷ rows) = (λ i. or_else (reading-after row i) (firsts rows i)) ∙ map-or domain_after (domain_read xs row) (first_read (domain_read xs) rows)

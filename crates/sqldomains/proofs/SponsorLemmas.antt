@@ -9,8 +9,8 @@ use Rattle.objects.specs.declared.contact.Contact.{Contact}
 use Rattle.objects.specs.declared.domain.Domain.{Domain}
 use Rattle.objects.specs.declared.host.Host.{Host}
 use Rattle.objects.specs.declared.roid.ObjectKind.TheVariants as kinds
-use Rattle.sqlcolumns.specs.Domains.{columns_of, deletion_in}
-use Rattle.sqlcolumns.specs.Numbers.{maybe_moment_in, maybe_registrar_column, moment_in, registrar_column, registrar_in, years_in}
+use Rattle.sqlcolumns.specs.Domains.{deletion_in, domain_registration_columns}
+use Rattle.sqlcolumns.specs.Numbers.{maybe_moment_in, maybe_registrar_column, moment_in_column, registrar_column, registrar_in, years_in_column}
 use Rattle.sqlcolumns.specs.Registrations.{registration_in}
 use Rattle.sqlcolumns.specs.Roids.{roid_in}
 use Rattle.sqlcolumns.specs.Texts.{statuses_in}
@@ -24,14 +24,14 @@ use Rattle.sqltables.specs.declared.host.HostRow.{HostRow}
 use Rattle.sqltables.specs.Transfer.{transfer_with_domain}
 use Rattle.sqltables.proofs.RowLemmas.{bytes_same}
 use Rattle.sqlrows.specs.Read.{first_read, or_else}
-use Rattle.sqlobjects.specs.inner.Changes.{IsContactPut, IsHostPut, put}
+use Rattle.sqlobjects.specs.inner.Changes.{IsContactPut, IsHostPut, with_named}
 use Rattle.sqlobjects.specs.Objects.{last_transfer}
-use Rattle.sqlobjects.specs.Sponsors.{AreMoved, IsSponsorSetBelow, domain_sponsor, first_sponsor, is_sponsor_right, sponsors_are_right, takes_sponsor, with_sponsor}
+use Rattle.sqlobjects.specs.Sponsors.{AreMoved, IsSponsorSetBelow, first_sponsor, is_sponsor_right, sponsor_by_name, sponsors_are_right, takes_sponsor, with_sponsor}
 use Rattle.sqlobjects.proofs.PutLemmas.{bytes_is, has-filter}
 use Rattle.sqlobjects.proofs.SponsorLemmas.{same-from, same-is, sponsor-kept}
 use Rattle.sqlobjects.proofs.VerdictLemmas.{all-alike, all-changed, same-verdict}
 use Rattle.sqldomains.specs.inner.Changes.{IsDomainPut, sponsor_in}
-use Rattle.sqldomains.specs.Domains.{domain_of, domains_of, links_of}
+use Rattle.sqldomains.specs.Domains.{domain_read, domains_of, links_of}
 use Rattle.sqldomains.proofs.FoundLemmas.{domain-named}
 
 -- ---- hosts and domains as they were
@@ -57,17 +57,17 @@ pub record Parts (xs : Content) (row : DomainRow) (d : Domain) : Type 0 where
   pub sponsor : registrar_in row.sponsor ≡ Some d.sponsor
   pub transfer : last_transfer (filter (transfer_with_domain row.id) xs.transfers) ≡ Some d.transfer
 
-pub parts : (xs : Content) (row : DomainRow) (d : Domain) → domain_of xs row ≡ Some d → Parts xs row d
+pub parts : (xs : Content) (row : DomainRow) (d : Domain) → domain_read xs row ≡ Some d → Parts xs row d
 parts xs row d e =
     let links = step (links_of xs row) _ d e in
     let transfer = step (last_transfer (filter (transfer_with_domain row.id) xs.transfers)) _ d links.rest in
-    let r = step (registration_in kinds.Domain (columns_of row)) _ d transfer.rest in
-    let y = step (years_in row.years) _ d r.rest in
+    let r = step (registration_in kinds.Domain (domain_registration_columns row)) _ d transfer.rest in
+    let y = step (years_in_column row.years) _ d r.rest in
     let s = step (statuses_in row.statuses) _ d y.rest in
     let x = step (deletion_in row.deleted row.restore_requested) _ d s.rest in
     let roid = step (roid_in kinds.Domain row.creator row.serial) _ r.given r.is in
     let sponsor = step (registrar_in row.sponsor) _ r.given roid.rest in
-    let created = step (moment_in row.created) _ r.given sponsor.rest in
+    let created = step (moment_in_column row.created) _ r.given sponsor.rest in
     let transferred = step (maybe_moment_in row.transferred) _ r.given created.rest in
     let updated = step (maybe_moment_in row.updated) _ r.given transferred.rest in
     record {
@@ -77,23 +77,23 @@ parts xs row d e =
     }
 
 -- the row of a domain has its sponsor
-pub sponsor-read : (xs : Content) (row : DomainRow) (d : Domain) → domain_of xs row ≡ Some d → row.sponsor ≡ registrar_column d.sponsor
+pub sponsor-read : (xs : Content) (row : DomainRow) (d : Domain) → domain_read xs row ≡ Some d → row.sponsor ≡ registrar_column d.sponsor
 sponsor-read xs row d e = sym (registrar_written row.sponsor d.sponsor (parts xs row d e).sponsor)
 
 -- the domain that is put has its sponsor as that of its row
 module _ (name : List ℕ) (value : Option Domain) (due : Option ℕ) (mid new : Content) (it : IsDomainPut name value due mid new) where
   stands-now : (d : Domain) → value ≡ Some d → get (domains_of new) name ≡ Some d
   stands-now d e =
-      ap (λ m. get m name) (it.domains ∙ ap (put (domains_of mid) name) e) ∙ get-insert nat_list_cmp_total (domains_of mid) name d name
+      ap (λ m. get m name) (it.domains ∙ ap (with_named (domains_of mid) name) e) ∙ get-insert nat_list_cmp_total (domains_of mid) name d name
       ∙ ap (λ (b : Bool). cond b (Some d) (get (domains_of mid) name)) (bytes_same name name refl)
 
-  pub sponsor-put : domain_sponsor new name ≡ maybe_registrar_column (sponsor_in value)
+  pub sponsor-put : sponsor_by_name new name ≡ maybe_registrar_column (sponsor_in value)
   sponsor-put = go (filter (table.domain_with_name name) new.domains) value refl refl
     where
       go : (rows : List DomainRow) (o : Option Domain) → filter (table.domain_with_name name) new.domains ≡ rows → value ≡ o → first_sponsor rows ≡ maybe_registrar_column (sponsor_in value)
       go [] None e f = ap (λ v. maybe_registrar_column (sponsor_in v)) (sym f)
       go [] (Some d) e f =
-          absurd (let never : ◌≡◌ {A = Option Domain} None (Some d) = ap (first_read (domain_of new)) (sym e) ∙ domain-named new name ∙ stands-now d f in cc)
+          absurd (let never : ◌≡◌ {A = Option Domain} None (Some d) = ap (first_read (domain_read new)) (sym e) ∙ domain-named new name ∙ stands-now d f in cc)
       go (row ∷ rows) o e f =
           let there = has-filter (table.domain_with_name name) new.domains row (subst (λ l. Has l row) (sym e) (inl refl)) in
           it.sponsor_is row there.0 (bytes_is row.name name there.1)
@@ -102,7 +102,7 @@ module _ (name : List ℕ) (value : Option Domain) (due : Option ℕ) (mid new :
 module _ (name : List ℕ) (value : Option Domain) (due : Option ℕ) (old mid counted new : Content) (followed : IsSponsorSetBelow name (sponsor_in value) old mid) (accounts : counted ≡ record mid { accounts = counted.accounts })
     (it : IsDomainPut name value due counted new) where
   abbrev before : Option ℤ
-  before = domain_sponsor old name
+  before = sponsor_by_name old name
 
   abbrev after : Option ℤ
   after = maybe_registrar_column (sponsor_in value)
@@ -113,14 +113,14 @@ module _ (name : List ℕ) (value : Option Domain) (due : Option ℕ) (old mid c
   domains_then : counted.domains ≡ old.domains
   domains_then = ap (λ (xs : Content). xs.domains) accounts ∙ ap (λ (xs : Content). xs.domains) followed.rest
 
-  other-sponsor : (q : List ℕ) → bytes_eq q name ≡ false → domain_sponsor new q ≡ domain_sponsor old q
+  other-sponsor : (q : List ℕ) → bytes_eq q name ≡ false → sponsor_by_name new q ≡ sponsor_by_name old q
   other-sponsor q other = ap first_sponsor (it.others q other ∙ ap (filter (table.domain_with_name q)) domains_then)
 
-  own-sponsor : (q : List ℕ) → bytes_eq q name ≡ true → domain_sponsor new q ≡ after
-  own-sponsor q e = ap (domain_sponsor new) (bytes_is q name e) ∙ sponsor-put name value due counted new it
+  own-sponsor : (q : List ℕ) → bytes_eq q name ≡ true → sponsor_by_name new q ≡ after
+  own-sponsor q e = ap (sponsor_by_name new) (bytes_is q name e) ∙ sponsor-put name value due counted new it
 
   -- a host below whose domain nothing is changed
-  alike : (row : HostRow) → domain_sponsor new row.above ≡ domain_sponsor old row.above → is_sponsor_right new row ≡ is_sponsor_right old row
+  alike : (row : HostRow) → sponsor_by_name new row.above ≡ sponsor_by_name old row.above → is_sponsor_right new row ≡ is_sponsor_right old row
   alike row same = ap (λ s. is_same row.sponsor (or_else row.external_sponsor s)) same
 
   -- the sponsor stays
@@ -129,8 +129,8 @@ module _ (name : List ℕ) (value : Option Domain) (due : Option ℕ) (old mid c
       ap (list_all (is_sponsor_right new)) (rows_now ∙ followed.stays e)
       ∙ all-alike (is_sponsor_right old) (is_sponsor_right new) old.hosts (λ row there. alike row (at row.above (bytes_eq row.above name) refl))
     where
-      at : (q : List ℕ) (b : Bool) → bytes_eq q name ≡ b → domain_sponsor new q ≡ domain_sponsor old q
-      at q true f = own-sponsor q f ∙ sym (ap (domain_sponsor old) (bytes_is q name f) ∙ same-is before after e)
+      at : (q : List ℕ) (b : Bool) → bytes_eq q name ≡ b → sponsor_by_name new q ≡ sponsor_by_name old q
+      at q true f = own-sponsor q f ∙ sym (ap (sponsor_by_name old) (bytes_is q name f) ∙ same-is before after e)
       at q false f = other-sponsor q f
 
   -- a host that takes it had the one and has the other
@@ -146,7 +146,7 @@ module _ (name : List ℕ) (value : Option Domain) (due : Option ℕ) (old mid c
       chosen row b e = ap (λ (t : Bool). cond t (record row { sponsor = after }) row) e
 
       external : (xs : Content) (row : HostRow) (s : ℤ) → row.external_sponsor ≡ Some s → is_sponsor_right xs row ≡ is_same row.sponsor (Some s)
-      external xs row s f = ap (λ o. is_same row.sponsor (or_else o (domain_sponsor xs row.above))) f
+      external xs row s f = ap (λ o. is_same row.sponsor (or_else o (sponsor_by_name xs row.above))) f
 
       each : (row : HostRow) → Has old.hosts row → (a : Bool) (o : Option ℤ) → bytes_eq row.above name ≡ a → row.external_sponsor ≡ o
           → is_sponsor_right new (with_sponsor name after row) ≡ is_sponsor_right old row
@@ -156,8 +156,8 @@ module _ (name : List ℕ) (value : Option Domain) (due : Option ℕ) (old mid c
           ap (is_sponsor_right new) (chosen row false (so row true (Some s) e f)) ∙ external new row s f ∙ sym (external old row s f)
       each row there true None e f =
           ap (is_sponsor_right new) (chosen row true (so row true None e f))
-          ∙ same-from after (or_else row.external_sponsor (domain_sponsor new row.above)) (sym (ap (λ o. or_else o (domain_sponsor new row.above)) f ∙ own-sponsor row.above e))
-          ∙ sym (ap (λ o. is_same row.sponsor (or_else o (domain_sponsor old row.above))) f ∙ ap (λ q. is_same row.sponsor (domain_sponsor old q)) (bytes_is row.above name e) ∙ moved.had row there (so row true None e f))
+          ∙ same-from after (or_else row.external_sponsor (sponsor_by_name new row.above)) (sym (ap (λ o. or_else o (sponsor_by_name new row.above)) f ∙ own-sponsor row.above e))
+          ∙ sym (ap (λ o. is_same row.sponsor (or_else o (sponsor_by_name old row.above))) f ∙ ap (λ q. is_same row.sponsor (sponsor_by_name old q)) (bytes_is row.above name e) ∙ moved.had row there (so row true None e f))
 
   pub domain-sponsors : sponsors_are_right new ≡ sponsors_are_right old
   domain-sponsors = go (is_same before after) refl

@@ -11,7 +11,7 @@ use Rattle.objects.specs.Links.{has_name}
 use Rattle.sqlcolumns.specs.declared.code.Role.{Role}
 use Rattle.sqlcolumns.specs.declared.code.Role.TheVariants as roles
 use Rattle.sqlcolumns.specs.Codes.{role_in}
-use Rattle.sqlcolumns.specs.Domains.{domain_in}
+use Rattle.sqlcolumns.specs.Domains.{domain_of_columns}
 use Rattle.sqlcolumns.specs.Steps.{◌>>=◌}
 use Rattle.sqltables.specs.Content.{Content}
 use Rattle.sqltables.specs.declared.domain.DomainRow.{DomainRow}
@@ -19,7 +19,7 @@ use Rattle.sqltables.specs.Link.{link_with_domain}
 use Rattle.sqltables.specs.declared.link.LinkRow.{LinkRow}
 use Rattle.sqltables.specs.Transfer.{transfer_with_domain}
 use Rattle.sqlrows.specs.Read.{named}
-use Rattle.sqlobjects.specs.Changes.{contact_name, host_name}
+use Rattle.sqlobjects.specs.Changes.{contact_name_by_number, host_name_by_number}
 use Rattle.sqlobjects.specs.Objects.{last_transfer}
 
 -- ---- what a domain names (RFC 5731, 1.1 and 2.2)
@@ -35,16 +35,16 @@ in_places names = fold (λ all name. placed name all) [] names
 
 -- with one thing more, in this role: a contact after the others, and a host in the place of its name, so
 -- that a host's new name is one row's and no domain's
-abbrev pub with_name : Links → Role → List ℕ → Links
-with_name l roles.Admin name = record l { admin = l.admin ++ name ∷ [] }
-with_name l roles.Tech name = record l { tech = l.tech ++ name ∷ [] }
-with_name l roles.Host name = record l { hosts = placed name l.hosts }
+abbrev pub with_linked_name : Links → Role → List ℕ → Links
+with_linked_name l roles.Admin name = record l { admin = l.admin ++ name ∷ [] }
+with_linked_name l roles.Tech name = record l { tech = l.tech ++ name ∷ [] }
+with_linked_name l roles.Host name = record l { hosts = placed name l.hosts }
 
 -- the name of what a row leads to: a host in the role of one, or else a contact
 abbrev pub linked_name : Content → Role → Option ℤ → Option ℤ → Option (List ℕ)
-linked_name xs roles.Host None (Some id) = host_name xs id
-linked_name xs roles.Admin (Some id) None = contact_name xs id
-linked_name xs roles.Tech (Some id) None = contact_name xs id
+linked_name xs roles.Host None (Some id) = host_name_by_number xs id
+linked_name xs roles.Admin (Some id) None = contact_name_by_number xs id
+linked_name xs roles.Tech (Some id) None = contact_name_by_number xs id
 linked_name xs roles.Host None None = None
 linked_name xs roles.Host (Some contact) host = None
 linked_name xs roles.Admin None host = None
@@ -53,17 +53,17 @@ linked_name xs roles.Tech None host = None
 linked_name xs roles.Tech (Some contact) (Some host) = None
 
 -- with what a row leads to, if it reads
-abbrev pub with_link : Content → Links → LinkRow → Option Links
-with_link xs l row = do
+abbrev pub with_link_read : Content → Links → LinkRow → Option Links
+with_link_read xs l row = do
   role ← role_in row.role
   name ← linked_name xs role row.contact row.host
-  Some (with_name l role name)
+  Some (with_linked_name l role name)
 
 -- with what rows lead to, in their order, if all read
 abbrev pub with_links : Content → Links → List LinkRow → Option Links
 with_links xs l [] = Some l
 with_links xs l (row ∷ rows) = do
-  l ← with_link xs l row
+  l ← with_link_read xs l row
   with_links xs l rows
 
 abbrev pub registrant_alone : List ℕ → Links
@@ -80,21 +80,21 @@ dated due rows = if are_dated due rows then Some rows else None
 -- what the domain of a row names, if all rows of it read
 abbrev pub links_of : Content → DomainRow → Option Links
 links_of xs row = do
-  registrant ← contact_name xs row.registrant
+  registrant ← contact_name_by_number xs row.registrant
   rows ← dated row.due (filter (link_with_domain row.id) xs.links)
   with_links xs (registrant_alone registrant) rows
 
 -- ---- domains
 
 -- the domain of a row, if it, its links and its transfer read
-abbrev pub domain_of : Content → DomainRow → Option Domain
-domain_of xs row = do
+abbrev pub domain_read : Content → DomainRow → Option Domain
+domain_read xs row = do
   links ← links_of xs row
   transfer ← last_transfer (filter (transfer_with_domain row.id) xs.transfers)
-  domain_in row links transfer
+  domain_of_columns row links transfer
 
 abbrev pub domain_entry : Content → DomainRow → Option (List ℕ × Domain)
-domain_entry xs row = named row.name (domain_of xs row)
+domain_entry xs row = named row.name (domain_read xs row)
 
 abbrev pub domains_of : Content → FinMap (slice_cmp nat_cmp) Domain
 domains_of xs = from_entries (filter_map (domain_entry xs) xs.domains)

@@ -2,8 +2,8 @@
 ghost use Rattle.std.specs.Prelude.{◌≡◌, true, Some, None};
 ghost use Rattle.sqlrows.specs.Meanings.{Changes};
 ghost use Rattle.states.specs.States.{FindsSome};
-ghost use Rattle.sqlobjects.specs.Changes.{contact_name};
-ghost use Rattle.sqlobjects.specs.inner.Stages.{domains, rows_named};
+ghost use Rattle.sqlobjects.specs.Changes.{contact_name_by_number};
+ghost use Rattle.sqlobjects.specs.inner.Stages.{named_domains, rows_named};
 ghost use Rattle.sqlrows.specs.Read.{rows_of};
 ghost use Rattle.sqldomains.specs.inner.Changes.{IsDomainPut};
 ghost use Rattle.sqldomains.specs.inner.Stages.{ArePartsPut, HasNoParts};
@@ -49,7 +49,7 @@ fn put_over<S: Alter>(
     due: Moment,
 ) -> Result<(), BookFault>
     requires { store.old.is_open ≡ true }
-    ensures { Changes result (λ old new. rows_named domains domain.now.name old ≡ rows_of found
+    ensures { Changes result (λ old new. rows_named named_domains domain.now.name old ≡ rows_of found
         → IsDomainPut domain.now.name (Some domain.now) (Some due) old new) store.old store.new }
 {
     let registrant = registrant_number(store, &found, domain)?;
@@ -64,7 +64,7 @@ fn registrant_number<S: Alter>(
     found: &Option<DomainRow>,
     domain: &Domain,
 ) -> Result<i64, BookFault>
-    ensures { FindsSome result (λ id. contact_name store.old.content id
+    ensures { FindsSome result (λ id. contact_name_by_number store.old.content id
         ≡ Some domain.now.links.registrant) store.old store.new }
 {
     match found {
@@ -75,7 +75,7 @@ fn registrant_number<S: Alter>(
 
 /// The number of the contact of this name: this one, if it is.
 fn number_or<S: Alter>(store: &mut RowStore<S>, id: i64, name: &Text) -> Result<i64, BookFault>
-    ensures { FindsSome result (λ id. contact_name store.old.content id ≡ Some name.now) store.old
+    ensures { FindsSome result (λ id. contact_name_by_number store.old.content id ≡ Some name.now) store.old
         store.new }
 {
     let there = names::contact_name(store, id)?;
@@ -96,8 +96,8 @@ fn put_beside<S: Alter>(
     domain: &Domain,
 ) -> Result<(), BookFault>
     requires { store.old.is_open ≡ true }
-    ensures { Changes result (λ old new. rows_named domains domain.now.name old ≡ rows_of found
-        → contact_name old beside.now.registrant ≡ Some domain.now.links.registrant
+    ensures { Changes result (λ old new. rows_named named_domains domain.now.name old ≡ rows_of found
+        → contact_name_by_number old beside.now.registrant ≡ Some domain.now.links.registrant
         → IsDomainPut domain.now.name (Some domain.now) (Some beside.now.due) old new) store.old
         store.new }
 {

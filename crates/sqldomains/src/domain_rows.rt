@@ -2,7 +2,7 @@
 ghost use Rattle.std.specs.Prelude.{◌≡◌, true, pos, Some, IfOk};
 ghost use Rattle.sqltables.specs.inner.Consistent.{IsConsistent};
 ghost use Rattle.sqlrows.specs.Meanings.{Changes};
-ghost use Rattle.sqlobjects.specs.inner.Stages.{ChangesGiving, domains, rows_named};
+ghost use Rattle.sqlobjects.specs.inner.Stages.{ChangesGiving, named_domains, rows_named};
 ghost use Rattle.sqlrows.specs.Read.{rows_of};
 ghost use Rattle.sqldomains.specs.inner.Stages.{IsDomainDropped, IsDomainPlaced, IsDomainRemoved, row_beside};
 
@@ -65,7 +65,7 @@ pub(crate) fn place<S: Alter>(
 ) -> Result<DomainRow, BookFault>
     requires { store.old.is_open ≡ true }
     ensures { ChangesGiving result (λ row old new. IsConsistent old
-        → rows_named domains domain.now.name old ≡ rows_of found
+        → rows_named named_domains domain.now.name old ≡ rows_of found
         → IsDomainPlaced domain.now beside.now row old new) store.old store.new }
 {
     let row = row_of(alloc, beside, domain)?;

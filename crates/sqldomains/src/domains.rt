@@ -1,7 +1,7 @@
 //! Domains, by name.
 ghost use Rattle.std.specs.Prelude.{◌≡◌, true, IfOk, Some, filter};
 ghost use Rattle.std.specs.FinMap.{get};
-ghost use Rattle.sqlcolumns.specs.Domains.{domain_in};
+ghost use Rattle.sqlcolumns.specs.Domains.{domain_of_columns};
 ghost use Rattle.sqlrows.specs.Read.{IsRead, first_read};
 ghost use Rattle.sqldomains.specs.Domains as spec;
 ghost use Rattle.sqlobjects.specs.Objects as objects_spec;
@@ -41,7 +41,7 @@ fn first_domain<S: Alter>(
     alloc: Global,
     rows: Seq<DomainRow>,
 ) -> Result<Option<Domain>, BookFault>
-    ensures found { Finds result (first_read (spec.domain_of store.old.content) rows) store.old
+    ensures found { Finds result (first_read (spec.domain_read store.old.content) rows) store.old
         store.new }
     ensures read { IfOk result (λ domain. IsRead rows domain) }
 {
@@ -57,7 +57,7 @@ pub fn domain_of<S: Alter>(
     alloc: Global,
     row: DomainRow,
 ) -> Result<Domain, BookFault>
-    ensures { FindsSome result (λ domain. spec.domain_of store.old.content row ≡ Some domain) store.old
+    ensures { FindsSome result (λ domain. spec.domain_read store.old.content row ≡ Some domain) store.old
         store.new }
 {
     let links = links_of(store, alloc, &row)?;
@@ -95,7 +95,7 @@ fn read_domain(
     links: Links,
     transfer: Option<Transfer>,
 ) -> Result<Domain, BookFault>
-    ensures { IfOk result (λ domain. domain_in row links transfer ≡ Some domain) }
+    ensures { IfOk result (λ domain. domain_of_columns row links transfer ≡ Some domain) }
 {
     or_fault(domain_of_row(alloc, row, links, transfer)?)
 }

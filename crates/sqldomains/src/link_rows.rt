@@ -225,7 +225,7 @@ pub(crate) fn contact_number<S: Alter>(
     store: &mut RowStore<S>,
     name: &Text,
 ) -> Result<i64, BookFault>
-    ensures { FindsSome result (λ id. changes.contact_name store.old.content id ≡ Some name.now)
+    ensures { FindsSome result (λ id. changes.contact_name_by_number store.old.content id ≡ Some name.now)
         store.old store.new }
 {
     store.show_consistent();
@@ -237,7 +237,7 @@ pub(crate) fn contact_number<S: Alter>(
 
 /// The number of the host of this name, which has to be there.
 fn host_number<S: Alter>(store: &mut RowStore<S>, name: &Text) -> Result<i64, BookFault>
-    ensures { FindsSome result (λ id. changes.host_name store.old.content id ≡ Some name.now) store.old
+    ensures { FindsSome result (λ id. changes.host_name_by_number store.old.content id ≡ Some name.now) store.old
         store.new }
 {
     store.show_consistent();

@@ -25,7 +25,7 @@ pub fn is_linked_contact<S: Alter>(
     alloc: Global,
     name: &Text,
 ) -> Result<bool, BookFault>
-    ensures { Finds result (spec.is_linked_contact store.old.content name.now) store.old store.new }
+    ensures { Finds result (spec.some_domain_names_contact store.old.content name.now) store.old store.new }
 {
     store.show_consistent();
     let Some(id) = number_of_contact(store, name)? else {
@@ -133,7 +133,7 @@ pub fn is_linked_host<S: Alter>(
     alloc: Global,
     name: &Text,
 ) -> Result<bool, BookFault>
-    ensures { Finds result (spec.is_linked_host store.old.content name.now) store.old store.new }
+    ensures { Finds result (spec.some_domain_names_host store.old.content name.now) store.old store.new }
 {
     store.show_consistent();
     let Some(id) = number_of_host(store, name)? else {

@@ -92,7 +92,7 @@ fn with_link<S: Alter>(
     links: Links,
     row: LinkRow,
 ) -> Result<Links, BookFault>
-    ensures { FindsSome result (λ more. spec.with_link store.old.content links row ≡ Some more)
+    ensures { FindsSome result (λ more. spec.with_link_read store.old.content links row ≡ Some more)
         store.old store.new }
 {
     let role = or_fault(Role::of_column(row.role))?;
@@ -118,7 +118,7 @@ fn linked_name<S: Alter>(
 }
 
 fn with_name(links: Links, role: Role, name: Text) -> Result<Links, AllocError>
-    ensures { IfOk result (λ more. more ≡ spec.with_name links role name) }
+    ensures { IfOk result (λ more. more ≡ spec.with_linked_name links role name) }
 {
     let mut links = links;
     match role {

@@ -16,7 +16,7 @@ use states::BookFault;
 
 /// The name of the contact with this number, to which something leads.
 pub(crate) fn contact_name<S: Alter>(store: &mut RowStore<S>, id: i64) -> Result<Text, BookFault>
-    ensures { FindsSome result (λ name. changes.contact_name store.old.content id ≡ Some name) store.old
+    ensures { FindsSome result (λ name. changes.contact_name_by_number store.old.content id ≡ Some name) store.old
         store.new }
 {
     let row = contact_row(store, id)?;
@@ -42,7 +42,7 @@ fn name_of_contact(row: Option<ContactRow>) -> Result<Text, BookFault>
 
 /// The name of the host with this number, to which something leads.
 pub(crate) fn host_name<S: Alter>(store: &mut RowStore<S>, id: i64) -> Result<Text, BookFault>
-    ensures { FindsSome result (λ name. changes.host_name store.old.content id ≡ Some name) store.old
+    ensures { FindsSome result (λ name. changes.host_name_by_number store.old.content id ≡ Some name) store.old
         store.new }
 {
     let row = host_row(store, id)?;

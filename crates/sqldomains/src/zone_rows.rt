@@ -19,7 +19,7 @@ pub fn delegations<S: Alter>(
     store: &mut RowStore<S>,
     alloc: Global,
 ) -> Result<Seq<Delegation>, BookFault>
-    ensures { Finds result (spec.delegations store.old.content) store.old store.new }
+    ensures { Finds result (spec.delegations_of_rows store.old.content) store.old store.new }
 {
     store.show_consistent();
     let rows = store.all_domains()?;
@@ -33,7 +33,7 @@ fn with_rows<S: Alter>(
     alloc: Global,
     rows: Seq<DomainRow>,
 ) -> Result<NameMap<Delegation>, BookFault>
-    ensures { FindsSome result (λ all. spec.with_rows store.old.content empty rows ≡ Some all)
+    ensures { FindsSome result (λ all. spec.with_row_delegations store.old.content empty rows ≡ Some all)
         store.old store.new }
 {
     let mut all = NameMap::new(alloc);
@@ -49,7 +49,7 @@ fn with_row<S: Alter>(
     all: NameMap<Delegation>,
     row: DomainRow,
 ) -> Result<NameMap<Delegation>, BookFault>
-    ensures { FindsSome result (λ more. spec.with_row store.old.content all row ≡ Some more)
+    ensures { FindsSome result (λ more. spec.with_row_delegation store.old.content all row ≡ Some more)
         store.old store.new }
 {
     let domain = domain_of(store, alloc, row)?;
@@ -61,7 +61,7 @@ fn with_domain(
     all: NameMap<Delegation>,
     domain: &Domain,
 ) -> Result<NameMap<Delegation>, AllocError>
-    ensures { IfOk result (λ more. more ≡ spec.with_domain all domain.now) }
+    ensures { IfOk result (λ more. more ≡ spec.with_delegation all domain.now) }
 {
     let mut all = all;
     all.insert(domain.name.clone()?, domain.delegation(alloc)?)?;

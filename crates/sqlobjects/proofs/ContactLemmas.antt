@@ -4,8 +4,8 @@ use Rattle.sqlite_keyed.specs.Lists.{delete_where}
 use Rattle.objects.specs.declared.contact.Contact.{Contact}
 use Rattle.objects.specs.declared.roid.ObjectKind.TheVariants as kinds
 use Rattle.objects.specs.declared.transfer.Transfer.{Transfer}
-use Rattle.sqlcolumns.specs.inner.Contacts.{IsContact, contact_row, postal_row, registration_of, row_with}
-use Rattle.sqlcolumns.specs.Contacts.{contact_in}
+use Rattle.sqlcolumns.specs.inner.Contacts.{IsContact, contact_registration, contact_row_with, postal_row, row_of_contact}
+use Rattle.sqlcolumns.specs.Contacts.{contact_of_columns}
 use Rattle.sqlcolumns.specs.Registrations.{registration_columns}
 use Rattle.sqlcolumns.specs.Steps.{◌>>=◌}
 use Rattle.sqlcolumns.proofs.ContactLemmas.{contact_back}
@@ -16,11 +16,11 @@ use Rattle.sqltables.specs.Content.{Content}
 use Rattle.sqltables.specs.inner.Content.{contacts_to}
 use Rattle.sqltables.specs.inner.Consistent.{IsConsistent}
 use Rattle.sqlrows.specs.Read.{rows_of}
-use Rattle.sqlobjects.specs.inner.Changes.{IsContactPut, put}
-use Rattle.sqlobjects.specs.Objects.{contact_of, contacts_of, hosts_of, last_transfer}
+use Rattle.sqlobjects.specs.inner.Changes.{IsContactPut, with_named}
+use Rattle.sqlobjects.specs.Objects.{contact_read, contacts_of, hosts_of, last_transfer}
 use Rattle.sqlobjects.specs.inner.Stages.{AreOthersKept, IsContactDropped, IsContactPlaced, IsContactRemoved, IsPlaced}
 use Rattle.sqlobjects.specs.declared.transfers.Transferable.TheVariants as transferable
-use Rattle.sqlobjects.specs.inner.Transfers.{AreOtherTransfersKept, IsTransferCleared, IsTransferPut, is_of}
+use Rattle.sqlobjects.specs.inner.Transfers.{AreOtherTransfersKept, IsTransferCleared, IsTransferPut, is_transfer_of}
 use Rattle.sqlobjects.proofs.PutLemmas.{drop-stands, map_of, names_kept, none-stands, others-removed, put-stands}
 
 abbrev name_of : ContactRow → List ℕ
@@ -30,11 +30,11 @@ abbrev key : ContactRow → ℤ
 key = contact_table.contacts.key
 
 -- a contact whose row and transfer are as they were is read as before
-reads-alike : (xs ys : Content) (id : ℤ) (r : ContactRow) → AreOtherTransfersKept (transferable.Contact id) xs (record ys { contacts = xs.contacts }) → int_eq id r.id ≡ false → contact_of ys r ≡ contact_of xs r
-reads-alike xs ys id r kept other = λ i. last_transfer (kept.others (transferable.Contact r.id) other i) >>= (λ transfer. contact_in r transfer)
+reads-alike : (xs ys : Content) (id : ℤ) (r : ContactRow) → AreOtherTransfersKept (transferable.Contact id) xs (record ys { contacts = xs.contacts }) → int_eq id r.id ≡ false → contact_read ys r ≡ contact_read xs r
+reads-alike xs ys id r kept other = λ i. last_transfer (kept.others (transferable.Contact r.id) other i) >>= (λ transfer. contact_of_columns r transfer)
 
 -- what else a change of contacts leaves
-assembled : (xs ys : Content) (name : List ℕ) (value : Option Contact) (id : ℤ) → contacts_of ys ≡ put (contacts_of xs) name value → AreOthersKept name_of name xs.contacts ys.contacts
+assembled : (xs ys : Content) (name : List ℕ) (value : Option Contact) (id : ℤ) → contacts_of ys ≡ with_named (contacts_of xs) name value → AreOthersKept name_of name xs.contacts ys.contacts
     → AreOtherTransfersKept (transferable.Contact id) xs (record ys { contacts = xs.contacts }) → IsConsistent xs → IsConsistent ys → IsContactPut name value xs ys
 assembled xs ys name value id stands others kept consistent after = record {
   contacts = stands;
@@ -72,12 +72,12 @@ module _ (xs ys : Content) (name : List ℕ) (consistent : IsConsistent xs) (aft
   none_there none same =
       let as_it_is : AreOtherTransfersKept (transferable.Contact (pos 0)) xs xs = record { others = λ other e. refl; rest = refl } in
       subst (λ z. IsConsistent z → IsContactPut name None xs z) (sym same)
-      (λ still. assembled xs xs name None (pos 0) (none-stands name_of (contact_of xs) name xs.contacts none) (λ q e. refl) as_it_is consistent still) after
+      (λ still. assembled xs xs name None (pos 0) (none-stands name_of (contact_read xs) name xs.contacts none) (λ q e. refl) as_it_is consistent still) after
 
   removed : (row : ContactRow) → filter (contact_table.contact_with_name name) xs.contacts ≡ row ∷ [] → IsContactRemoved row.id xs ys → IsContactPut name None xs ys
   removed row found gone = assembled xs ys name None row.id
-      (ap (map_of name_of (contact_of ys)) gone.contacts
-      ∙ drop-stands key name_of (contact_of xs) (contact_of ys) name row xs.contacts found consistent.keyed.contacts consistent.named.contacts (λ r was e. reads-alike xs ys row.id r gone.cleared.kept e))
+      (ap (map_of name_of (contact_read ys)) gone.contacts
+      ∙ drop-stands key name_of (contact_read xs) (contact_read ys) name row xs.contacts found consistent.keyed.contacts consistent.named.contacts (λ r was e. reads-alike xs ys row.id r gone.cleared.kept e))
       (λ q e. ap (filter (contact_table.contact_with_name q)) gone.contacts ∙ others-removed key name_of name xs.contacts row found consistent.keyed.contacts q e)
       gone.cleared.kept
       consistent after
@@ -90,16 +90,16 @@ module _ (xs ys : Content) (name : List ℕ) (consistent : IsConsistent xs) (aft
 
 pub record IsWritten (c : Contact) (row : ContactRow) : Type 0 where
   pub name : row.name ≡ c.name
-  pub again : (k : ℤ) → contact_row k c ≡ Some (record row { id = k })
+  pub again : (k : ℤ) → row_of_contact k c ≡ Some (record row { id = k })
 
-pub written : (id : ℤ) (c : Contact) (row : ContactRow) → contact_row id c ≡ Some row → IsWritten c row
+pub written : (id : ℤ) (c : Contact) (row : ContactRow) → row_of_contact id c ≡ Some row → IsWritten c row
 written id c row e =
-    let columns = step (registration_columns kinds.Contact (registration_of c)) (λ x. postal_row c.postal >>= (λ p. Some (row_with id c x p))) row e in
-    let postal = step (postal_row c.postal) (λ p. Some (row_with id c columns.given p)) row columns.rest in
-    let same : row_with id c columns.given postal.given ≡ row = same_some (row_with id c columns.given postal.given) row postal.rest in
+    let columns = step (registration_columns kinds.Contact (contact_registration c)) (λ x. postal_row c.postal >>= (λ p. Some (contact_row_with id c x p))) row e in
+    let postal = step (postal_row c.postal) (λ p. Some (contact_row_with id c columns.given p)) row columns.rest in
+    let same : contact_row_with id c columns.given postal.given ≡ row = same_some (contact_row_with id c columns.given postal.given) row postal.rest in
     record {
       name = sym (ap (λ (r : ContactRow). r.name) same);
-      again = λ k. (λ i. columns.is i >>= (λ x. postal.is i >>= (λ p. Some (row_with k c x p)))) ∙ ap (λ (r : ContactRow). Some (record r { id = k })) same;
+      again = λ k. (λ i. columns.is i >>= (λ x. postal.is i >>= (λ p. Some (contact_row_with k c x p)))) ∙ ap (λ (r : ContactRow). Some (record r { id = k })) same;
     }
 
 -- ---- put
@@ -109,18 +109,18 @@ module _ (xs m ys : Content) (c : Contact) (row : ContactRow) (consistent : IsCo
   rows_now : IsPlaced name_of c.name row xs.contacts ys.contacts
   rows_now = subst (IsPlaced name_of c.name row xs.contacts) (sym (ap (λ (x : Content). x.contacts) with.kept.rest)) placed.rows
 
-  reads_now : contact_of ys row ≡ Some c
-  reads_now = ap (λ (t : Option (Option Transfer)). t >>= (λ transfer. contact_in row transfer)) with.last ∙ contact_back row.id c row is placed.is
+  reads_now : contact_read ys row ≡ Some c
+  reads_now = ap (λ (t : Option (Option Transfer)). t >>= (λ transfer. contact_of_columns row transfer)) with.last ∙ contact_back row.id c row is placed.is
 
   kept_now : AreOtherTransfersKept (transferable.Contact row.id) xs (record ys { contacts = xs.contacts })
   kept_now = record {
-    others = λ other e. with.kept.others other e ∙ ap (λ (x : Content). filter (is_of other) x.transfers) placed.rest;
+    others = λ other e. with.kept.others other e ∙ ap (λ (x : Content). filter (is_transfer_of other) x.transfers) placed.rest;
     rest = ap (λ (x : Content). record x { contacts = xs.contacts }) with.kept.rest ∙ ap (λ (x : Content). record x { contacts = xs.contacts; transfers = ys.transfers }) placed.rest;
   }
 
   pub contact-put : IsContactPut c.name (Some c) xs ys
   contact-put = assembled xs ys c.name (Some c) row.id
-      (put-stands key name_of (contact_of xs) (contact_of ys) c.name row c xs.contacts ys.contacts rows_now after.keyed.contacts after.named.contacts reads_now (λ r was now e. reads-alike xs ys row.id r kept_now e))
+      (put-stands key name_of (contact_read xs) (contact_read ys) c.name row c xs.contacts ys.contacts rows_now after.keyed.contacts after.named.contacts reads_now (λ r was now e. reads-alike xs ys row.id r kept_now e))
       rows_now.others
       kept_now
       consistent after

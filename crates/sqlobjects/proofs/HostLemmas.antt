@@ -4,8 +4,8 @@ use Rattle.sqlite_keyed.specs.Lists.{delete_where}
 use Rattle.sqlite_rules.specs.Lists.{Has}
 use Rattle.objects.specs.declared.host.Host.{Host}
 use Rattle.objects.specs.declared.roid.ObjectKind.TheVariants as kinds
-use Rattle.sqlcolumns.specs.inner.Hosts.{IsHost, row_with}
-use Rattle.sqlcolumns.specs.Hosts.{host_in}
+use Rattle.sqlcolumns.specs.inner.Hosts.{IsHost, host_row_with}
+use Rattle.sqlcolumns.specs.Hosts.{host_of_columns}
 use Rattle.sqlcolumns.specs.Roids.{roid_columns}
 use Rattle.sqlcolumns.specs.Steps.{◌>>=◌}
 use Rattle.sqlcolumns.proofs.HostLemmas.{host_back}
@@ -16,8 +16,8 @@ use Rattle.sqltables.specs.Host as host_table
 use Rattle.sqltables.specs.declared.host.HostRow.{HostRow}
 use Rattle.sqltables.specs.inner.Consistent.{IsConsistent}
 use Rattle.sqlrows.specs.Read.{rows_of}
-use Rattle.sqlobjects.specs.inner.Changes.{IsHostPut, put}
-use Rattle.sqlobjects.specs.Objects.{addresses_of, contacts_of, host_of, hosts_of}
+use Rattle.sqlobjects.specs.inner.Changes.{IsHostPut, with_named}
+use Rattle.sqlobjects.specs.Objects.{addresses_of, contacts_of, host_read, hosts_of}
 use Rattle.sqlobjects.specs.Sponsors.{is_sponsor_right, sponsor_of}
 use Rattle.sqlobjects.specs.inner.Stages.{AreAddressesPut, AreOtherAddressesKept, AreOthersKept, IsHostDropped, IsHostPlaced, IsHostRemoved, IsHostRow, IsPlaced}
 use Rattle.sqlobjects.proofs.SponsorLemmas.{nobody, same-from, sponsor-kept}
@@ -30,11 +30,11 @@ abbrev key : HostRow → ℤ
 key = host_table.hosts.key
 
 -- a host whose row and addresses are as they were is read as before
-pub reads-alike : (xs ys : Content) (id : ℤ) (r : HostRow) → AreOtherAddressesKept id xs (record ys { hosts = xs.hosts }) → int_eq id r.id ≡ false → host_of ys r ≡ host_of xs r
-reads-alike xs ys id r kept other = ap (host_in r) (kept.hosts r.id other)
+pub reads-alike : (xs ys : Content) (id : ℤ) (r : HostRow) → AreOtherAddressesKept id xs (record ys { hosts = xs.hosts }) → int_eq id r.id ≡ false → host_read ys r ≡ host_read xs r
+reads-alike xs ys id r kept other = ap (host_of_columns r) (kept.hosts r.id other)
 
 -- what else a change of hosts leaves
-assembled : (xs ys : Content) (name : List ℕ) (value : Option Host) (id : ℤ) → hosts_of ys ≡ put (hosts_of xs) name value → AreOthersKept name_of name xs.hosts ys.hosts
+assembled : (xs ys : Content) (name : List ℕ) (value : Option Host) (id : ℤ) → hosts_of ys ≡ with_named (hosts_of xs) name value → AreOthersKept name_of name xs.hosts ys.hosts
     → AreOtherAddressesKept id xs (record ys { hosts = xs.hosts }) → ((row : HostRow) → Has xs.hosts row → row.name ≡ name → is_sponsor_right xs row ≡ true)
     → ((row : HostRow) → Has ys.hosts row → row.name ≡ name → is_sponsor_right ys row ≡ true) → IsConsistent xs → IsConsistent ys → IsHostPut name value xs ys
 assembled xs ys name value id stands others kept was is consistent after = record {
@@ -73,12 +73,12 @@ module _ (xs ys : Content) (name : List ℕ) (consistent : IsConsistent xs) (aft
   none_there none same =
       let as_it_is : AreOtherAddressesKept (pos 0) xs xs = record { hosts = λ other e. refl; rest = refl } in
       subst (λ z. IsConsistent z → IsHostPut name None xs z) (sym same)
-      (λ still. assembled xs xs name None (pos 0) (none-stands name_of (host_of xs) name xs.hosts none) (λ q e. refl) as_it_is was (λ row there is. absurd (nobody name xs.hosts none row there is)) consistent still) after
+      (λ still. assembled xs xs name None (pos 0) (none-stands name_of (host_read xs) name xs.hosts none) (λ q e. refl) as_it_is was (λ row there is. absurd (nobody name xs.hosts none row there is)) consistent still) after
 
   removed : (row : HostRow) → filter (host_table.host_with_name name) xs.hosts ≡ row ∷ [] → IsHostRemoved row.id xs ys → IsHostPut name None xs ys
   removed row found gone = assembled xs ys name None row.id
-      (ap (map_of name_of (host_of ys)) gone.hosts
-      ∙ drop-stands key name_of (host_of xs) (host_of ys) name row xs.hosts found consistent.keyed.hosts consistent.named.hosts (λ r was e. reads-alike xs ys row.id r gone.cleared.others e))
+      (ap (map_of name_of (host_read ys)) gone.hosts
+      ∙ drop-stands key name_of (host_read xs) (host_read ys) name row xs.hosts found consistent.keyed.hosts consistent.named.hosts (λ r was e. reads-alike xs ys row.id r gone.cleared.others e))
       (λ q e. ap (filter (host_table.host_with_name q)) gone.hosts ∙ others-removed key name_of name xs.hosts row found consistent.keyed.hosts q e)
       gone.cleared.others
       was
@@ -98,13 +98,13 @@ pub record IsWritten (xs : Content) (id : ℤ) (h : Host) (row : HostRow) : Type
 
 pub written : (xs : Content) (id : ℤ) (h : Host) (row : HostRow) → IsHostRow xs id h row → IsWritten xs id h row
 written xs id h row e =
-    let roid = step (roid_columns kinds.Host h.roid) (λ x. Some (row_with id row.sponsor h x)) row e.is in
-    let same : row_with id row.sponsor h roid.given ≡ row = same_some (row_with id row.sponsor h roid.given) row roid.rest in
+    let roid = step (roid_columns kinds.Host h.roid) (λ x. Some (host_row_with id row.sponsor h x)) row e.is in
+    let same : host_row_with id row.sponsor h roid.given ≡ row = same_some (host_row_with id row.sponsor h roid.given) row roid.rest in
     record {
       number = sym (ap (λ (r : HostRow). r.id) same);
       name = sym (ap (λ (r : HostRow). r.name) same);
       again = λ k. record {
-        is = (λ i. roid.is i >>= (λ x. Some (row_with k row.sponsor h x))) ∙ ap (λ (r : HostRow). Some (record r { id = k })) same;
+        is = (λ i. roid.is i >>= (λ x. Some (host_row_with k row.sponsor h x))) ∙ ap (λ (r : HostRow). Some (record r { id = k })) same;
         sponsor = e.sponsor;
       };
     }
@@ -116,8 +116,8 @@ module _ (xs m ys : Content) (h : Host) (row : HostRow) (consistent : IsConsiste
   rows_now : IsPlaced name_of h.name row xs.hosts ys.hosts
   rows_now = subst (IsPlaced name_of h.name row xs.hosts) (sym (ap (λ (x : Content). x.hosts) with.others.rest)) placed.rows
 
-  reads_now : host_of ys row ≡ Some h
-  reads_now = ap (host_in row) with.here ∙ host_back row.id row.sponsor h row is placed.is.is
+  reads_now : host_read ys row ≡ Some h
+  reads_now = ap (host_of_columns row) with.here ∙ host_back row.id row.sponsor h row is placed.is.is
 
   kept_now : AreOtherAddressesKept row.id xs (record ys { hosts = xs.hosts })
   kept_now = record {
@@ -132,7 +132,7 @@ module _ (xs m ys : Content) (h : Host) (row : HostRow) (consistent : IsConsiste
 
   pub host-put : IsHostPut h.name (Some h) xs ys
   host-put = assembled xs ys h.name (Some h) row.id
-      (put-stands key name_of (host_of xs) (host_of ys) h.name row h xs.hosts ys.hosts rows_now after.keyed.hosts after.named.hosts reads_now (λ r was now e. reads-alike xs ys row.id r kept_now e))
+      (put-stands key name_of (host_read xs) (host_read ys) h.name row h xs.hosts ys.hosts rows_now after.keyed.hosts after.named.hosts reads_now (λ r was now e. reads-alike xs ys row.id r kept_now e))
       rows_now.others
       kept_now
       was right_now

@@ -18,7 +18,7 @@ use Rattle.sqltables.specs.inner.Consistent.{IsConsistent}
 use Rattle.sqltables.proofs.RowLemmas.{all_at}
 use Rattle.sqlobjects.specs.declared.host_sponsors.Sponsors.{Sponsors}
 use Rattle.sqlobjects.specs.Objects.{host_entry, hosts_of}
-use Rattle.sqlobjects.specs.Sponsors.{AreMoved, IsSponsorSetBelow, domain_sponsor, takes_sponsor, with_sponsor}
+use Rattle.sqlobjects.specs.Sponsors.{AreMoved, IsSponsorSetBelow, sponsor_by_name, takes_sponsor, with_sponsor}
 use Rattle.sqlobjects.specs.inner.Stages.{AreHostsMoved, AreWritten, with_all_moved}
 use Rattle.sqlobjects.proofs.PutLemmas.{has-filter}
 
@@ -132,10 +132,10 @@ hosts-moved xs ys above given s rows consistent same found made = record {
   rest = made.rest;
 }
 
-pub followed : (xs ys : Content) (above given : List ℕ) (before column : Option ℤ) (after : Option ℕ) → given ≡ above → before ≡ domain_sponsor xs given → column ≡ maybe_registrar_column after
+pub followed : (xs ys : Content) (above given : List ℕ) (before column : Option ℤ) (after : Option ℕ) → given ≡ above → before ≡ sponsor_by_name xs given → column ≡ maybe_registrar_column after
     → is_same before column ≡ false → IsConsistent xs → IsConsistent ys → AreHostsMoved above (record { before = before; after = column }) xs ys → IsSponsorSetBelow above after xs ys
 followed xs ys above given before column after same is become differ consistent still moved =
-    let was : before ≡ domain_sponsor xs above = is ∙ ap (domain_sponsor xs) same in
+    let was : before ≡ sponsor_by_name xs above = is ∙ ap (sponsor_by_name xs) same in
     record {
       stays = λ e. absurd (true≢false (sym e ∙ (λ i. is_same (sym was i) (sym become i)) ∙ differ));
       moves = λ e. subst (λ (b : Option ℤ). AreMoved above b (maybe_registrar_column after) xs.hosts ys.hosts) was (subst (λ (b : Option ℤ). AreMoved above before b xs.hosts ys.hosts) become moved.rows);

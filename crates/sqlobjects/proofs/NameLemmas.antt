@@ -9,10 +9,10 @@ use Rattle.sqltables.specs.Host as host_table
 use Rattle.sqltables.specs.declared.host.HostRow.{HostRow}
 use Rattle.sqlrows.specs.Read.{first_read}
 use Rattle.sqlrows.proofs.NameLemmas.{stands}
-use Rattle.sqlobjects.specs.Objects.{contact_of, contacts_of, host_of, hosts_of}
+use Rattle.sqlobjects.specs.Objects.{contact_read, contacts_of, host_read, hosts_of}
 
-pub contact-named : (xs : Content) (name : List ℕ) → first_read (contact_of xs) (filter (contact_table.contact_with_name name) xs.contacts) ≡ get (contacts_of xs) name
-contact-named xs name = stands (λ (r : ContactRow). r.name) (contact_of xs) name xs.contacts
+pub contact-named : (xs : Content) (name : List ℕ) → first_read (contact_read xs) (filter (contact_table.contact_with_name name) xs.contacts) ≡ get (contacts_of xs) name
+contact-named xs name = stands (λ (r : ContactRow). r.name) (contact_read xs) name xs.contacts
 
-pub host-named : (xs : Content) (name : List ℕ) → first_read (host_of xs) (filter (host_table.host_with_name name) xs.hosts) ≡ get (hosts_of xs) name
-host-named xs name = stands (λ (r : HostRow). r.name) (host_of xs) name xs.hosts
+pub host-named : (xs : Content) (name : List ℕ) → first_read (host_read xs) (filter (host_table.host_with_name name) xs.hosts) ≡ get (hosts_of xs) name
+host-named xs name = stands (λ (r : HostRow). r.name) (host_read xs) name xs.hosts

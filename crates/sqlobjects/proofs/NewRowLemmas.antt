@@ -6,7 +6,7 @@ use Rattle.sqlite_rules.specs.Lists.{Has}
 use Rattle.sqlite_typed.specs.Tests.{bytes_eq}
 use Rattle.sqlrows.specs.Read.{rows_of}
 use Rattle.sqlobjects.specs.Objects.{addresses_of, texts_of}
-use Rattle.sqlobjects.specs.inner.Stages.{IsRowPlaced, NamedTable, contacts, hosts, rows_named}
+use Rattle.sqlobjects.specs.inner.Stages.{IsRowPlaced, NamedTable, named_contacts, named_hosts, rows_named}
 use Rattle.sqlobjects.proofs.PutLemmas.{filter-has, has-filter}
 use Rattle.sqltables.proofs.RowLemmas.{bytes_same, same_by_key}
 use Rattle.sqltables.specs.Address.{address_with_host}
@@ -45,22 +45,22 @@ module _ {R : Type 0} (table : NamedTable R) (is_row : R → Type 0) (n : List �
           cc
 
 -- a new contact has no transfer
-pub no-transfer : (is_row : ContactRow → Type 0) (n : List ℕ) (row : ContactRow) (xs m : Content) → IsConsistent xs → IsConsistent m → IsRowPlaced contacts is_row n row xs m → rows_named contacts n xs ≡ []
+pub no-transfer : (is_row : ContactRow → Type 0) (n : List ℕ) (row : ContactRow) (xs m : Content) → IsConsistent xs → IsConsistent m → IsRowPlaced named_contacts is_row n row xs m → rows_named named_contacts n xs ≡ []
     → filter (transfer_with_contact row.id) m.transfers ≡ []
 no-transfer is_row n row xs m consistent still placed none =
     ap (λ (x : Content). filter (transfer_with_contact row.id) x.transfers) placed.rest
     ∙ none-pass (transfer_with_contact row.id) xs.transfers (λ t there is.
     let led = consistent.linked.transfer_contact t there row.id (points-so t.contact row.id is) in
-    fresh contacts is_row n row xs m still placed none led.0 led.1 led.2)
+    fresh named_contacts is_row n row xs m still placed none led.0 led.1 led.2)
 
 -- a new host has no address
-pub no-address : (is_row : HostRow → Type 0) (n : List ℕ) (row : HostRow) (xs m : Content) → IsConsistent xs → IsConsistent m → IsRowPlaced hosts is_row n row xs m → rows_named hosts n xs ≡ []
+pub no-address : (is_row : HostRow → Type 0) (n : List ℕ) (row : HostRow) (xs m : Content) → IsConsistent xs → IsConsistent m → IsRowPlaced named_hosts is_row n row xs m → rows_named named_hosts n xs ≡ []
     → addresses_of m row.id ≡ []
 no-address is_row n row xs m consistent still placed none =
     ap (λ (x : Content). addresses_of x row.id) placed.rest
     ∙ ap texts_of (none-pass (address_with_host row.id) xs.addresses (λ a there is.
     let led = consistent.linked.address_host a there a.host refl in
-    fresh hosts is_row n row xs m still placed none led.0 led.1 (led.2 ∙ same_int a.host row.id is)))
+    fresh named_hosts is_row n row xs m still placed none led.0 led.1 (led.2 ∙ same_int a.host row.id is)))
 
 -- what wasn't found has no row
 pub none-found : {R : Type 0} (found : Option R) (b : Bool) → is_some found ≡ not b → b ≡ true → rows_of found ≡ []

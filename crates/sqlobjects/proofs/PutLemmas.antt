@@ -17,7 +17,7 @@ use Rattle.sqltables.specs.inner.Consistent.{IsNamedBy}
 use Rattle.sqltables.proofs.RowLemmas.{all_at, bytes_same, same_by_key}
 use Rattle.sqlrows.specs.Read.{first_read, or_else}
 use Rattle.sqlrows.proofs.NameLemmas.{entries_of, stands}
-use Rattle.sqlobjects.specs.inner.Changes.{put}
+use Rattle.sqlobjects.specs.inner.Changes.{with_named}
 use Rattle.sqlobjects.specs.inner.Stages.{AreOthersKept, IsPlaced}
 
 -- ---- names
@@ -260,7 +260,7 @@ only_placed key name n row old new placed up names =
 
 -- ---- what stands under names
 
-get-put : {X : Type 0} (m : FinMap (slice_cmp nat_cmp) X) (n : List ℕ) (value : Option X) (q : List ℕ) → get (put m n value) q ≡ cond (bytes_eq q n) value (get m q)
+get-put : {X : Type 0} (m : FinMap (slice_cmp nat_cmp) X) (n : List ℕ) (value : Option X) (q : List ℕ) → get (with_named m n value) q ≡ cond (bytes_eq q n) value (get m q)
 get-put m n None q = get-remove nat_list_cmp_total m n q
 get-put m n (Some x) q = get-insert nat_list_cmp_total m n x q
 
@@ -278,7 +278,7 @@ module _ {P X : Type 0} (name : P → List ℕ) where
       → first_read g (filter (λ r. bytes_eq (name r) n) new) ≡ value
       → AreOthersKept name n old new
       → ((r : P) → Has old r → Has new r → bytes_eq (name r) n ≡ false → g r ≡ f r)
-      → map_of g new ≡ put (map_of f old) n value
+      → map_of g new ≡ with_named (map_of f old) n value
   changed n value f g old new here others same = same_map nat_list_cmp_total (slice_cmp-IsAntisymmetric nat_cmp-IsAntisymmetric) _ _ (λ q.
       sym (stands name g q new) ∙ at q (bytes_eq q n) refl ∙ sym (get-put (map_of f old) n value q))
     where
@@ -301,7 +301,7 @@ module _ {P X : Type 0} (name : P → List ℕ) where
 module _ {P X : Type 0} (key : P → ℤ) (name : P → List ℕ) (f g : P → Option X) (n : List ℕ) (row : P) where
   -- a row was put or added that reads as this, and each with another number reads as before
   pub put-stands : (x : X) (old new : List P) → IsPlaced name n row old new → IsKeyedBy key new → IsNamedBy name new → g row ≡ Some x
-      → ((r : P) → Has old r → Has new r → int_eq (key row) (key r) ≡ false → g r ≡ f r) → map_of name g new ≡ put (map_of name f old) n (Some x)
+      → ((r : P) → Has old r → Has new r → int_eq (key row) (key r) ≡ false → g r ≡ f r) → map_of name g new ≡ with_named (map_of name f old) n (Some x)
   put-stands x old new placed up names reads same = changed name n (Some x) f g old new
       (ap (first_read g) (only_placed key name n row old new placed up names) ∙ ap (λ o. or_else o None) reads)
       placed.others
@@ -309,7 +309,7 @@ module _ {P X : Type 0} (key : P → ℤ) (name : P → List ℕ) (f g : P → O
 
   -- the row of a name was removed, and each with another number reads as before
   pub drop-stands : (old : List P) → filter (λ r. bytes_eq (name r) n) old ≡ row ∷ [] → IsKeyedBy key old → IsNamedBy name old
-      → ((r : P) → Has old r → int_eq (key row) (key r) ≡ false → g r ≡ f r) → map_of name g (delete_where (λ x. int_eq (key x) (key row)) old) ≡ put (map_of name f old) n None
+      → ((r : P) → Has old r → int_eq (key row) (key r) ≡ false → g r ≡ f r) → map_of name g (delete_where (λ x. int_eq (key x) (key row)) old) ≡ with_named (map_of name f old) n None
   drop-stands old found up names same =
       let at = row_there key name n old row found in
       changed name n None f g old (delete_where (λ x. int_eq (key x) (key row)) old)
@@ -318,5 +318,5 @@ module _ {P X : Type 0} (key : P → ℤ) (name : P → List ℕ) (f g : P → O
       (λ r was now e. same r was (apart key name old row r n up at.0 was at.1 e))
 
 -- no row has the name
-pub none-stands : {P X : Type 0} (name : P → List ℕ) (f : P → Option X) (n : List ℕ) (rows : List P) → filter (λ r. bytes_eq (name r) n) rows ≡ [] → map_of name f rows ≡ put (map_of name f rows) n None
+pub none-stands : {P X : Type 0} (name : P → List ℕ) (f : P → Option X) (n : List ℕ) (rows : List P) → filter (λ r. bytes_eq (name r) n) rows ≡ [] → map_of name f rows ≡ with_named (map_of name f rows) n None
 none-stands name f n rows none = changed name n None f f rows rows (ap (first_read f) none) (λ q e. refl) (λ r was now e. refl)

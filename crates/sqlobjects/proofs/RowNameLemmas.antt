@@ -11,8 +11,8 @@ use Rattle.sqlite_keyed.proofs.ListLemmas.{filter_none}
 use Rattle.sqlite_rules.specs.Lists.{Has}
 use Rattle.sqlite_typed.specs.Tests.{bytes_eq}
 use Rattle.objects.specs.declared.host.Host.{Host}
-use Rattle.sqlcolumns.specs.inner.Hosts.{IsHost, host_row}
-use Rattle.sqlcolumns.specs.Hosts.{host_in}
+use Rattle.sqlcolumns.specs.inner.Hosts.{IsHost, row_of_host}
+use Rattle.sqlcolumns.specs.Hosts.{host_of_columns}
 use Rattle.sqlcolumns.specs.Transfers.{is_same}
 use Rattle.sqlcolumns.proofs.HostLemmas.{host_back}
 use Rattle.sqlcolumns.proofs.ReadLemmas.{same_some}
@@ -23,9 +23,9 @@ use Rattle.sqltables.specs.inner.Consistent.{IsConsistent}
 use Rattle.sqltables.proofs.RowLemmas.{bytes_same, same_by_key}
 use Rattle.sqlrows.specs.Read.{first_read, or_else}
 use Rattle.sqlrows.proofs.RowLemmas.{get_by-insert_by}
-use Rattle.sqlobjects.specs.inner.Changes.{IsRowRenamed, new_name, put}
-use Rattle.sqlobjects.specs.Changes.{host_name}
-use Rattle.sqlobjects.specs.Objects.{addresses_of, contacts_of, host_of, hosts_of}
+use Rattle.sqlobjects.specs.inner.Changes.{IsRowRenamed, new_name, with_named}
+use Rattle.sqlobjects.specs.Changes.{host_name_by_number}
+use Rattle.sqlobjects.specs.Objects.{addresses_of, contacts_of, host_read, hosts_of}
 use Rattle.sqlobjects.specs.Sponsors.{is_sponsor_right, sponsor_of, sponsors_are_right}
 use Rattle.sqlobjects.specs.inner.Stages.{AreAddressesPut, AreOtherAddressesKept, AreOthersKept, IsRowTaken}
 use Rattle.sqlobjects.proofs.HostLemmas.{reads-alike, written}
@@ -130,8 +130,8 @@ module _ (from : List ℕ) (h : Host) (row : HostRow) (xs m ys : Content) (consi
 
   -- ---- the hosts
 
-  reads-now : host_of ys row ≡ Some h
-  reads-now = ap (host_in row) with.here ∙ host_back row.id row.sponsor h row is (ap (λ k. host_row k row.sponsor h) number ∙ taken.is.is)
+  reads-now : host_read ys row ≡ Some h
+  reads-now = ap (host_of_columns row) with.here ∙ host_back row.id row.sponsor h row is (ap (λ k. row_of_host k row.sponsor h) number ∙ taken.is.is)
 
   kept-now : AreOtherAddressesKept row.id xs (record ys { hosts = xs.hosts })
   kept-now = record {
@@ -142,15 +142,15 @@ module _ (from : List ℕ) (h : Host) (row : HostRow) (xs m ys : Content) (consi
   alone-now : filter (λ (r : HostRow). bytes_eq r.name h.name) ys.hosts ≡ row ∷ []
   alone-now = ap (λ n. filter (λ (r : HostRow). bytes_eq r.name n) ys.hosts) (sym named) ∙ only_named key name_of ys.hosts row after.keyed.hosts after.named.hosts here
 
-  hosts-now : hosts_of ys ≡ put (put (hosts_of xs) from None) h.name (Some h)
+  hosts-now : hosts_of ys ≡ with_named (with_named (hosts_of xs) from None) h.name (Some h)
   hosts-now =
-      changed name_of h.name (Some h) (host_of xs) (host_of ys) rest ys.hosts (ap (first_read (host_of ys)) alone-now ∙ ap (λ o. or_else o None) reads-now) others-to
+      changed name_of h.name (Some h) (host_read xs) (host_read ys) rest ys.hosts (ap (first_read (host_read ys)) alone-now ∙ ap (λ o. or_else o None) reads-now) others-to
       (λ r before there other. reads-alike xs ys row.id r kept-now (apart key name_of ys.hosts row r h.name after.keyed.hosts here there named other))
-      ∙ ap (λ m. put m h.name (Some h)) (drop-stands key name_of (host_of xs) (host_of xs) from found xs.hosts taken.was.rows consistent.keyed.hosts consistent.named.hosts (λ r before e. refl))
+      ∙ ap (λ m. with_named m h.name (Some h)) (drop-stands key name_of (host_read xs) (host_read xs) from found xs.hosts taken.was.rows consistent.keyed.hosts consistent.named.hosts (λ r before e. refl))
 
   -- ---- where numbers lead
 
-  names-now : (id : ℤ) → host_name ys id ≡ option_map (new_name from h.name) (host_name xs id)
+  names-now : (id : ℤ) → host_name_by_number ys id ≡ option_map (new_name from h.name) (host_name_by_number xs id)
   names-now id =
       ap (λ rows. option_map name_of (get_by key rows id)) rows_now ∙ ap (option_map name_of) (get_by-insert_by key xs.hosts row id)
       ∙ go (int_eq row.id id) (get_by key xs.hosts id) refl refl
@@ -174,7 +174,7 @@ module _ (from : List ℕ) (h : Host) (row : HostRow) (xs m ys : Content) (consi
       go true None e f =
           absurd (let never : ◌≡◌ {A = Option HostRow} (Some found) None = sym (get_by-has key xs.hosts found consistent.keyed.hosts was.0) ∙ ap (get_by key xs.hosts) (sym number ∙ same_int row.id id e) ∙ f in cc)
 
-  free-before : (id : ℤ) → host_name xs id ≡ Some h.name → ⊥
+  free-before : (id : ℤ) → host_name_by_number xs id ≡ Some h.name → ⊥
   free-before id e = go (get_by key xs.hosts id) refl e
     where
       go : (o : Option HostRow) → get_by key xs.hosts id ≡ o → option_map name_of o ≡ Some h.name → ⊥

@@ -20,7 +20,7 @@ use Rattle.sqlrows.specs.Read.{rows_of}
 use Rattle.sqlobjects.specs.declared.transfers.Transferable.{Transferable}
 use Rattle.sqlobjects.specs.declared.transfers.Transferable.TheVariants.{Contact, Domain}
 use Rattle.sqlobjects.specs.Objects.{last_transfer}
-use Rattle.sqlobjects.specs.inner.Transfers.{IsRowOf, IsTransferCleared, IsTransferPut, are_same, is_of, maybe_row, names_both, row_of, with_over}
+use Rattle.sqlobjects.specs.inner.Transfers.{IsRowOf, IsTransferCleared, IsTransferPut, are_same, is_transfer_of, maybe_row, names_both, transfer_row_of, with_over}
 use Rattle.sqlobjects.proofs.PutLemmas.{filter-append, filter-append_pass, filter-delete, filter-deleted, filter-has, filter-in-place, filter-insert_by, has-filter}
 
 -- ---- whose a row is
@@ -36,7 +36,7 @@ nowhere (Some c) None id other single is = refl
 nowhere (Some c) (Some d) id other single is = absurd (true≢false single)
 
 -- a row that isn't of both is of no other object
-alone : (it other : Transferable) (row : TransferRow) → names_both row ≡ false → are_same it other ≡ false → is_of it row ≡ true → is_of other row ≡ false
+alone : (it other : Transferable) (row : TransferRow) → names_both row ≡ false → are_same it other ≡ false → is_transfer_of it row ≡ true → is_transfer_of other row ≡ false
 alone (Contact id) (Contact other) row single apart is = elsewhere row.contact id other apart is
 alone (Contact id) (Domain other) row single apart is = nowhere row.contact row.domain id other single is
 alone (Domain id) (Contact other) row single apart is = nowhere row.domain row.contact id other (and_comm (is_some row.domain) (is_some row.contact) ∙ single) is
@@ -47,9 +47,9 @@ alone (Domain id) (Domain other) row single apart is = elsewhere row.domain id o
 -- under a number
 module _ (k : ℤ) (t : object.Transfer) (is : IsTransfer t) where
   abbrev row_under : Transferable → TransferRow
-  row_under it = record (row_of it t) { id = k }
+  row_under it = record (transfer_row_of it t) { id = k }
 
-  own-row : (it : Transferable) → is_of it (row_under it) ≡ true
+  own-row : (it : Transferable) → is_transfer_of it (row_under it) ≡ true
   own-row (Contact id) = (Decides-int_eq id id).1 refl
   own-row (Domain id) = (Decides-int_eq id id).1 refl
 
@@ -64,18 +64,18 @@ module _ (k : ℤ) (t : object.Transfer) (is : IsTransfer t) where
 -- ---- removed, replaced and added
 
 -- there was none
-pub clear-already : (it : Transferable) (xs : Content) → filter (is_of it) xs.transfers ≡ [] → IsTransferCleared it xs xs
+pub clear-already : (it : Transferable) (xs : Content) → filter (is_transfer_of it) xs.transfers ≡ [] → IsTransferCleared it xs xs
 clear-already it xs none = record { none = none; kept = record { others = λ other apart. refl; rest = refl } }
 
-module _ (it : Transferable) (xs : Content) (one : TransferRow) (found : filter (is_of it) xs.transfers ≡ one ∷ []) (single : names_both one ≡ false) where
-  the-one : (t : TransferRow) → Has xs.transfers t → is_of it t ≡ true → t ≡ one
-  the-one t h e = elim (subst (λ l. Has l t) found (filter-has (is_of it) xs.transfers t h e)) [ inl same ↦ same | inr none ↦ absurd none ]
+module _ (it : Transferable) (xs : Content) (one : TransferRow) (found : filter (is_transfer_of it) xs.transfers ≡ one ∷ []) (single : names_both one ≡ false) where
+  the-one : (t : TransferRow) → Has xs.transfers t → is_transfer_of it t ≡ true → t ≡ one
+  the-one t h e = elim (subst (λ l. Has l t) found (filter-has (is_transfer_of it) xs.transfers t h e)) [ inl same ↦ same | inr none ↦ absurd none ]
 
-  cleared : IsTransferCleared it xs (transfers_to (delete_where (is_of it)) xs)
+  cleared : IsTransferCleared it xs (transfers_to (delete_where (is_transfer_of it)) xs)
   cleared = record {
-    none = filter-deleted (is_of it) (is_of it) xs.transfers (λ t h e. e);
+    none = filter-deleted (is_transfer_of it) (is_transfer_of it) xs.transfers (λ t h e. e);
     kept = record {
-      others = λ other apart. filter-delete (is_of other) (is_of it) xs.transfers (λ t h e. alone it other t (ap names_both (the-one t h e) ∙ single) apart e);
+      others = λ other apart. filter-delete (is_transfer_of other) (is_transfer_of it) xs.transfers (λ t h e. alone it other t (ap names_both (the-one t h e) ∙ single) apart e);
       rest = refl;
     };
   }
@@ -83,22 +83,22 @@ module _ (it : Transferable) (xs : Content) (one : TransferRow) (found : filter 
   replaced : IsKeyedBy transfers.key xs.transfers → (t : object.Transfer) (is : IsTransfer t) → IsTransferPut it (Some t) xs (transfers_to (λ rows. insert_by transfers.key rows (row_under one.id t is it)) xs)
   replaced keyed t is =
       let row : TransferRow = row_under one.id t is it in
-      let there = has-filter (is_of it) xs.transfers one (subst (λ l. Has l one) (sym found) (inl refl)) in
+      let there = has-filter (is_transfer_of it) xs.transfers one (subst (λ l. Has l one) (sym found) (inl refl)) in
       record {
-        last = ap last_transfer (filter-in-place transfers.key (is_of it) xs.transfers one row keyed refl (own-row one.id t is it) found) ∙ read-back one.id t is it;
+        last = ap last_transfer (filter-in-place transfers.key (is_transfer_of it) xs.transfers one row keyed refl (own-row one.id t is it) found) ∙ read-back one.id t is it;
         kept = record {
-          others = λ other apart. filter-insert_by transfers.key (is_of other) xs.transfers row (alone it other row (single-row one.id t is it) apart (own-row one.id t is it))
-              (λ x h e. ap (is_of other) (same_by_key transfers.key xs.transfers x one keyed h there.0 e) ∙ alone it other one single apart there.1);
+          others = λ other apart. filter-insert_by transfers.key (is_transfer_of other) xs.transfers row (alone it other row (single-row one.id t is it) apart (own-row one.id t is it))
+              (λ x h e. ap (is_transfer_of other) (same_by_key transfers.key xs.transfers x one keyed h there.0 e) ∙ alone it other one single apart there.1);
           rest = refl;
         };
       }
 
 -- whatever was there
-pub transfer-cleared : (it : Transferable) (xs : Content) (there : Option TransferRow) → IsRowOf it xs.transfers there → IsTransferCleared it xs (transfers_to (delete_where (is_of it)) xs)
+pub transfer-cleared : (it : Transferable) (xs : Content) (there : Option TransferRow) → IsRowOf it xs.transfers there → IsTransferCleared it xs (transfers_to (delete_where (is_transfer_of it)) xs)
 transfer-cleared it xs None of = record {
-  none = filter-deleted (is_of it) (is_of it) xs.transfers (λ t h e. e);
+  none = filter-deleted (is_transfer_of it) (is_transfer_of it) xs.transfers (λ t h e. e);
   kept = record {
-    others = λ other apart. filter-delete (is_of other) (is_of it) xs.transfers (λ t h e. absurd (subst (λ l. Has l t) of.is (filter-has (is_of it) xs.transfers t h e)));
+    others = λ other apart. filter-delete (is_transfer_of other) (is_transfer_of it) xs.transfers (λ t h e. absurd (subst (λ l. Has l t) of.is (filter-has (is_transfer_of it) xs.transfers t h e)));
     rest = refl;
   };
 }
@@ -109,16 +109,16 @@ pub transfer-put : (it : Transferable) (xs : Content) (transfer : Option object.
 transfer-put it xs transfer there row given is of keyed =
     subst (λ r. IsTransferPut it transfer xs (transfers_to (with_over it there r) xs)) (sym given) (go there transfer is of.is of.alone)
   where
-    go : (there : Option TransferRow) (transfer : Option object.Transfer) → IfSome transfer IsTransfer → filter (is_of it) xs.transfers ≡ rows_of there → option_map_or names_both there false ≡ false
+    go : (there : Option TransferRow) (transfer : Option object.Transfer) → IfSome transfer IsTransfer → filter (is_transfer_of it) xs.transfers ≡ rows_of there → option_map_or names_both there false ≡ false
         → IsTransferPut it transfer xs (transfers_to (with_over it there (maybe_row it transfer)) xs)
     go None None is none single = record { last = ap last_transfer none; kept = (clear-already it xs none).kept }
     go None (Some t) is none single =
         let k = next_key transfers.key xs.transfers in
         let row : TransferRow = row_under k t is it in
         record {
-          last = ap last_transfer (filter-append_pass (is_of it) xs.transfers row (own-row k t is it) ∙ ap (λ rows. rows ++ row ∷ []) none) ∙ read-back k t is it;
+          last = ap last_transfer (filter-append_pass (is_transfer_of it) xs.transfers row (own-row k t is it) ∙ ap (λ rows. rows ++ row ∷ []) none) ∙ read-back k t is it;
           kept = record {
-            others = λ other apart. filter-append (is_of other) xs.transfers row (alone it other row (single-row k t is it) apart (own-row k t is it));
+            others = λ other apart. filter-append (is_transfer_of other) xs.transfers row (alone it other row (single-row k t is it) apart (own-row k t is it));
             rest = refl;
           };
         }

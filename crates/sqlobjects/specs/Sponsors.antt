@@ -18,12 +18,12 @@ first_sponsor [] = None
 first_sponsor (row ∷ rows) = Some row.sponsor
 
 -- the account that sponsors the domain of this name, if there is one
-abbrev pub domain_sponsor : Content → List ℕ → Option ℤ
-domain_sponsor xs name = first_sponsor (filter (domain_with_name name) xs.domains)
+abbrev pub sponsor_by_name : Content → List ℕ → Option ℤ
+sponsor_by_name xs name = first_sponsor (filter (domain_with_name name) xs.domains)
 
 -- the account that sponsors a host outside the zone, or else the domain that the host lies below
 abbrev pub sponsor_of : Content → HostRow → Option ℤ
-sponsor_of xs row = or_else row.external_sponsor (domain_sponsor xs row.above)
+sponsor_of xs row = or_else row.external_sponsor (sponsor_by_name xs row.above)
 
 abbrev pub is_sponsor_right : Content → HostRow → Bool
 is_sponsor_right xs row = is_same row.sponsor (sponsor_of xs row)
@@ -51,10 +51,10 @@ pub record AreMoved (above : List ℕ) (before after : Option ℤ) (old new : Li
 -- The hosts that take the sponsor of the domain of this name have this registrar as their sponsor, or
 -- none, in place of the domain's. Where the two are the same no row is changed, whatever it has.
 pub record IsSponsorSetBelow (above : List ℕ) (after : Option ℕ) (old new : Content) : Type 0 where
-  pub stays : is_same (domain_sponsor old above) (maybe_registrar_column after) ≡ true
+  pub stays : is_same (sponsor_by_name old above) (maybe_registrar_column after) ≡ true
       → new.hosts ≡ old.hosts
-  pub moves : is_same (domain_sponsor old above) (maybe_registrar_column after) ≡ false
-      → AreMoved above (domain_sponsor old above) (maybe_registrar_column after) old.hosts new.hosts
+  pub moves : is_same (sponsor_by_name old above) (maybe_registrar_column after) ≡ false
+      → AreMoved above (sponsor_by_name old above) (maybe_registrar_column after) old.hosts new.hosts
   pub hosts : hosts_of new ≡ hosts_of old
   pub rest : new ≡ record old { hosts = new.hosts }
   pub consistent : IsConsistent old × IsConsistent new

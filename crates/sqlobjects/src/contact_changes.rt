@@ -3,7 +3,7 @@ ghost use Rattle.std.specs.Prelude.{◌≡◌, true, Some, None};
 ghost use Rattle.sqlrows.specs.Meanings.{Changes};
 ghost use Rattle.sqlrows.specs.Read.{rows_of};
 ghost use Rattle.sqlobjects.specs.inner.Changes.{IsContactPut};
-ghost use Rattle.sqlobjects.specs.inner.Stages.{contacts, rows_named};
+ghost use Rattle.sqlobjects.specs.inner.Stages.{named_contacts, rows_named};
 
 use crate::contact_rows::{place, remove_found};
 use crate::named_rows::row_named;
@@ -53,7 +53,7 @@ fn put_over<S: Alter>(
     contact: &Contact,
 ) -> Result<(), BookFault>
     requires { store.old.is_open ≡ true }
-    ensures { Changes result (λ old new. rows_named contacts contact.now.name old ≡ rows_of found
+    ensures { Changes result (λ old new. rows_named named_contacts contact.now.name old ≡ rows_of found
         → IsContactPut contact.now.name (Some contact.now) old new) store.old store.new }
 {
     if !is_contact(contact) {

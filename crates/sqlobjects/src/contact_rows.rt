@@ -1,10 +1,10 @@
 //! Rows of contacts: written, and removed with their transfers.
 ghost use Rattle.std.specs.Prelude.{◌≡◌, true, pos, Some, IfOk};
-ghost use Rattle.sqlcolumns.specs.inner.Contacts.{contact_row};
+ghost use Rattle.sqlcolumns.specs.inner.Contacts.{row_of_contact};
 ghost use Rattle.sqltables.specs.inner.Consistent.{IsConsistent};
 ghost use Rattle.sqlrows.specs.Meanings.{Changes};
 ghost use Rattle.sqlrows.specs.Read.{rows_of};
-ghost use Rattle.sqlobjects.specs.inner.Stages.{ChangesGiving, IsContactDropped, IsContactPlaced, IsContactRemoved, contacts, rows_named};
+ghost use Rattle.sqlobjects.specs.inner.Stages.{ChangesGiving, IsContactDropped, IsContactPlaced, IsContactRemoved, named_contacts, rows_named};
 
 use crate::named_rows::place_row;
 use crate::transfers::{Transferable, clear_transfer};
@@ -60,7 +60,7 @@ pub(crate) fn place<S: Alter>(
 ) -> Result<ContactRow, BookFault>
     requires { store.old.is_open ≡ true }
     ensures { ChangesGiving result (λ row old new. IsConsistent old
-        → rows_named contacts contact.now.name old ≡ rows_of found
+        → rows_named named_contacts contact.now.name old ≡ rows_of found
         → IsContactPlaced contact.now row old new) store.old store.new }
 {
     let row = row_of(alloc, contact)?;
@@ -69,7 +69,7 @@ pub(crate) fn place<S: Alter>(
 
 /// A contact's row, but for its number and its transfer. One that can't be written is refused.
 fn row_of(alloc: Global, contact: &Contact) -> Result<ContactRow, BookFault>
-    ensures { IfOk result (λ row. contact_row (pos 0) contact.now ≡ Some row) }
+    ensures { IfOk result (λ row. row_of_contact (pos 0) contact.now ≡ Some row) }
 {
     or_fault(contact_row(alloc, 0, contact)?)
 }

@@ -1,7 +1,7 @@
 //! Contacts, by name.
 ghost use Rattle.std.specs.Prelude.{◌≡◌, true, IfOk, Some, filter, is_some};
 ghost use Rattle.std.specs.FinMap.{get};
-ghost use Rattle.sqlcolumns.specs.Contacts.{contact_in};
+ghost use Rattle.sqlcolumns.specs.Contacts.{contact_of_columns};
 ghost use Rattle.sqltables.specs.Contact.{contact_with_name};
 ghost use Rattle.sqltables.specs.Transfer.{transfer_with_contact};
 ghost use Rattle.states.specs.States.{Finds, FindsSome};
@@ -39,7 +39,7 @@ fn first_contact<S: Alter>(
     alloc: Global,
     rows: Seq<ContactRow>,
 ) -> Result<Option<Contact>, BookFault>
-    ensures found { Finds result (first_read (spec.contact_of store.old.content) rows) store.old
+    ensures found { Finds result (first_read (spec.contact_read store.old.content) rows) store.old
         store.new }
     ensures read { IfOk result (λ contact. IsRead rows contact) }
 {
@@ -55,7 +55,7 @@ pub fn contact_of<S: Alter>(
     alloc: Global,
     row: ContactRow,
 ) -> Result<Contact, BookFault>
-    ensures { FindsSome result (λ contact. spec.contact_of store.old.content row ≡ Some contact)
+    ensures { FindsSome result (λ contact. spec.contact_read store.old.content row ≡ Some contact)
         store.old store.new }
 {
     match transfer_of(store, &row) {
@@ -96,7 +96,7 @@ fn read_contact(
     row: ContactRow,
     transfer: Option<Transfer>,
 ) -> Result<Contact, BookFault>
-    ensures { IfOk result (λ contact. contact_in row transfer ≡ Some contact) }
+    ensures { IfOk result (λ contact. contact_of_columns row transfer ≡ Some contact) }
 {
     or_fault(contact_of_row(alloc, row, transfer)?)
 }

@@ -5,7 +5,7 @@ ghost use Rattle.states.specs.States.{FindsSome};
 ghost use Rattle.sqlrows.specs.Meanings.{Changes};
 ghost use Rattle.sqlrows.specs.Read.{rows_of};
 ghost use Rattle.sqltables.specs.inner.Consistent.{IsConsistent};
-ghost use Rattle.sqlobjects.specs.inner.Stages.{ChangesGiving, IsHostDropped, IsHostFound, IsHostPlaced, IsHostRemoved, IsHostRow, hosts, rows_named};
+ghost use Rattle.sqlobjects.specs.inner.Stages.{ChangesGiving, IsHostDropped, IsHostFound, IsHostPlaced, IsHostRemoved, IsHostRow, named_hosts, rows_named};
 
 use crate::addresses::clear_addresses;
 use crate::hosts::number_of;
@@ -68,7 +68,7 @@ pub(crate) fn place<S: Alter>(
 ) -> Result<HostRow, BookFault>
     requires { store.old.is_open ≡ true }
     ensures { ChangesGiving result (λ row old new. IsConsistent old
-        → rows_named hosts host.now.name old ≡ rows_of found → IsHostPlaced host.now row old new) store.old
+        → rows_named named_hosts host.now.name old ≡ rows_of found → IsHostPlaced host.now row old new) store.old
         store.new }
 {
     let row = row_of(store, alloc, 0, host)?;
@@ -104,7 +104,7 @@ pub(crate) fn row_again<S: Alter>(
 
 /// A host's row without a sponsor.
 fn row_without(alloc: Global, id: i64, host: &Host) -> Result<HostRow, BookFault>
-    ensures { IfOk result (λ row. inner_hosts.host_row id None host.now ≡ Some row) }
+    ensures { IfOk result (λ row. inner_hosts.row_of_host id None host.now ≡ Some row) }
 {
     or_fault(host_row(alloc, id, None, host)?)
 }

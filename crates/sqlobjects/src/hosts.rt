@@ -1,7 +1,7 @@
 //! Hosts, by name.
 ghost use Rattle.std.specs.Prelude.{◌≡◌, true, filter, IfOk, Some, is_some, option_map};
 ghost use Rattle.std.specs.FinMap.{get};
-ghost use Rattle.sqlcolumns.specs.Hosts.{host_in};
+ghost use Rattle.sqlcolumns.specs.Hosts.{host_of_columns};
 ghost use Rattle.sqltables.specs.Host.{host_with_name};
 ghost use Rattle.states.specs.States.{Finds, FindsSome};
 ghost use Rattle.sqlobjects.specs.Objects as spec;
@@ -38,7 +38,7 @@ fn first_host<S: Alter>(
     alloc: Global,
     rows: Seq<HostRow>,
 ) -> Result<Option<Host>, BookFault>
-    ensures found { Finds result (first_read (spec.host_of store.old.content) rows) store.old
+    ensures found { Finds result (first_read (spec.host_read store.old.content) rows) store.old
         store.new }
     ensures read { IfOk result (λ host. IsRead rows host) }
 {
@@ -53,7 +53,7 @@ fn host_of<S: Alter>(
     alloc: Global,
     row: HostRow,
 ) -> Result<Host, BookFault>
-    ensures { FindsSome result (λ host. spec.host_of store.old.content row ≡ Some host) store.old
+    ensures { FindsSome result (λ host. spec.host_read store.old.content row ≡ Some host) store.old
         store.new }
 {
     let number = number_of(&row);
@@ -79,7 +79,7 @@ pub(crate) fn texts_of(alloc: Global, rows: Seq<AddressRow>) -> Result<Seq<Text>
 }
 
 fn read_host(alloc: Global, row: HostRow, addresses: Seq<Text>) -> Result<Host, BookFault>
-    ensures { IfOk result (λ host. host_in row addresses ≡ Some host) }
+    ensures { IfOk result (λ host. host_of_columns row addresses ≡ Some host) }
 {
     or_fault(host_of_row(alloc, row, addresses)?)
 }

@@ -51,9 +51,9 @@ pub trait NamedRow: Sized + Drop {
 }
 
 impl NamedRow for ContactRow {
-    ghost use Rattle.sqlobjects.specs.inner.Stages.{contacts};
+    ghost use Rattle.sqlobjects.specs.inner.Stages.{named_contacts};
 
-    ghost table = { contacts };
+    ghost table = { named_contacts };
 
     fn name(&self) -> &str {
         self.name.as_str()
@@ -84,9 +84,9 @@ impl NamedRow for ContactRow {
 }
 
 impl NamedRow for HostRow {
-    ghost use Rattle.sqlobjects.specs.inner.Stages.{hosts};
+    ghost use Rattle.sqlobjects.specs.inner.Stages.{named_hosts};
 
-    ghost table = { hosts };
+    ghost table = { named_hosts };
 
     fn name(&self) -> &str {
         self.name.as_str()
@@ -114,9 +114,9 @@ impl NamedRow for HostRow {
 }
 
 impl NamedRow for DomainRow {
-    ghost use Rattle.sqlobjects.specs.inner.Stages.{domains};
+    ghost use Rattle.sqlobjects.specs.inner.Stages.{named_domains};
 
-    ghost table = { domains };
+    ghost table = { named_domains };
 
     fn name(&self) -> &str {
         self.name.as_str()

@@ -16,7 +16,7 @@ pub(crate) fn domain_sponsor<S: Alter>(
     store: &mut RowStore<S>,
     name: &str,
 ) -> Result<Option<i64>, BookFault>
-    ensures { FindsSome result (λ sponsor. sponsor ≡ spec.domain_sponsor store.old.content name.now)
+    ensures { FindsSome result (λ sponsor. sponsor ≡ spec.sponsor_by_name store.old.content name.now)
         store.old store.new }
 {
     let rows = store.domains_by_name(name)?;

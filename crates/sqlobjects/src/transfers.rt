@@ -113,7 +113,7 @@ pub fn put_last_transfer<S: Alter>(
     is_new: bool,
 ) -> Result<(), BookFault>
     requires { store.old.is_open ≡ true }
-    ensures { Changes result (λ old new. (is_new ≡ true → filter (spec.is_of object) old.transfers ≡ [])
+    ensures { Changes result (λ old new. (is_new ≡ true → filter (spec.is_transfer_of object) old.transfers ≡ [])
         → spec.IsTransferPut object transfer.now old new) store.old store.new }
 {
     match transfer {
@@ -151,7 +151,7 @@ fn rows_of<S: Alter>(
     store: &mut RowStore<S>,
     object: Transferable,
 ) -> Result<Seq<TransferRow>, BookFault>
-    ensures { Finds result (filter (spec.is_of object) store.old.content.transfers) store.old
+    ensures { Finds result (filter (spec.is_transfer_of object) store.old.content.transfers) store.old
         store.new }
 {
     match object {
@@ -162,7 +162,7 @@ fn rows_of<S: Alter>(
 
 fn remove_rows<S: Alter>(store: &mut RowStore<S>, object: Transferable) -> Result<(), BookFault>
     requires { store.old.is_open ≡ true }
-    ensures { Makes result (transfers_to (delete_where (spec.is_of object)) store.old.content) store.old
+    ensures { Makes result (transfers_to (delete_where (spec.is_transfer_of object)) store.old.content) store.old
         store.new }
 {
     match object {
@@ -204,7 +204,7 @@ fn maybe_row(
 
 /// The row of an object's transfer, but for its number.
 fn row_of(object: Transferable, transfer: &Transfer) -> TransferRow
-    ensures { result ≡ spec.row_of object transfer.now }
+    ensures { result ≡ spec.transfer_row_of object transfer.now }
 {
     match object {
         Transferable::Contact(id) => transfer_row(0, Some(id), None, transfer),

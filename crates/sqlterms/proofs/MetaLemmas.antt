@@ -8,7 +8,7 @@ use Rattle.std.specs.Ordering.{match_ordering}
 use Rattle.std.specs.declared.cmp.Ordering.{Ordering}
 use Rattle.sqlite_keyed.specs.Keyed.{insert_by}
 use Rattle.calendar.specs.Moment.{IsMoment}
-use Rattle.sqlcolumns.specs.Numbers.{moment_in}
+use Rattle.sqlcolumns.specs.Numbers.{moment_in_column}
 use Rattle.sqlcolumns.proofs.NumberLemmas.{moment_back}
 use Rattle.sqlrows.specs.Read.{rows_of}
 use Rattle.model.specs.Registry.{blank}
@@ -23,8 +23,8 @@ use Rattle.sqltables.specs.Readiness.{may_be_numbered}
 use Rattle.sqltables.specs.Tables.{schema_number}
 use Rattle.sqlterms.specs.inner.Changes.{IsClockSet}
 use Rattle.sqlterms.specs.Clock.{clock_in, clock_of}
-use Rattle.sqlterms.specs.inner.Meta.{IsAt, meta_or_new, with_clock, with_terms}
-use Rattle.sqlterms.specs.Terms.{days_at, terms_at, terms_in}
+use Rattle.sqlterms.specs.inner.Meta.{IsAt, meta_or_new, with_clock, with_terms_columns}
+use Rattle.sqlterms.specs.Terms.{lengths_put_down, terms_at, terms_in}
 
 -- the first moment is one
 pub first_moment : IsMoment blank.clock
@@ -54,7 +54,7 @@ module _ (xs : Content) (o : Option MetaRow) (is : xs.metas ≡ rows_of o) where
   no_terms None tables accounts = refl
   no_terms (Some row) tables accounts = refl
 
-  no_days : (o : Option MetaRow) (tables : List DayRow) → days_at tables (meta_or_new o) ≡ option_and_then (days_at tables) o
+  no_days : (o : Option MetaRow) (tables : List DayRow) → lengths_put_down tables (meta_or_new o) ≡ option_and_then (lengths_put_down tables) o
   no_days None tables = refl
   no_days (Some row) tables = refl
 
@@ -68,7 +68,7 @@ module _ (xs : Content) (o : Option MetaRow) (is : xs.metas ≡ rows_of o) where
 
   clock_at : (m : ℕ) (o : Option MetaRow) → IsAt m o → clock_in o ≡ m
   clock_at m None at = absurd at
-  clock_at m (Some row) at = ap (λ c. unwrap_or (moment_in c) blank.clock) at.1 ∙ ap (λ c. unwrap_or c blank.clock) (moment_back m at.0)
+  clock_at m (Some row) at = ap (λ c. unwrap_or (moment_in_column c) blank.clock) at.1 ∙ ap (λ c. unwrap_or c blank.clock) (moment_back m at.0)
 
   -- the clock stands there already
   pub clock_is_there : (m : ℕ) → IsAt m o → IsClockSet m xs xs
@@ -80,22 +80,22 @@ module _ (xs : Content) (o : Option MetaRow) (is : xs.metas ≡ rows_of o) where
       let rows : insert_by metas.key xs.metas new ≡ new ∷ [] = one_meta new (ap (λ (r : MetaRow). r.id) (sym e)) in
       record {
         clock =
-            ap (λ rows. clock_in (slice_get rows 0)) rows ∙ ap (λ (r : MetaRow). unwrap_or (moment_in r.clock) blank.clock) e
+            ap (λ rows. clock_in (slice_get rows 0)) rows ∙ ap (λ (r : MetaRow). unwrap_or (moment_in_column r.clock) blank.clock) e
             ∙ ap (λ c. unwrap_or c blank.clock) (moment_back m range);
         terms =
             ap (λ rows. terms_in (slice_get rows 0) xs.days xs.accounts) rows ∙ ap (λ (r : MetaRow). terms_at r xs.days xs.accounts) e
             ∙ no_terms o xs.days xs.accounts ∙ ap (λ o. terms_in o xs.days xs.accounts) (sym meta_was);
         days =
-            ap (λ rows. option_and_then (days_at xs.days) (slice_get rows 0)) rows ∙ ap (days_at xs.days) e
-            ∙ no_days o xs.days ∙ ap (option_and_then (days_at xs.days)) (sym meta_was);
+            ap (λ rows. option_and_then (lengths_put_down xs.days) (slice_get rows 0)) rows ∙ ap (lengths_put_down xs.days) e
+            ∙ no_days o xs.days ∙ ap (option_and_then (lengths_put_down xs.days)) (sym meta_was);
         numbered = same_number new (ap (λ (r : MetaRow). r.id) (sym e)) (ap (λ (r : MetaRow). r.version) e);
         others = refl;
       }
 
   -- the terms are others, and the clock isn't
-  pub same_clock_of : (value : Terms) (labels : List ℕ) (new : MetaRow) → IsMoment blank.clock → new ≡ with_terms value labels (meta_or_new o)
+  pub same_clock_of : (value : Terms) (labels : List ℕ) (new : MetaRow) → IsMoment blank.clock → new ≡ with_terms_columns value labels (meta_or_new o)
       → clock_of (metas_to (λ rows. insert_by metas.key rows new) xs) ≡ clock_of xs
   same_clock_of value labels new first e =
       ap (λ rows. clock_in (slice_get rows 0)) (one_meta new (ap (λ (r : MetaRow). r.id) (sym e)))
-      ∙ ap (λ (r : MetaRow). unwrap_or (moment_in r.clock) blank.clock) e
+      ∙ ap (λ (r : MetaRow). unwrap_or (moment_in_column r.clock) blank.clock) e
       ∙ same_clock o first ∙ ap clock_in (sym meta_was)

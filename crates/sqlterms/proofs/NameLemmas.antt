@@ -11,8 +11,8 @@ use Rattle.sqlite_keyed.proofs.KeyedLemmas.{Less-from_lt}
 use Rattle.sqlite_rules.proofs.ListLemmas.{all_has, has_found}
 use Rattle.basis.specs.Bag.{bag_of}
 use Rattle.accounts.specs.Lines.{in_order}
-use Rattle.sqlcolumns.specs.Lines.{line_in}
-use Rattle.sqlcolumns.specs.Messages.{message_in}
+use Rattle.sqlcolumns.specs.Lines.{line_of_columns}
+use Rattle.sqlcolumns.specs.Messages.{message_of_columns}
 use Rattle.sqlcolumns.specs.Numbers.{counter_in, registrar_in}
 use Rattle.sqltables.specs.Account.{accounts}
 use Rattle.sqltables.specs.declared.account.AccountRow.{AccountRow}
@@ -20,7 +20,7 @@ use Rattle.sqltables.specs.Content.{Content}
 use Rattle.sqltables.specs.inner.Content.{accounts_to}
 use Rattle.sqltables.specs.Line.{line_with_account}
 use Rattle.sqltables.specs.Message.{message_with_account}
-use Rattle.sqlaccounts.specs.Accounts.{account_in, accounts_of, entries_of, has_right_sums, is_right, put_all, sums_are_right}
+use Rattle.sqlaccounts.specs.Accounts.{account_of_row, accounts_of, entries_of, has_right_sums, is_right, put_all, sums_are_right}
 use Rattle.sqlterms.specs.inner.Changes.{IsRenaming, nameless}
 
 abbrev key : AccountRow → ℤ
@@ -58,10 +58,10 @@ renamed_one xs row new id keyed found same = record { rows = put_renamed xs.acco
 -- ---- what accounts mean
 
 module _ (xs ys : Content) (lines : ys.lines ≡ xs.lines) (messages : ys.messages ≡ xs.messages) where
-  account_nameless : (row : AccountRow) → account_in ys row ≡ account_in xs (nameless row)
+  account_nameless : (row : AccountRow) → account_of_row ys row ≡ account_of_row xs (nameless row)
   account_nameless row = λ i. record {
-    lines = bag_of in_order (filter_map line_in (filter (line_with_account row.id) (lines i)));
-    queue = put_all (filter_map message_in (filter (message_with_account row.id) (messages i)));
+    lines = bag_of in_order (filter_map line_of_columns (filter (line_with_account row.id) (lines i)));
+    queue = put_all (filter_map message_of_columns (filter (message_with_account row.id) (messages i)));
     commands = counter_in row.commands;
     messages = counter_in row.messages;
     serial = counter_in row.serial;
@@ -72,8 +72,8 @@ module _ (xs ys : Content) (lines : ys.lines ≡ xs.lines) (messages : ys.messag
   entries_nameless (row ∷ rows) = go (registrar_in row.id) (entries_nameless rows)
     where
       go : (o : Option ℕ) → entries_of ys rows ≡ entries_of xs (map nameless rows)
-          → option_map_or (λ place. (place, account_in ys row) ∷ entries_of ys rows) o (entries_of ys rows)
-          ≡ option_map_or (λ place. (place, account_in xs (nameless row)) ∷ entries_of xs (map nameless rows)) o (entries_of xs (map nameless rows))
+          → option_map_or (λ place. (place, account_of_row ys row) ∷ entries_of ys rows) o (entries_of ys rows)
+          ≡ option_map_or (λ place. (place, account_of_row xs (nameless row)) ∷ entries_of xs (map nameless rows)) o (entries_of xs (map nameless rows))
       go None e = e
       go (Some place) e = λ i. (place, account_nameless row i) ∷ e i
 

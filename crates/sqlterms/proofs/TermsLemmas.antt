@@ -6,7 +6,7 @@ use Rattle.policy.specs.declared.prices.Prices.{Prices}
 use Rattle.policy.specs.declared.schedule.Schedule.{Schedule}
 use Rattle.sqltables.specs.declared.account.AccountRow.{AccountRow}
 use Rattle.sqlterms.specs.Meta.{meta_of}
-use Rattle.sqlterms.specs.Terms.{days_at, ids_in, prices_in, reserved_in, schedule_in, terms_in, terms_made}
+use Rattle.sqlterms.specs.Terms.{ids_in, lengths_put_down, prices_in, reserved_in, schedule_in, terms_in, terms_made}
 use Rattle.sqlite_keyed.specs.Keyed.{insert_by}
 use Rattle.calendar.specs.Moment.{IsMoment}
 use Rattle.sqlrows.specs.Read.{rows_of}
@@ -19,8 +19,8 @@ use Rattle.sqltables.specs.Meta.{metas}
 use Rattle.sqltables.specs.declared.meta.MetaRow.{MetaRow}
 use Rattle.sqlterms.specs.inner.Changes.{ArePutBeside, IsTermsSet}
 use Rattle.sqlterms.specs.Clock.{clock_in}
-use Rattle.sqlterms.specs.inner.Meta.{meta_or_new, with_terms}
-use Rattle.sqlterms.specs.Terms.{terms_of}
+use Rattle.sqlterms.specs.inner.Meta.{meta_or_new, with_terms_columns}
+use Rattle.sqlterms.specs.Terms.{terms_of_rows}
 use Rattle.sqltables.specs.Readiness.{may_be_numbered}
 use Rattle.sqlterms.proofs.MetaLemmas.{same_clock_of, same_number}
 use Rattle.sqlterms.proofs.NameLemmas.{same_accounts, same_sums}
@@ -34,11 +34,11 @@ made-days zone reserved (Some days) None ids value e = cc
 made-days zone reserved None prices ids value e = cc
 
 -- the days of terms that were put down are those in the row
-terms-days : (o : Option MetaRow) (tables : List DayRow) (accounts : List AccountRow) (value : Terms) → terms_in o tables accounts ≡ Some value → option_and_then (days_at tables) o ≡ Some value.days
+terms-days : (o : Option MetaRow) (tables : List DayRow) (accounts : List AccountRow) (value : Terms) → terms_in o tables accounts ≡ Some value → option_and_then (lengths_put_down tables) o ≡ Some value.days
 terms-days None tables accounts value e = cc
 terms-days (Some row) tables accounts value e = go (length row.zone == 0) refl
   where
-    go : (b : Bool) → (length row.zone == 0) ≡ b → days_at tables row ≡ Some value.days
+    go : (b : Bool) → (length row.zone == 0) ≡ b → lengths_put_down tables row ≡ Some value.days
     go true is =
         absurd (let never : ◌≡◌ {A = Option Terms} None (Some value) = sym (ap (λ b. cond b None (terms_made row.zone (reserved_in row.reserved) (schedule_in row tables) (prices_in row) (ids_in accounts))) is) ∙ e in cc)
     go false is =
@@ -47,8 +47,8 @@ terms-days (Some row) tables accounts value e = go (length row.zone == 0) refl
 
 -- the row of meta is put, and then the tables of lengths and the accounts' idents
 pub terms_are_set : (xs ys : Content) (o : Option MetaRow) (value : Terms) (labels : List ℕ) (new : MetaRow)
-    → IsMoment blank.clock → xs.metas ≡ rows_of o → new ≡ with_terms value labels (meta_or_new o)
-    → ArePutBeside (metas_to (λ rows. insert_by metas.key rows new) xs) ys → terms_of ys ≡ Some value → IsTermsSet value xs ys
+    → IsMoment blank.clock → xs.metas ≡ rows_of o → new ≡ with_terms_columns value labels (meta_or_new o)
+    → ArePutBeside (metas_to (λ rows. insert_by metas.key rows new) xs) ys → terms_of_rows ys ≡ Some value → IsTermsSet value xs ys
 terms_are_set xs ys o value labels new first is written beside read =
     let rest = beside.others in
     record {
@@ -63,7 +63,7 @@ terms_are_set xs ys o value labels new first is written beside read =
     }
 
 -- terms that are there already are set
-pub terms_are_there : (xs : Content) (value : Terms) → terms_of xs ≡ Some value → IsTermsSet value xs xs
+pub terms_are_there : (xs : Content) (value : Terms) → terms_of_rows xs ≡ Some value → IsTermsSet value xs xs
 terms_are_there xs value read = record {
   terms = read;
   days = terms-days (meta_of xs) xs.days xs.accounts value read;

@@ -4,7 +4,7 @@ use Rattle.std.specs.FinSet.{from_list}
 use Rattle.std.specs.Option.{option_map_or}
 use Rattle.std.specs.Ordering.{int_eq}
 use Rattle.basis.specs.Sets.{Names}
-use Rattle.sqlcolumns.specs.Numbers.{moment_in, natural_in}
+use Rattle.sqlcolumns.specs.Numbers.{moment_in_column, natural_in}
 use Rattle.sqlcolumns.specs.Steps.{◌>>=◌}
 use Rattle.sqlcolumns.specs.Texts.{street_column, street_in}
 use Rattle.policy.specs.declared.days.Days.{Days}
@@ -42,8 +42,8 @@ days_made add auto_renew renew transfer redemption restore pending_delete answer
   i ← lock
   Some (record { add = a; auto_renew = b; renew = c; transfer = d; redemption = e; restore = f; pending_delete = g; answer = h; lock = i })
 
-abbrev pub days_in : MetaRow → Option Days
-days_in row =
+abbrev pub first_days_in : MetaRow → Option Days
+first_days_in row =
     days_made (count_in row.days_add) (count_in row.days_auto_renew) (count_in row.days_renew) (count_in row.days_transfer) (count_in row.days_redemption)
     (count_in row.days_restore) (count_in row.days_pending_delete) (count_in row.days_answer) (count_in row.days_lock)
 
@@ -85,14 +85,14 @@ dated_days_in row =
     days_made (count_in row.days_add) (count_in row.days_auto_renew) (count_in row.days_renew) (count_in row.days_transfer) (count_in row.days_redemption)
     (count_in row.days_restore) (count_in row.days_pending_delete) (count_in row.days_answer) (count_in row.days_lock)
 
-abbrev pub dated_in : DayRow → Option DatedDays
-dated_in row = dated_made (moment_in row.starts) (dated_days_in row)
+abbrev pub later_days_in : DayRow → Option DatedDays
+later_days_in row = dated_made (moment_in_column row.starts) (dated_days_in row)
 
 -- these tables, and those of the rows after them, if each reads
 abbrev pub dated_behind : List DatedDays → List DayRow → Option (List DatedDays)
 dated_behind tables [] = Some tables
 dated_behind tables (row ∷ rows) =
-    dated_in row >>= (λ table. dated_behind (tables ++ table ∷ []) rows)
+    later_days_in row >>= (λ table. dated_behind (tables ++ table ∷ []) rows)
 
 abbrev pub all_dated : List DayRow → Option (List DatedDays)
 all_dated rows = dated_behind [] rows
@@ -106,7 +106,7 @@ schedule_made first later = do
 
 -- the days of the row of meta are the first, and those of the rows of days are the later ones
 abbrev pub schedule_in : MetaRow → List DayRow → Option Schedule
-schedule_in row tables = schedule_made (days_in row) (all_dated tables)
+schedule_in row tables = schedule_made (first_days_in row) (all_dated tables)
 
 -- ---- the idents of accounts
 
@@ -155,12 +155,12 @@ abbrev pub terms_in : Option MetaRow → List DayRow → List AccountRow → Opt
 terms_in None tables accounts = None
 terms_in (Some row) tables accounts = terms_at row tables accounts
 
-abbrev pub terms_of : Content → Option Terms
-terms_of xs = terms_in (meta_of xs) xs.days xs.accounts
+abbrev pub terms_of_rows : Content → Option Terms
+terms_of_rows xs = terms_in (meta_of xs) xs.days xs.accounts
 
 -- the lengths of periods, where terms were put down
-abbrev pub days_at : List DayRow → MetaRow → Option Schedule
-days_at tables row = if length row.zone == 0 then None else schedule_in row tables
+abbrev pub lengths_put_down : List DayRow → MetaRow → Option Schedule
+lengths_put_down tables row = if length row.zone == 0 then None else schedule_in row tables
 
-abbrev pub days_of : Content → Option Schedule
-days_of xs = option_and_then (days_at xs.days) (meta_of xs)
+abbrev pub days_of_rows : Content → Option Schedule
+days_of_rows xs = option_and_then (lengths_put_down xs.days) (meta_of xs)

@@ -43,7 +43,7 @@ pub(crate) fn days_made(
 
 /// The days of a row, if each column is a count.
 pub(crate) fn days_of(row: &MetaRow) -> Option<Days>
-    ensures { result ≡ spec.days_in row.now }
+    ensures { result ≡ spec.first_days_in row.now }
 {
     days_made(
         count_of_column(row.days_add),

@@ -42,7 +42,7 @@ fn dated_made(from: Option<Moment>, days: Option<Days>) -> Option<DatedDays>
 
 /// The table of a row, if each column reads.
 fn dated_of(row: &DayRow) -> Option<DatedDays>
-    ensures { result ≡ spec.dated_in row.now }
+    ensures { result ≡ spec.later_days_in row.now }
 {
     dated_made(moment_of_column(row.starts), dated_days_of(row))
 }

@@ -80,7 +80,7 @@ pub(crate) fn with_clock(row: MetaRow, moment: Moment) -> MetaRow
 
 /// The row with what it says of terms, and the reserved labels as one text.
 pub(crate) fn with_terms(row: MetaRow, terms: &Terms, labels: Text) -> Result<MetaRow, AllocError>
-    ensures { IfOk result (λ changed. changed ≡ inner_spec.with_terms terms.now labels row) }
+    ensures { IfOk result (λ changed. changed ≡ inner_spec.with_terms_columns terms.now labels row) }
 {
     let days = &terms.days.first;
     let prices = &terms.prices;

@@ -33,7 +33,7 @@ pub fn clock<S: Alter>(store: &mut RowStore<S>) -> Result<Moment, BookFault>
 
 /// The lengths of periods over time, if the registry was opened. Columns that are none are refused.
 pub fn days<S: Alter>(store: &mut RowStore<S>, alloc: Global) -> Result<Option<Schedule>, BookFault>
-    ensures found { Finds result (spec.days_of store.old.content) store.old store.new }
+    ensures found { Finds result (spec.days_of_rows store.old.content) store.old store.new }
     ensures all { IfOk result (λ days. store.new.is_clean ≡ true
         → is_some days ≡ spec.has_terms store.old.content) }
 {
@@ -82,7 +82,7 @@ fn schedule_made(first: Option<Days>, later: Option<Seq<DatedDays>>) -> Option<S
 
 /// The terms that the registry is used under, if it was opened. What doesn't read as terms is refused.
 pub fn terms<S: Alter>(store: &mut RowStore<S>, alloc: Global) -> Result<Option<Terms>, BookFault>
-    ensures found { Finds result (spec.terms_of store.old.content) store.old store.new }
+    ensures found { Finds result (spec.terms_of_rows store.old.content) store.old store.new }
     ensures all { IfOk result (λ terms. store.new.is_clean ≡ true
         → is_some terms ≡ spec.has_terms store.old.content) }
 {

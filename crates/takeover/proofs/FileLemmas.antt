@@ -25,7 +25,7 @@ use Rattle.sqltables.specs.inner.Reopening.{IsFoundAgain, IsReopened}
 use Rattle.sqltables.proofs.ReopeningLemmas.{reopened}
 use Rattle.sqlbook.specs.Files.{IsFoundIn}
 use Rattle.sqlbook.specs.Meaning.{are_right, stored_of}
-use Rattle.sqlterms.specs.Terms.{terms_of}
+use Rattle.sqlterms.specs.Terms.{terms_of_rows}
 use Rattle.states.specs.States.{Has, Remains, StateOf}
 use Rattle.states.specs.declared.readiness.Ready.{Ready}
 use Rattle.states.proofs.LeavingLemmas.{has-alone}
@@ -52,8 +52,8 @@ old-files-stay g files found from read it reads honest over image may trees open
     (λ h. (h.0, it.leaves (it.answers (reads.honest honest)) h.0 (subst (λ (l : List (Remains Content)). Has l h.0) reads.leaves h.1), h.2))
 
 -- a registry that was opened has a row of meta, so the row has the number
-numbered-if : (xs : Content) (terms : Terms) (metas : List MetaRow) → xs.metas ≡ metas → may_be_numbered metas ≡ true → terms_of xs ≡ Some terms → is_numbered metas ≡ true
-numbered-if xs terms [] is e some = absurd (let never : ◌≡◌ {A = Option Terms} None (Some terms) = sym (ap (λ (rows : List MetaRow). terms_of (record xs { metas = rows })) is) ∙ some in cc)
+numbered-if : (xs : Content) (terms : Terms) (metas : List MetaRow) → xs.metas ≡ metas → may_be_numbered metas ≡ true → terms_of_rows xs ≡ Some terms → is_numbered metas ≡ true
+numbered-if xs terms [] is e some = absurd (let never : ◌≡◌ {A = Option Terms} None (Some terms) = sym (ap (λ (rows : List MetaRow). terms_of_rows (record xs { metas = rows })) is) ∙ some in cc)
 numbered-if xs terms (meta ∷ more) is e some = e
 
 module _ (p : PolicyRules) (from : OldState) (to again : StateOf Content) (right : are_right (numbered_anew from.content) ≡ true) (terms : Terms) (some : (stored_of from.content).terms ≡ Some terms) where

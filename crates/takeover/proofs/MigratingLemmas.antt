@@ -8,7 +8,7 @@ use Rattle.sqlite_keyed.specs.Keyed.{IsKeyedBy}
 use Rattle.sqlite_keyed.proofs.ListLemmas.{ascending-map}
 use Rattle.accounts.specs.Lines.{balance, in_order}
 use Rattle.basis.specs.Bag.{bag_of}
-use Rattle.sqlcolumns.specs.Lines.{line_in}
+use Rattle.sqlcolumns.specs.Lines.{line_of_columns}
 use Rattle.sqlcolumns.specs.Numbers.{registrar_in}
 use Rattle.policy.specs.Rules.{PolicyRules}
 use Rattle.policy.specs.declared.schedule.Schedule.{Schedule}
@@ -38,7 +38,7 @@ use Rattle.oldrows.specs.Copies.{renumbered}
 use Rattle.oldrows.specs.inner.Stored.{IsOldContent}
 use Rattle.oldrows.specs.Stored.{IsRead, OldState}
 use Rattle.oldrows.proofs.CopyLemmas.{asked-on, put-keyed, read-on}
-use Rattle.sqlaccounts.specs.Accounts.{account_in, accounts_of, balance_in, entries_of, has_right_sums, is_right, lines_of, queue_of, row_of, sums_are_right}
+use Rattle.sqlaccounts.specs.Accounts.{account_of_row, accounts_of, balance_in, entries_of, has_right_sums, is_right, lines_under, queue_under, row_of, sums_are_right}
 use Rattle.sqldomains.specs.Domains.{domains_of}
 use Rattle.sqlderived.specs.Dues.{dues_are_right}
 use Rattle.sqlderived.specs.Held.{helds_are_right}
@@ -70,21 +70,21 @@ module _ (days : Schedule) (xs : Content) where
   abbrev ys : Content
   ys = record xs { lines = lines_with_ends days xs.lines }
 
-  read-same : (id : ℤ) (rows : List LineRow) → filter_map line_in (filter (line_with_account id) (lines_with_ends days rows)) ≡ filter_map line_in (filter (line_with_account id) rows)
+  read-same : (id : ℤ) (rows : List LineRow) → filter_map line_of_columns (filter (line_with_account id) (lines_with_ends days rows)) ≡ filter_map line_of_columns (filter (line_with_account id) rows)
   read-same id [] = refl
   read-same id (row ∷ rows) = go (line_with_account id row) (read-same id rows)
     where
-      go : (b : Bool) → filter_map line_in (filter (line_with_account id) (lines_with_ends days rows)) ≡ filter_map line_in (filter (line_with_account id) rows)
-          → filter_map line_in (cond b (with_grace_end days row ∷ filter (line_with_account id) (lines_with_ends days rows)) (filter (line_with_account id) (lines_with_ends days rows)))
-          ≡ filter_map line_in (cond b (row ∷ filter (line_with_account id) rows) (filter (line_with_account id) rows))
-      go true rest = ap (cons_option (line_in row)) rest
+      go : (b : Bool) → filter_map line_of_columns (filter (line_with_account id) (lines_with_ends days rows)) ≡ filter_map line_of_columns (filter (line_with_account id) rows)
+          → filter_map line_of_columns (cond b (with_grace_end days row ∷ filter (line_with_account id) (lines_with_ends days rows)) (filter (line_with_account id) (lines_with_ends days rows)))
+          ≡ filter_map line_of_columns (cond b (row ∷ filter (line_with_account id) rows) (filter (line_with_account id) rows))
+      go true rest = ap (cons_option (line_of_columns row)) rest
       go false rest = rest
 
-  lines-same : (id : ℤ) → lines_of ys id ≡ lines_of xs id
+  lines-same : (id : ℤ) → lines_under ys id ≡ lines_under xs id
   lines-same id = ap (bag_of in_order) (read-same id xs.lines)
 
-  account-same : (row : AccountRow) → account_in ys row ≡ account_in xs row
-  account-same row = ap (λ l. record (account_in xs row) { lines = l }) (lines-same row.id)
+  account-same : (row : AccountRow) → account_of_row ys row ≡ account_of_row xs row
+  account-same row = ap (λ l. record (account_of_row xs row) { lines = l }) (lines-same row.id)
 
   entries-same : (rows : List AccountRow) → entries_of ys rows ≡ entries_of xs rows
   entries-same [] = refl
@@ -95,7 +95,7 @@ module _ (days : Schedule) (xs : Content) where
   accounts-same = ap from_entries (entries-same xs.accounts)
 
   right-same : (row : AccountRow) → is_right ys row ≡ is_right xs row
-  right-same row = ap (λ l. int_eq (balance_in row.balance) (balance l) && int_eq row.waiting (pos (length (queue_of xs row.id)))) (lines-same row.id)
+  right-same row = ap (λ l. int_eq (balance_in row.balance) (balance l) && int_eq row.waiting (pos (length (queue_under xs row.id)))) (lines-same row.id)
 
   right-if-there : (o : Option AccountRow) → option_map_or (is_right ys) o true ≡ option_map_or (is_right xs) o true
   right-if-there None = refl

@@ -1,6 +1,6 @@
 //! The rows of lines, with the ends of their graces (RFC 3915, 3.1).
 ghost use Rattle.std.specs.Prelude.{◌≡◌, map, option_and_then, IfOk};
-ghost use Rattle.sqlcolumns.specs.Lines.{line_in};
+ghost use Rattle.sqlcolumns.specs.Lines.{line_of_columns};
 ghost use Rattle.sqlbook.specs.Graces.{grace_end};
 ghost use Rattle.takeover.specs.Graces as spec;
 
@@ -25,7 +25,7 @@ fn end_if_there(line: Option<Line>, days: &Schedule) -> Option<Moment>
 
 /// The end of the grace of a row's line; none of a row that doesn't read.
 fn row_grace_end(row: &LineRow, days: &Schedule) -> Option<Moment>
-    ensures { result ≡ option_and_then (grace_end days.now) (line_in row.now) }
+    ensures { result ≡ option_and_then (grace_end days.now) (line_of_columns row.now) }
 {
     end_if_there(line_of_row(row), days)
 }

@@ -9,7 +9,7 @@ use Rattle.mapbook.specs.declared.edit.Edit.TheVariants as edit
 use Rattle.accounts.specs.declared.counters.Counters.{Counters}
 use Rattle.books.specs.Book.{Stored}
 use Rattle.accounts.specs.Counters.{counters_of}
-use Rattle.books.specs.Ledgers.{lacks}
+use Rattle.books.specs.Ledgers.{lacks_message}
 
 -- what gives an account its counters back, or takes away one that wasn't there
 abbrev pub counters_back : ℕ → Option Counters → Edit
@@ -23,7 +23,7 @@ line_back r line (Some a) = edit.RemoveLine r line
 
 -- what takes a message back, or the account as it was
 abbrev pub notice_back : ℕ → Message → Option Account → Edit
-notice_back r m before = if lacks m before then edit.RemoveMessage r m else edit.Account r before
+notice_back r m before = if lacks_message m before then edit.RemoveMessage r m else edit.Account r before
 
 -- what takes an edit back: the value at its key
 abbrev pub inverse : Edit → Stored → Edit

@@ -31,11 +31,11 @@ Does (Ok it) is old new = is it
 Does (Err fault) is old new = WentBack fault old new
 
 -- a question of which this is true of the answer; nothing is changed
-abbrev pub FindsSome : {A : Type 0} → Result A BookFault → (A → Type 0) → BookState → BookState
+abbrev pub BookFindsSome : {A : Type 0} → Result A BookFault → (A → Type 0) → BookState → BookState
     → Type 0
-FindsSome (Ok it) is old new = BookReads old new
+BookFindsSome (Ok it) is old new = BookReads old new
     × (BookStays old new × (new.is_clean ≡ true → is it))
-FindsSome (Err fault) is old new = WentBack fault old new
+BookFindsSome (Err fault) is old new = WentBack fault old new
 
 -- the registry takes this step, with its answer
 abbrev pub Works : {A : Type 0} → Result A BookFault → (Registry → Registry → A → Type 0)
@@ -55,12 +55,12 @@ pub record IsOver (old new : BookState) : Type 0 where
 
 -- A step was taken and kept. Where it gave up the book went back, but a crash may leave what the step
 -- makes.
-abbrev pub Keeps : {A : Type 0} → Result A BookFault → (Registry → Registry → A → Type 0)
+abbrev pub KeepsStep : {A : Type 0} → Result A BookFault → (Registry → Registry → A → Type 0)
     → BookState
     → BookState → Type 0
-Keeps (Ok it) step old new =
+KeepsStep (Ok it) step old new =
     IsOver old new × (new.is_clean ≡ true → step old.content.registry new.content.registry it)
-Keeps (Err fault) step old new =
+KeepsStep (Err fault) step old new =
     GivesUp fault old new × (Follows old new
     × (LeavesOldOrMade (Makes step) old new × (new.readiness ≡ old.readiness)))
 

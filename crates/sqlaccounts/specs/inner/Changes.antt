@@ -11,7 +11,7 @@ use Rattle.accounts.specs.Entries.{with_lines}
 use Rattle.accounts.specs.Lines.{in_order}
 use Rattle.basis.specs.Bag.{add}
 use Rattle.accounts.specs.declared.line.Line.{Line}
-use Rattle.sqlcolumns.specs.Lines.{line_in}
+use Rattle.sqlcolumns.specs.Lines.{line_of_columns}
 use Rattle.sqlrows.specs.inner.Layouts.{appended}
 use Rattle.sqlcolumns.specs.Numbers.{counter_column, counter_in, registrar_column}
 use Rattle.sqltables.specs.Account as account_table
@@ -25,8 +25,8 @@ use Rattle.accounts.specs.declared.counters.Counters.{Counters}
 use Rattle.sqlaccounts.specs.Accounts.{accounts_of, balance_in, ident_and_held_of, place_ident, row_of, sums_are_right}
 
 -- the accounts, where a registrar's is changed; what was never opened is opened
-abbrev pub with_changed : (Account → Account) → FinMap nat_cmp Account → ℕ → FinMap nat_cmp Account
-with_changed f accounts r = insert accounts r (f (unwrap_or (get accounts r) empty_account))
+abbrev pub with_account_changed : (Account → Account) → FinMap nat_cmp Account → ℕ → FinMap nat_cmp Account
+with_account_changed f accounts r = insert accounts r (f (unwrap_or (get accounts r) empty_account))
 
 -- no row of another table, but of lines and messages, is touched
 pub record AreOthersKept (old new : Content) : Type 0 where
@@ -43,7 +43,7 @@ pub record AreOthersKept (old new : Content) : Type 0 where
 -- no others.
 pub record IsChange (r : ℕ) (f : Account → Account) (old new : Content) : Type 0 where
   pub there : (a : Account) × (get (accounts_of old) r ≡ Some a)
-  pub accounts : accounts_of new ≡ with_changed f (accounts_of old) r
+  pub accounts : accounts_of new ≡ with_account_changed f (accounts_of old) r
   pub sums : sums_are_right new ≡ sums_are_right old
   pub idents_and_held : (id : ℤ) → ident_and_held_of new id ≡ ident_and_held_of old id
   pub others : AreOthersKept old new
@@ -55,7 +55,7 @@ opened_row r = record { id = registrar_column r; ident = place_ident r; commands
 -- A registrar has an account. A row that was there stays as it is, and where its own wasn't there is
 -- one of an account that was just opened.
 pub record IsOpened (r : ℕ) (old new : Content) : Type 0 where
-  pub accounts : accounts_of new ≡ with_changed (λ a. a) (accounts_of old) r
+  pub accounts : accounts_of new ≡ with_account_changed (λ a. a) (accounts_of old) r
   pub sums : sums_are_right new ≡ sums_are_right old
   pub own : row_of new (registrar_column r) ≡ Some (unwrap_or (row_of old (registrar_column r)) (opened_row r))
   pub rows : (id : ℤ) → int_eq (registrar_column r) id ≡ false → row_of new id ≡ row_of old id
@@ -87,13 +87,13 @@ pub record IsCounted (x : Counters) (row changed : AccountRow) : Type 0 where
 -- a row of the account's that reads as this line
 pub record IsWritten (r : ℕ) (line : Line) (ends : Option ℤ) (row : LineRow) : Type 0 where
   pub account : row.account ≡ registrar_column r
-  pub reads : line_in row ≡ Some line
+  pub reads : line_of_columns row ≡ Some line
   pub grace_end : row.grace.ends ≡ ends
 
 -- a row of this line comes last, with the column for the end of its grace
 pub record IsLineAppended (line : Line) (ends : Option ℤ) (old new : List LineRow) : Type 0 where
   pub row : LineRow
-  pub reads : line_in row ≡ Some line
+  pub reads : line_of_columns row ≡ Some line
   pub grace_end : row.grace.ends ≡ ends
   pub last : new ≡ appended line_table.lines (λ id. record row { id = id }) old
 
@@ -103,5 +103,5 @@ AddsLine r line ends old new =
     IsChange r (with_lines (add in_order line)) old new × IsLineAppended line ends old.lines new.lines
 
 -- without the row of line that has this number, and with this row of account in its place
-abbrev pub without_line : ℤ → AccountRow → Content → Content
-without_line id account xs = accounts_to (λ rows. insert_by account_table.accounts.key rows account) (lines_to (delete_where (line_table.line_with_id id)) xs)
+abbrev pub without_line_row : ℤ → AccountRow → Content → Content
+without_line_row id account xs = accounts_to (λ rows. insert_by account_table.accounts.key rows account) (lines_to (delete_where (line_table.line_with_id id)) xs)

@@ -5,7 +5,7 @@ use Rattle.objects.specs.declared.roid.ObjectKind.TheVariants.{Domain}
 use Rattle.objects.specs.declared.roid.Roid.{Roid}
 use Rattle.accounts.specs.declared.line.Line.{Line}
 use Rattle.accounts.specs.Lines.{is_line}
-use Rattle.sqlcolumns.specs.Lines.{line_in}
+use Rattle.sqlcolumns.specs.Lines.{line_of_columns}
 use Rattle.sqlcolumns.specs.Numbers.{counter_column, registrar_column}
 use Rattle.sqlcolumns.specs.Roids.{IsRoid}
 use Rattle.sqltables.specs.Line.{line_of_object, line_with_account}
@@ -27,4 +27,4 @@ pub record IsDomainRoid (roid : Roid) : Type 0 where
 
 -- a row that reads as this line
 abbrev pub reads_as : Line → LineRow → Bool
-reads_as line row = option_map_or (is_line line) (line_in row) false
+reads_as line row = option_map_or (is_line line) (line_of_columns row) false

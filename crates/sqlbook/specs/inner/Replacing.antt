@@ -11,11 +11,11 @@ use Rattle.sqldomains.specs.inner.Changes.{IsDomainPut, sponsor_in}
 use Rattle.sqldomains.specs.Domains.{domains_of}
 use Rattle.sqlderived.specs.inner.Recounts.{IsRecounted}
 use Rattle.sqlobjects.specs.Sponsors.{IsSponsorSetBelow}
-use Rattle.sqlterms.specs.Terms.{days_of}
+use Rattle.sqlterms.specs.Terms.{days_of_rows}
 
 -- no other days were put down
 abbrev pub IsUnder : Schedule → Content → Type 0
-IsUnder days xs = IfSome (days_of xs) (λ d. d ≡ days)
+IsUnder days xs = IfSome (days_of_rows xs) (λ d. d ≡ days)
 
 -- this domain, or none, is under a name, and its row is right
 pub record IsCheckedDomain (name : List ℕ) (right : Content → DomainRow → Bool) (xs : Content) (domain : Option Domain) : Type 0 where

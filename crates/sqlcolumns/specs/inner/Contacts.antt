@@ -12,11 +12,11 @@ use Rattle.sqlcolumns.specs.Steps.{◌>>=◌}
 use Rattle.sqlcolumns.specs.Texts.{statuses_column, street_column}
 use Rattle.sqlcolumns.specs.Transfers.{maybe_due_column}
 
-abbrev pub registration_of : Contact → Registration
-registration_of c = record { roid = c.roid; sponsor = c.sponsor; created = c.created; transferred = c.transferred; updated = c.updated }
+abbrev pub contact_registration : Contact → Registration
+contact_registration c = record { roid = c.roid; sponsor = c.sponsor; created = c.created; transferred = c.transferred; updated = c.updated }
 
 abbrev pub IsContact : Contact → Type 0
-IsContact c = IsRegistration (registration_of c)
+IsContact c = IsRegistration (contact_registration c)
 
 -- ---- written
 
@@ -29,8 +29,8 @@ postal_row p = do
   street ← street_column p.street
   Some (postal_with p street)
 
-abbrev pub row_with : ℤ → Contact → RegistrationColumns → PostalRow → ContactRow
-row_with id c columns postal = record {
+abbrev pub contact_row_with : ℤ → Contact → RegistrationColumns → PostalRow → ContactRow
+contact_row_with id c columns postal = record {
   id = id;
   name = c.name;
   creator = columns.creator;
@@ -48,8 +48,8 @@ row_with id c columns postal = record {
 }
 
 -- the row of a contact, under its number
-abbrev pub contact_row : ℤ → Contact → Option ContactRow
-contact_row id c = do
-  columns ← registration_columns kinds.Contact (registration_of c)
+abbrev pub row_of_contact : ℤ → Contact → Option ContactRow
+row_of_contact id c = do
+  columns ← registration_columns kinds.Contact (contact_registration c)
   postal ← postal_row c.postal
-  Some (row_with id c columns postal)
+  Some (contact_row_with id c columns postal)

@@ -13,15 +13,15 @@ use Rattle.sqlcolumns.specs.Registrations.{IsRegistration, registration_columns}
 use Rattle.sqlcolumns.specs.Steps.{◌>>=◌}
 use Rattle.sqlcolumns.specs.Texts.{statuses_column}
 
-abbrev pub registration_of : Domain → Registration
-registration_of d = record { roid = d.roid; sponsor = d.sponsor; created = d.created; transferred = d.transferred; updated = d.updated }
+abbrev pub domain_registration : Domain → Registration
+domain_registration d = record { roid = d.roid; sponsor = d.sponsor; created = d.created; transferred = d.transferred; updated = d.updated }
 
 pub record IsDeletion (d : Deletion) : Type 0 where
   pub deleted : IsMoment d.deleted
   pub restore_requested : IfSome d.restore_requested IsMoment
 
 pub record IsDomain (d : Domain) : Type 0 where
-  pub registration : IsRegistration (registration_of d)
+  pub registration : IsRegistration (domain_registration d)
   pub years : d.years < 2 ^ 32
   pub deletion : IfSome d.deletion IsDeletion
 
@@ -32,8 +32,8 @@ abbrev pub deletion_columns : Option Deletion → DeletionColumns
 deletion_columns None = record { deleted = None; restore_requested = None }
 deletion_columns (Some d) = record { deleted = Some (moment_column d.deleted); restore_requested = maybe_moment_column d.restore_requested }
 
-abbrev pub row_with : ℤ → ℤ → ℕ → Domain → RegistrationColumns → DeletionColumns → DomainRow
-row_with id registrant due d columns deletion = record {
+abbrev pub domain_row_with : ℤ → ℤ → ℕ → Domain → RegistrationColumns → DeletionColumns → DomainRow
+domain_row_with id registrant due d columns deletion = record {
   id = id;
   name = d.name;
   creator = columns.creator;
@@ -52,7 +52,7 @@ row_with id registrant due d columns deletion = record {
 }
 
 -- the row of a domain, under its number, whose registrant has this one, and for which something is due then
-abbrev pub domain_row : ℤ → ℤ → ℕ → Domain → Option DomainRow
-domain_row id registrant due d = do
-  columns ← registration_columns kinds.Domain (registration_of d)
-  Some (row_with id registrant due d columns (deletion_columns d.deletion))
+abbrev pub row_of_domain : ℤ → ℤ → ℕ → Domain → Option DomainRow
+row_of_domain id registrant due d = do
+  columns ← registration_columns kinds.Domain (domain_registration d)
+  Some (domain_row_with id registrant due d columns (deletion_columns d.deletion))

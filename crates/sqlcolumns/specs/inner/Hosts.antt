@@ -19,8 +19,8 @@ pub record IsHost (h : Host) : Type 0 where
 
 -- ---- written
 
-abbrev pub row_with : ℤ → Option ℤ → Host → RoidColumns → HostRow
-row_with id sponsor h roid = record {
+abbrev pub host_row_with : ℤ → Option ℤ → Host → RoidColumns → HostRow
+host_row_with id sponsor h roid = record {
   id = id;
   name = h.name;
   creator = roid.creator;
@@ -34,7 +34,7 @@ row_with id sponsor h roid = record {
 }
 
 -- the row of a host, under its number, which this account sponsors
-abbrev pub host_row : ℤ → Option ℤ → Host → Option HostRow
-host_row id sponsor h = do
+abbrev pub row_of_host : ℤ → Option ℤ → Host → Option HostRow
+row_of_host id sponsor h = do
   roid ← roid_columns kinds.Host h.roid
-  Some (row_with id sponsor h roid)
+  Some (host_row_with id sponsor h roid)

@@ -31,8 +31,8 @@ abbrev pub domain_columns : Option Roid → Option DomainColumns
 domain_columns None = Some (record { creator = None; serial = None })
 domain_columns (Some roid) = option_map not_null (roid_columns Domain roid)
 
-abbrev pub row_with : ℤ → ℤ → Line → Option ℤ → DomainColumns → ℤ → LineRow
-row_with id account line ends domain cents = record {
+abbrev pub line_row_with : ℤ → ℤ → Line → Option ℤ → DomainColumns → ℤ → LineRow
+line_row_with id account line ends domain cents = record {
   id = id;
   account = account;
   kind = kind_column line.kind;
@@ -47,8 +47,8 @@ row_with id account line ends domain cents = record {
 
 -- The row of a line, under its number and its account's. When its grace ends is no part of the line: that
 -- column is given.
-abbrev pub line_row : ℤ → ℤ → Line → Option ℤ → Option LineRow
-line_row id account line ends = do
+abbrev pub row_of_line : ℤ → ℤ → Line → Option ℤ → Option LineRow
+row_of_line id account line ends = do
   domain ← domain_columns line.roid
   cents ← exact_column line.cents
-  Some (row_with id account line ends domain cents)
+  Some (line_row_with id account line ends domain cents)

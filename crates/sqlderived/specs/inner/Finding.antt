@@ -13,8 +13,8 @@ use Rattle.sqltables.specs.declared.contact.ContactRow.{ContactRow}
 use Rattle.sqltables.specs.Content.{Content}
 use Rattle.sqltables.specs.Domain as domain_table
 use Rattle.sqltables.specs.declared.domain.DomainRow.{DomainRow}
-use Rattle.sqldomains.specs.Domains.{domain_of, domains_of}
-use Rattle.sqlobjects.specs.Objects.{contact_of, contacts_of}
+use Rattle.sqldomains.specs.Domains.{domain_read, domains_of}
+use Rattle.sqlobjects.specs.Objects.{contact_read, contacts_of}
 
 -- the contacts and domains that rows mean, as a registry that has nothing else
 abbrev pub objects_in : Content → Registry
@@ -33,12 +33,12 @@ with_rows read found (row ∷ rows) = do
   with_rows read found rows
 
 -- the contact of a row, if it is due by a moment
-abbrev pub contact_in : ℕ → Content → ContactRow → Option (Option Due)
-contact_in t xs row = option_map (λ (c : Contact). contact_due t (c.name, c)) (contact_of xs row)
+abbrev pub contact_due_in_row : ℕ → Content → ContactRow → Option (Option Due)
+contact_due_in_row t xs row = option_map (λ (c : Contact). contact_due t (c.name, c)) (contact_read xs row)
 
 -- the same of a domain
-abbrev pub domain_in : PolicyRules → ℕ → Content → DomainRow → Option (Option Due)
-domain_in p t xs row = option_map (λ (d : Domain). domain_due p t (d.name, d)) (domain_of xs row)
+abbrev pub domain_due_in_row : PolicyRules → ℕ → Content → DomainRow → Option (Option Due)
+domain_due_in_row p t xs row = option_map (λ (d : Domain). domain_due p t (d.name, d)) (domain_read xs row)
 
 -- the rows whose column is no later than a moment
 abbrev pub contacts_until : ℕ → Content → List ContactRow

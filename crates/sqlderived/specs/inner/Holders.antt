@@ -18,19 +18,19 @@ holders_of d = record { sponsor = d.sponsor; incoming = incoming_of d.transfer }
 abbrev pub maybe_holders_of : Option Domain → Option Holders
 maybe_holders_of d = option_map holders_of d
 
-abbrev pub is_among : ℕ → Holders → Bool
-is_among r p = (p.sponsor == r) || option_map_or (λ q. q == r) p.incoming false
+abbrev pub is_holder : ℕ → Holders → Bool
+is_holder r p = (p.sponsor == r) || option_map_or (λ q. q == r) p.incoming false
 
-abbrev pub is_in : ℕ → Option Holders → Bool
-is_in r p = option_map_or (is_among r) p false
+abbrev pub is_some_holder : ℕ → Option Holders → Bool
+is_some_holder r p = option_map_or (is_holder r) p false
 
 -- the sponsor of the first, where it isn't among the others
 abbrev pub sponsor_without : Option Holders → Option Holders → Option ℕ
 sponsor_without None others = None
-sponsor_without (Some p) others = if is_in p.sponsor others then None else Some p.sponsor
+sponsor_without (Some p) others = if is_some_holder p.sponsor others then None else Some p.sponsor
 
 -- the one whom a pending transfer brings the first, where it is another than the sponsor, and isn't
 -- among the others
 abbrev pub incoming_without : Option Holders → Option Holders → Option ℕ
 incoming_without None others = None
-incoming_without (Some p) others = option_and_then (λ q. if (p.sponsor == q) || is_in q others then None else Some q) p.incoming
+incoming_without (Some p) others = option_and_then (λ q. if (p.sponsor == q) || is_some_holder q others then None else Some q) p.incoming

@@ -18,7 +18,7 @@ use Rattle.sqltables.specs.Link as link_table
 use Rattle.sqltables.specs.declared.link.LinkRow.{LinkRow}
 use Rattle.sqltables.specs.Transfer as transfer_table
 use Rattle.sqltables.specs.declared.transfer.TransferRow.{TransferRow}
-use Rattle.sqlderived.specs.inner.Finding.{contact_in, contacts_until, domain_in, domains_until, objects_in, with_rows}
+use Rattle.sqlderived.specs.inner.Finding.{contact_due_in_row, contacts_until, domain_due_in_row, domains_until, objects_in, with_rows}
 
 -- ---- whether anything is due at all
 
@@ -139,16 +139,16 @@ abbrev pub domains_near : Option ℕ → Names → ℕ → Content → List Doma
 domains_near r g t xs = domains_found r (pending_of r xs) g t xs
 
 -- of these, those that may be due: no other is read
-abbrev pub contacts_asked : Option ℕ → Names → ℕ → Content → List ContactRow
-contacts_asked r g t xs =
+abbrev pub contacts_near_due : Option ℕ → Names → ℕ → Content → List ContactRow
+contacts_near_due r g t xs =
     filter (contact_table.contact_within_due (moment_column t)) (contacts_near r g t xs)
 
-abbrev pub domains_asked : Option ℕ → Names → ℕ → Content → List DomainRow
-domains_asked r g t xs =
+abbrev pub domains_near_due : Option ℕ → Names → ℕ → Content → List DomainRow
+domains_near_due r g t xs =
     filter (domain_table.domain_within_due (moment_column t)) (domains_near r g t xs)
 
 -- this is what is due of the rows that are found
 pub record IsFoundNear (p : PolicyRules) (r : Option ℕ) (g : Names) (t : ℕ) (xs : Content) (due : List Due) : Type 0 where
   pub contacts : List Due
-  pub first : with_rows (contact_in t xs) [] (contacts_asked r g t xs) ≡ Some contacts
-  pub second : with_rows (domain_in p t xs) contacts (domains_asked r g t xs) ≡ Some due
+  pub first : with_rows (contact_due_in_row t xs) [] (contacts_near_due r g t xs) ≡ Some contacts
+  pub second : with_rows (domain_due_in_row p t xs) contacts (domains_near_due r g t xs) ≡ Some due

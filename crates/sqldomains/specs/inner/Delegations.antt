@@ -9,26 +9,26 @@ use Rattle.objects.specs.Delegations.{delegation_of}
 use Rattle.sqlcolumns.specs.Steps.{◌>>=◌}
 use Rattle.sqltables.specs.Content.{Content}
 use Rattle.sqltables.specs.declared.domain.DomainRow.{DomainRow}
-use Rattle.sqldomains.specs.Domains.{domain_of, domains_of}
+use Rattle.sqldomains.specs.Domains.{domain_read, domains_of}
 
-abbrev pub delegations : Content → List Delegation
-delegations xs = map delegation_of (values (domains_of xs))
+abbrev pub delegations_of_rows : Content → List Delegation
+delegations_of_rows xs = map delegation_of (values (domains_of xs))
 
 -- ---- read row by row
 
 abbrev pub Delegations : Type 0
 Delegations = FinMap (slice_cmp nat_cmp) Delegation
 
-abbrev pub with_domain : Delegations → Domain → Delegations
-with_domain all d = insert all d.name (delegation_of d)
+abbrev pub with_delegation : Delegations → Domain → Delegations
+with_delegation all d = insert all d.name (delegation_of d)
 
 -- with that of a row's domain, if it reads
-abbrev pub with_row : Content → Delegations → DomainRow → Option Delegations
-with_row xs all row = option_map (with_domain all) (domain_of xs row)
+abbrev pub with_row_delegation : Content → Delegations → DomainRow → Option Delegations
+with_row_delegation xs all row = option_map (with_delegation all) (domain_read xs row)
 
 -- with those of these rows, if all read
-abbrev pub with_rows : Content → Delegations → List DomainRow → Option Delegations
-with_rows xs all [] = Some all
-with_rows xs all (row ∷ rows) = do
-  all ← with_row xs all row
-  with_rows xs all rows
+abbrev pub with_row_delegations : Content → Delegations → List DomainRow → Option Delegations
+with_row_delegations xs all [] = Some all
+with_row_delegations xs all (row ∷ rows) = do
+  all ← with_row_delegation xs all row
+  with_row_delegations xs all rows

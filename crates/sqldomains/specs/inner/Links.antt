@@ -13,14 +13,14 @@ use Rattle.sqltables.specs.declared.domain.DomainRow.{DomainRow}
 use Rattle.sqltables.specs.Host.{host_with_name}
 use Rattle.sqltables.specs.declared.host.HostRow.{HostRow}
 use Rattle.sqltables.specs.Link.{link_with_contact, link_with_host}
-use Rattle.sqldomains.specs.Domains.{domain_of, domains_of}
+use Rattle.sqldomains.specs.Domains.{domain_read, domains_of}
 
 -- a contact, or a host, is linked where some domain names it (RFC 5731, 2.2; RFC 5732, 2.3)
-abbrev pub is_linked_contact : Content → List ℕ → Bool
-is_linked_contact xs name = list_any (λ d. names_contact name d.links) (values (domains_of xs))
+abbrev pub some_domain_names_contact : Content → List ℕ → Bool
+some_domain_names_contact xs name = list_any (λ d. names_contact name d.links) (values (domains_of xs))
 
-abbrev pub is_linked_host : Content → List ℕ → Bool
-is_linked_host xs name = list_any (λ d. names_host name d.links) (values (domains_of xs))
+abbrev pub some_domain_names_host : Content → List ℕ → Bool
+some_domain_names_host xs name = list_any (λ d. names_host name d.links) (values (domains_of xs))
 
 -- the number of a contact of this name, if there is one
 abbrev pub IsNumberOfContact : Content → List ℕ → Option ℤ → Type 0
@@ -50,4 +50,4 @@ IsUseOfHost xs id (Some row) = Has xs.domains row
 
 -- the domain of a row passes
 abbrev pub Passes : Content → (Domain → Bool) → DomainRow → Type 0
-Passes xs test row = (d : Domain) × (domain_of xs row ≡ Some d) × (test d ≡ true)
+Passes xs test row = (d : Domain) × (domain_read xs row ≡ Some d) × (test d ≡ true)

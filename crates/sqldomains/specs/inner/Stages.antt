@@ -7,7 +7,7 @@ use Rattle.objects.specs.declared.domain.Links.{Links}
 use Rattle.sqlcolumns.specs.declared.code.Role.{Role}
 use Rattle.sqlcolumns.specs.declared.code.Role.TheVariants as roles
 use Rattle.sqlcolumns.specs.Codes.{role_column}
-use Rattle.sqlcolumns.specs.inner.Domains.{domain_row}
+use Rattle.sqlcolumns.specs.inner.Domains.{row_of_domain}
 use Rattle.sqltables.specs.Content.{Content}
 use Rattle.sqltables.specs.inner.Content.{links_to}
 use Rattle.sqltables.specs.Domain as table
@@ -15,14 +15,14 @@ use Rattle.sqltables.specs.declared.domain.DomainRow.{DomainRow}
 use Rattle.sqltables.specs.Link.{link_with_domain}
 use Rattle.sqltables.specs.declared.link.LinkRow.{LinkRow}
 use Rattle.sqltables.specs.Transfer.{transfer_with_contact, transfer_with_domain}
-use Rattle.sqlobjects.specs.Changes.{contact_name, host_name}
+use Rattle.sqlobjects.specs.Changes.{contact_name_by_number, host_name_by_number}
 use Rattle.sqlobjects.specs.declared.transfers.Transferable.TheVariants as transferable
-use Rattle.sqlobjects.specs.inner.Stages.{IsRowPlaced, domains}
+use Rattle.sqlobjects.specs.inner.Stages.{IsRowPlaced, named_domains}
 use Rattle.sqlobjects.specs.inner.Transfers.{IsTransferPut}
 use Rattle.sqldomains.specs.declared.domain_rows.DerivedColumns.{DerivedColumns}
 use Rattle.sqldomains.specs.declared.comparison.LinkComparison.{LinkComparison}
 use Rattle.sqldomains.specs.declared.comparison.LinkComparison.TheVariants as comparisons
-use Rattle.sqldomains.specs.Domains.{are_dated, in_places, linked_name, registrant_alone, with_links, with_name}
+use Rattle.sqldomains.specs.Domains.{are_dated, in_places, linked_name, registrant_alone, with_linked_name, with_links}
 
 -- ---- links
 
@@ -40,7 +40,7 @@ pub record Names (id due : ℤ) (links : Links) (xs : Content) : Type 0 where
 -- with more in a role
 abbrev pub with_names : Role → Links → List (List ℕ) → Links
 with_names role links [] = links
-with_names role links (name ∷ names) = with_names role (with_name links role name) names
+with_names role links (name ∷ names) = with_names role (with_linked_name links role name) names
 
 -- no row leads from the domain with this number
 pub record AreLinksCleared (id : ℤ) (old new : Content) : Type 0 where
@@ -62,7 +62,7 @@ pub record IsContactLinkTo (xs : Content) (id due : ℤ) (role : Role) (name : L
   pub contact : ℤ
   pub contact_is : row.contact ≡ Some contact
   pub host_is : row.host ≡ None
-  pub name_is : contact_name xs contact ≡ Some name
+  pub name_is : contact_name_by_number xs contact ≡ Some name
 
 pub record IsHostLinkTo (xs : Content) (id due : ℤ) (name : List ℕ) (row : LinkRow) : Type 0 where
   pub domain : row.domain ≡ id
@@ -71,7 +71,7 @@ pub record IsHostLinkTo (xs : Content) (id due : ℤ) (name : List ℕ) (row : L
   pub host : ℤ
   pub contact_is : row.contact ≡ None
   pub host_is : row.host ≡ Some host
-  pub name_is : host_name xs host ≡ Some name
+  pub name_is : host_name_by_number xs host ≡ Some name
 
 -- the domain with this number names these besides
 pub record AreNamesAdded (id due : ℤ) (role : Role) (names : List (List ℕ)) (old new : Content) : Type 0 where
@@ -120,12 +120,12 @@ pub record AreOtherPartsKept (id : ℤ) (old new : Content) : Type 0 where
 
 -- the row of a domain, with these columns
 abbrev pub row_beside : ℤ → DerivedColumns → Domain → Option DomainRow
-row_beside id beside d = domain_row id beside.registrant beside.due d
+row_beside id beside d = row_of_domain id beside.registrant beside.due d
 
 -- the domain, but for its links and its transfer, is in this row, and no other row is changed
 abbrev pub IsDomainPlaced : Domain → DerivedColumns → DomainRow → Content → Content → Type 0
 IsDomainPlaced d beside =
-    IsRowPlaced domains (λ (row : DomainRow). row_beside row.id beside d ≡ Some row) d.name
+    IsRowPlaced named_domains (λ (row : DomainRow). row_beside row.id beside d ≡ Some row) d.name
 
 -- no link and no transfer is of the domain with this number
 pub record HasNoParts (id : ℤ) (xs : Content) : Type 0 where

@@ -7,8 +7,8 @@ use Rattle.sqlite_rules.specs.Lists.{Has}
 use Rattle.sqlite_typed.specs.Tests.{bytes_eq}
 use Rattle.objects.specs.declared.contact.Contact.{Contact}
 use Rattle.objects.specs.declared.host.Host.{Host}
-use Rattle.sqlcolumns.specs.inner.Contacts.{contact_row}
-use Rattle.sqlcolumns.specs.inner.Hosts.{host_row}
+use Rattle.sqlcolumns.specs.inner.Contacts.{row_of_contact}
+use Rattle.sqlcolumns.specs.inner.Hosts.{row_of_host}
 use Rattle.sqlcolumns.specs.Steps.{◌>>=◌}
 use Rattle.sqlcolumns.specs.Transfers.{is_same}
 use Rattle.sqltables.specs.Contact as contact_table
@@ -63,8 +63,8 @@ pub record NamedTable (R : Type 0) : Type 0 where
   pub rows_are : (all : List R) (xs : Content) → rows (with_rows all xs) ≡ all
   pub keyed : (xs : Content) → IsConsistent xs → IsKeyedBy key (rows xs)
 
-abbrev pub contacts : NamedTable ContactRow
-contacts = record {
+abbrev pub named_contacts : NamedTable ContactRow
+named_contacts = record {
   key = λ row. row.id;
   name = λ row. row.name;
   numbered = λ row id. record row { id = id };
@@ -77,8 +77,8 @@ contacts = record {
   keyed = λ xs consistent. consistent.keyed.contacts;
 }
 
-abbrev pub hosts : NamedTable HostRow
-hosts = record {
+abbrev pub named_hosts : NamedTable HostRow
+named_hosts = record {
   key = λ row. row.id;
   name = λ row. row.name;
   numbered = λ row id. record row { id = id };
@@ -91,8 +91,8 @@ hosts = record {
   keyed = λ xs consistent. consistent.keyed.hosts;
 }
 
-abbrev pub domains : NamedTable DomainRow
-domains = record {
+abbrev pub named_domains : NamedTable DomainRow
+named_domains = record {
   key = λ row. row.id;
   name = λ row. row.name;
   numbered = λ row id. record row { id = id };
@@ -138,7 +138,7 @@ IsPlacedAt table found given row old new =
 -- the contact, but for its transfer, is in this row, and no other row is changed
 abbrev pub IsContactPlaced : Contact → ContactRow → Content → Content → Type 0
 IsContactPlaced c =
-    IsRowPlaced contacts (λ (row : ContactRow). contact_row row.id c ≡ Some row) c.name
+    IsRowPlaced named_contacts (λ (row : ContactRow). row_of_contact row.id c ≡ Some row) c.name
 
 -- the contact with this number, and its transfer, aren't there any more
 pub record IsContactRemoved (id : ℤ) (old new : Content) : Type 0 where
@@ -174,7 +174,7 @@ HasRightSponsor xs row = row.sponsor ≡ sponsor_of xs row
 
 -- the row of a host under a number
 pub record IsHostRow (xs : Content) (id : ℤ) (h : Host) (row : HostRow) : Type 0 where
-  pub is : host_row id row.sponsor h ≡ Some row
+  pub is : row_of_host id row.sponsor h ≡ Some row
   pub sponsor : HasRightSponsor xs row
 
 -- this row, or none, has the name, and who sponsors it is right
@@ -185,7 +185,7 @@ pub record IsHostFound (xs : Content) (name : List ℕ) (found : Option HostRow)
 -- the host, but for its addresses, is in this row, and no other row is changed
 abbrev pub IsHostPlaced : Host → HostRow → Content → Content → Type 0
 IsHostPlaced h row old =
-    IsRowPlaced hosts (λ (it : HostRow). IsHostRow old it.id h it) h.name row old
+    IsRowPlaced named_hosts (λ (it : HostRow). IsHostRow old it.id h it) h.name row old
 
 -- the host with this number, and its addresses, aren't there any more
 pub record IsHostRemoved (id : ℤ) (old new : Content) : Type 0 where

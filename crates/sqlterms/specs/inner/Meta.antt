@@ -44,8 +44,8 @@ with_clock m row = record row { clock = moment_column m }
 
 -- the terms but for the registrars' ids and for the tables of later lengths, with the reserved labels as
 -- one text
-abbrev pub with_terms : Terms → List ℕ → MetaRow → MetaRow
-with_terms terms labels row = record row {
+abbrev pub with_terms_columns : Terms → List ℕ → MetaRow → MetaRow
+with_terms_columns terms labels row = record row {
   zone = terms.zone;
   reserved = labels;
   days_add = pos terms.days.first.add;

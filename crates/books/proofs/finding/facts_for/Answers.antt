@@ -4,7 +4,7 @@ use Rattle.facts.specs.Facts.{account_facts, facts, held, queue_asked}
 use Rattle.model.specs.Registry.{Registry, account_of}
 use Rattle.names.specs.RequestedName.{name_of}
 use Rattle.protocol.specs.Requests.{adds_a_held_domain, asked, new_host_asked}
-use Rattle.books.specs.Lookups.{host_facts_in, objects_in}
+use Rattle.books.specs.Lookups.{host_facts_in, objects_known}
 use Rattle.books.proofs.FoundLemmas.{also-found}
 use Rattle.books.proofs.finding.facts_for.Goals as goal
 
@@ -23,7 +23,7 @@ returns g c =
     let found =
     also-found (λ (s : Registry). option_map (λ name. host_facts_in x s (name_of name)) (asked None new_host_asked x)) c.in_ok-at_new_name.at_new_name start after_queue after_name
     (also-found (λ (s : Registry). queue_asked x (account_of r s)) c.in_ok-queue.queue start after_objects after_queue
-    (also-found (λ (s : Registry). objects_in (facts p r x s)) (c.in_ok-contacts.contacts, c.in_ok-contacts.domains, c.in_ok-contacts.hosts) start after_account after_objects
+    (also-found (λ (s : Registry). objects_known (facts p r x s)) (c.in_ok-contacts.contacts, c.in_ok-contacts.domains, c.in_ok-contacts.hosts) start after_account after_objects
     (also-found (λ (s : Registry). account_facts x (account_of r s)) c.in_ok-account.account start after_limit after_account
     (also-found (λ (s : Registry). asked false adds_a_held_domain x && nat_le HOLDING_LIMIT (held r s)) c.in_ok-limit.limit start after_missing after_limit
     c.in_ok-missing.ensures c.in_ok-limit.ensures)

@@ -3,7 +3,7 @@ use Rattle.sqlrows.proofs.StateLemmas.{reads-on, then-made}
 use Rattle.sqltables.specs.Content.{Content}
 use Rattle.sqltables.specs.inner.Consistent.{IsConsistent}
 use Rattle.states.specs.States.{Reads}
-use Rattle.sqlaccounts.specs.inner.Changes.{without_line}
+use Rattle.sqlaccounts.specs.inner.Changes.{without_line_row}
 use Rattle.sqlaccounts.specs.inner.Finding.{is_row_about}
 use Rattle.sqlaccounts.proofs.TakingLemmas.{left-there, taken-out}
 use Rattle.sqlaccounts.proofs.CallLemmas.{then-kept}
@@ -14,7 +14,7 @@ returns g c =
     let first = c.in_ok-row.ensures.row in
     let second = c.in_ok-rows.ensures.rows in
     let reads : Reads c.args.store.now c.rows_about.new.store = reads-on c.args.store.now c.found_row.new.store c.rows_about.new.store first.0 second.0 in
-    then-made (without_line c.in-Some.number c.in_ok-row-2.row) _ c.args.store.now c.rows_about.new.store c.remove.new.store reads (c.in_ok-remove.ensures {u = tt})
+    then-made (without_line_row c.in-Some.number c.in_ok-row-2.row) _ c.args.store.now c.rows_about.new.store c.remove.new.store reads (c.in_ok-remove.ensures {u = tt})
     (λ clean.
     let before : c.found_row.new.store.is_clean ≡ true = second.0.clean clean in
     taken-out c.args.store.now.content c.args.registrar c.args.line c.in_ok-row.row c.in_ok-row-2.row c.as_slice.result.now c.in-Some.number

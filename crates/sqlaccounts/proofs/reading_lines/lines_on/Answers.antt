@@ -2,7 +2,7 @@ use Rattle.std.proofs.Common.{ap, subst, ◌∙◌}
 use Rattle.std.specs.List.{filter_map}
 use Rattle.accounts.specs.Lines.{in_order}
 use Rattle.basis.specs.Bag.{bag_of}
-use Rattle.sqlcolumns.specs.Lines.{line_in}
+use Rattle.sqlcolumns.specs.Lines.{line_of_columns}
 use Rattle.sqltables.specs.inner.Consistent.{IsConsistent}
 use Rattle.sqlaccounts.proofs.LinesOnLemmas.{lines-read}
 use Rattle.sqlaccounts.proofs.reading_lines.lines_on.Goals as goal
@@ -12,6 +12,6 @@ returns g c =
     let found = c.in_ok-rows.ensures.rows in (
       found.0,
       λ clean.
-          c.in_ok-lines.ensures {u = tt} ∙ ap (λ rows. bag_of in_order (filter_map line_in rows)) (c.as_slice.ensures ∙ found.1 clean)
+          c.in_ok-lines.ensures {u = tt} ∙ ap (λ rows. bag_of in_order (filter_map line_of_columns rows)) (c.as_slice.ensures ∙ found.1 clean)
           ∙ lines-read c.args.store.now.content c.args.registrar c.args.roid.now (subst IsConsistent (found.0.content clean) (c.show_consistent.ensures clean)) c.in_ok-rows.ensures.place c.in_ok-rows.ensures.domain,
     )

@@ -3,7 +3,7 @@ use Rattle.std.proofs.lemmas.List.{take_more}
 use Rattle.std.specs.List.{filter_map}
 use Rattle.accounts.specs.Lines.{in_order}
 use Rattle.basis.specs.Bag.{add, bag_of}
-use Rattle.sqlcolumns.specs.Lines.{line_in}
+use Rattle.sqlcolumns.specs.Lines.{line_of_columns}
 use Rattle.sqlaccounts.proofs.LinesOnLemmas.{read-more}
 use Rattle.sqlaccounts.proofs.reading_lines.read.Goals as goal
 
@@ -16,4 +16,4 @@ loop-row-preserved c =
     let rows = c.args.rows.now in
     let i = c.loop-row.row-index in
     let reads = sym c.line_of_row.ensures.value ∙ c.in-Some.is in
-    c.in_ok-add.ensures.ok ∙ ap (add in_order c.in-Some.line) c.loop-row.invariant ∙ sym (read-more (take i rows) _ c.in-Some.line reads) ∙ ap (λ rs. bag_of in_order (filter_map line_in rs)) (sym (take_more rows i _ c.loop-row-test.true))
+    c.in_ok-add.ensures.ok ∙ ap (add in_order c.in-Some.line) c.loop-row.invariant ∙ sym (read-more (take i rows) _ c.in-Some.line reads) ∙ ap (λ rs. bag_of in_order (filter_map line_of_columns rs)) (sym (take_more rows i _ c.loop-row-test.true))

@@ -5,7 +5,7 @@ use Rattle.accounts.specs.declared.line.Line.{Line}
 use Rattle.accounts.specs.declared.line.LineSwap.{LineSwap}
 use Rattle.accounts.specs.Lines.{in_order, is_on, swapped_all}
 use Rattle.basis.specs.Bag.{remade}
-use Rattle.sqlaccounts.specs.Accounts.{account_of}
+use Rattle.sqlaccounts.specs.Accounts.{account_of_rows}
 use Rattle.sqlaccounts.proofs.LinesOnLemmas.{lines-bag}
 use Rattle.sqlaccounts.proofs.SwapLemmas.{swaps-on}
 use Rattle.sqlaccounts.proofs.reading_lines.swaps.Goals as goal
@@ -15,7 +15,7 @@ returns g c = (
   c.in_ok-lines.ensures.0,
   λ clean.
       let xs = c.args.store.now.content in
-      let lines : List Line = (account_of c.args.registrar xs).lines in
+      let lines : List Line = (account_of_rows c.args.registrar xs).lines in
       let change = g.C.LineChange.changed c.args.change.now in
       let found : c.in_ok-lines.lines ≡ filter (is_on c.domain-roid.result) lines = c.in_ok-lines.ensures.1 clean in
       ap (λ (swaps : List LineSwap). swapped_all swaps lines) c.from_vec.ensures

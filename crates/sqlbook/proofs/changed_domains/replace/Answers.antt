@@ -2,7 +2,7 @@ use Rattle.std.proofs.Common.{◌≡◌, IfSome, ap, subst}
 use Rattle.sqlrows.proofs.StateLemmas.{then-became}
 use Rattle.sqlobjects.specs.Sponsors.{IsSponsorSetBelow}
 use Rattle.sqlderived.specs.Dues.{has_right_due}
-use Rattle.sqlterms.specs.Terms.{days_of}
+use Rattle.sqlterms.specs.Terms.{days_of_rows}
 use Rattle.sqltables.specs.Content.{Content}
 use Rattle.sqlbook.specs.inner.Replacing.{IsExchangedThere, IsReplaced, IsUnder}
 use Rattle.sqlbook.proofs.changed_domains.replace.Goals as goal
@@ -18,6 +18,6 @@ returns g c =
     (λ (old new : Content). IsUnder days old × IsReplaced name has_right_due after due old new)
     c.args.store.now mid c.exchange_there.new.store (c.in_ok-set_sponsor_below.ensures {u = tt}) (c.in_ok-exchange_there.ensures {u = tt})
     (λ e followed it. (
-      subst (λ o. IfSome o (λ d. d ≡ days)) (ap (λ (xs : Content). days_of xs) followed.rest) it.0,
+      subst (λ o. IfSome o (λ d. d ≡ days)) (ap (λ (xs : Content). days_of_rows xs) followed.rest) it.0,
       record { moved = mid.content; followed = subst (λ o. IsSponsorSetBelow name o c.args.store.now.content mid.content) c.sponsor_of.ensures followed; exchanged = it.1 },
     ))

@@ -7,4 +7,4 @@ use Rattle.sqlderived.proofs.finding.of_contacts.Given as goal
 abbrev pub invariant-loop-row : goal.invariant-loop-row
 invariant-loop-row g l =
     Reads l.fn.store l.store
-    × (l.store.is_clean ≡ true → spec.with_rows (spec.contact_in l.fn.moment l.fn.store.content) l.found.keys l.row-iterator.rest.items ≡ spec.with_rows (spec.contact_in l.fn.moment l.fn.store.content) [] l.fn.rows)
+    × (l.store.is_clean ≡ true → spec.with_rows (spec.contact_due_in_row l.fn.moment l.fn.store.content) l.found.keys l.row-iterator.rest.items ≡ spec.with_rows (spec.contact_due_in_row l.fn.moment l.fn.store.content) [] l.fn.rows)

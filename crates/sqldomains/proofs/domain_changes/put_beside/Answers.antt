@@ -2,8 +2,8 @@ use Rattle.std.proofs.Common.{◌≡◌, true, Some, ◌∙◌}
 use Rattle.sqltables.specs.inner.Consistent.{IsConsistent}
 use Rattle.sqlrows.specs.Read.{rows_of}
 use Rattle.sqlrows.proofs.StateLemmas.{reads-same}
-use Rattle.sqlobjects.specs.Changes.{contact_name}
-use Rattle.sqlobjects.specs.inner.Stages.{domains, rows_named}
+use Rattle.sqlobjects.specs.Changes.{contact_name_by_number}
+use Rattle.sqlobjects.specs.inner.Stages.{named_domains, rows_named}
 use Rattle.sqlobjects.proofs.NewRowLemmas.{none-found}
 use Rattle.sqlobjects.proofs.StepLemmas.{asked-then, became-consistent}
 use Rattle.sqldomains.specs.inner.Changes.{IsDomainPut}
@@ -22,12 +22,12 @@ returns g c =
     let found = c.args.found in
     let row = c.in_ok-row.row in
     let is_new = c.is_none-is_new.result in
-    let placed = asked-then (λ a m. IsConsistent a → rows_named domains d.name a ≡ rows_of found → IsDomainPlaced d beside row a m)
-    (λ a m. IsConsistent m × (IsConsistent a → rows_named domains d.name a ≡ rows_of found → IsDomainPlaced d beside row a m)) old old middle (reads-same old) c.in_ok-row.ensures
+    let placed = asked-then (λ a m. IsConsistent a → rows_named named_domains d.name a ≡ rows_of found → IsDomainPlaced d beside row a m)
+    (λ a m. IsConsistent m × (IsConsistent a → rows_named named_domains d.name a ≡ rows_of found → IsDomainPlaced d beside row a m)) old old middle (reads-same old) c.in_ok-row.ensures
     (λ clean step. (c.show_consistent-2.ensures clean, step)) in
-    became-consistent (λ a m. IsConsistent m × (IsConsistent a → rows_named domains d.name a ≡ rows_of found → IsDomainPlaced d beside row a m))
+    became-consistent (λ a m. IsConsistent m × (IsConsistent a → rows_named named_domains d.name a ≡ rows_of found → IsDomainPlaced d beside row a m))
     (λ m e. (is_new ≡ true → HasNoParts row.id m) → ArePartsPut row.id row.due d m e)
-    (λ a e. rows_named domains d.name a ≡ rows_of found → contact_name a beside.registrant ≡ Some d.links.registrant → IsDomainPut d.name (Some d) (Some beside.due) a e) IsConsistent old middle new
+    (λ a e. rows_named named_domains d.name a ≡ rows_of found → contact_name_by_number a beside.registrant ≡ Some d.links.registrant → IsDomainPut d.name (Some d) (Some beside.due) a e) IsConsistent old middle new
     placed (c.in_ok-put_parts.ensures {u = tt}) c.show_consistent.ensures c.show_consistent-3.ensures
     (λ consistent after first second rows registrant.
     let there = first.1 consistent rows in

@@ -6,7 +6,7 @@ use Rattle.sqltables.specs.Transfer.{transfer_with_domain}
 use Rattle.sqlrows.proofs.StateLemmas.{then-became}
 use Rattle.sqlobjects.specs.declared.transfers.Transferable.{Transferable}
 use Rattle.sqlobjects.specs.declared.transfers.Transferable.TheVariants as transferable
-use Rattle.sqlobjects.specs.inner.Transfers.{IsTransferPut, is_of}
+use Rattle.sqlobjects.specs.inner.Transfers.{IsTransferPut, is_transfer_of}
 use Rattle.sqldomains.specs.inner.Stages.{AreLinksPut, ArePartsPut, HasNoParts}
 use Rattle.sqldomains.proofs.domain_changes.put_parts.Goals as goal
 
@@ -18,7 +18,7 @@ returns g c =
     let d = c.args.domain.now in
     let row = c.args.row.now in
     let is_new = c.args.is_new in
-    let put : (it : Transferable) → Content → Content → Type 0 = λ it m e. (is_new ≡ true → filter (is_of it) m.transfers ≡ []) → IsTransferPut it d.transfer m e in
+    let put : (it : Transferable) → Content → Content → Type 0 = λ it m e. (is_new ≡ true → filter (is_transfer_of it) m.transfers ≡ []) → IsTransferPut it d.transfer m e in
     then-became (λ m e. (is_new ≡ true → filter (link_with_domain row.id) m.links ≡ []) → AreLinksPut row.id row.due d.links m e)
     (put (transferable.Domain row.id))
     (λ m e. (is_new ≡ true → HasNoParts row.id m) → ArePartsPut row.id row.due d m e) old middle new

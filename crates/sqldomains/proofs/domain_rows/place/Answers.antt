@@ -3,7 +3,7 @@ use Rattle.sqltables.specs.declared.domain.DomainRow.{DomainRow}
 use Rattle.sqltables.specs.inner.Consistent.{IsConsistent}
 use Rattle.sqlrows.specs.Read.{rows_of}
 use Rattle.sqlrows.proofs.StateLemmas.{reads-same}
-use Rattle.sqlobjects.specs.inner.Stages.{IsPlacedAt, domains, rows_named}
+use Rattle.sqlobjects.specs.inner.Stages.{IsPlacedAt, named_domains, rows_named}
 use Rattle.sqlobjects.proofs.NamedRowLemmas.{placed-as}
 use Rattle.sqlobjects.proofs.StepLemmas.{asked-brings}
 use Rattle.sqldomains.specs.inner.Stages.{IsDomainPlaced, row_beside}
@@ -19,5 +19,5 @@ returns g c =
     let found = c.args.found in
     let row = c.in_ok-row.row in
     let made = written (pos 0) beside domain row c.in_ok-row.ensures in
-    asked-brings c.place_row.result (IsPlacedAt domains found row) (λ row old new. IsConsistent old → rows_named domains domain.name old ≡ rows_of found → IsDomainPlaced domain beside row old new) old old new (reads-same old) c.place_row.ensures
-    (λ it clean step consistent there. placed-as domains (λ (r : DomainRow). row_beside r.id beside domain ≡ Some r) domain.name found row it old.content new.content made.name made.again there step consistent)
+    asked-brings c.place_row.result (IsPlacedAt named_domains found row) (λ row old new. IsConsistent old → rows_named named_domains domain.name old ≡ rows_of found → IsDomainPlaced domain beside row old new) old old new (reads-same old) c.place_row.ensures
+    (λ it clean step consistent there. placed-as named_domains (λ (r : DomainRow). row_beside r.id beside domain ≡ Some r) domain.name found row it old.content new.content made.name made.again there step consistent)

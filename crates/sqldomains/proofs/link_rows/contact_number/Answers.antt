@@ -1,5 +1,5 @@
 use Rattle.std.proofs.Common.{rules, ap, subst, ◌∙◌, FitsSigned, w64, to_z-of_z}
-use Rattle.sqlobjects.specs.Changes.{contact_name}
+use Rattle.sqlobjects.specs.Changes.{contact_name_by_number}
 use Rattle.sqldomains.specs.inner.Links.{IsNumberOfContact}
 use Rattle.sqldomains.proofs.LinkRowLemmas.{contact-of-number}
 use Rattle.sqldomains.proofs.link_rows.contact_number.Goals as goal
@@ -10,4 +10,4 @@ returns-in-Some g c =
     let name = c.args.name.now in
     let fits : FitsSigned w64 c.in-Some.id = search rules in
     let asked = c.in_ok-number_of_contact.ensures {u = tt} in
-    (asked.0, λ e. ap (contact_name xs) (to_z-of_z fits) ∙ contact-of-number xs name c.in-Some.id (c.show_consistent.ensures (asked.0.clean e)) (subst (IsNumberOfContact xs name) c.in-Some.is (asked.1 e)))
+    (asked.0, λ e. ap (contact_name_by_number xs) (to_z-of_z fits) ∙ contact-of-number xs name c.in-Some.id (c.show_consistent.ensures (asked.0.clean e)) (subst (IsNumberOfContact xs name) c.in-Some.is (asked.1 e)))

@@ -1,7 +1,7 @@
 use Rattle.std.proofs.Common.{◌≡◌, Some, subst, ◌∙◌}
 use Rattle.std.specs.FinMap.{empty}
 use Rattle.sqlrows.proofs.StateLemmas.{reads-on}
-use Rattle.sqldomains.specs.inner.Delegations.{with_rows}
+use Rattle.sqldomains.specs.inner.Delegations.{with_row_delegations}
 use Rattle.sqldomains.proofs.DelegationLemmas.{all-listed}
 use Rattle.sqldomains.proofs.zone_rows.delegations.Goals as goal
 
@@ -16,6 +16,6 @@ returns g c =
           let before = told.0.clean e in
           c.in_ok-listed.ensures {u = tt}
           ∙ all-listed xs (c.show_consistent.ensures (asked.0.clean before)) all
-          (subst (λ rows. with_rows xs empty rows ≡ Some all) (asked.1 before)
-          (subst (λ ys. with_rows ys empty c.in_ok-rows.rows ≡ Some all) (asked.0.content before) (told.1 e))),
+          (subst (λ rows. with_row_delegations xs empty rows ≡ Some all) (asked.1 before)
+          (subst (λ ys. with_row_delegations ys empty c.in_ok-rows.rows ≡ Some all) (asked.0.content before) (told.1 e))),
     )

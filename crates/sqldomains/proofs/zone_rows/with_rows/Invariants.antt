@@ -8,4 +8,4 @@ use Rattle.sqldomains.proofs.zone_rows.with_rows.Given as goal
 abbrev pub invariant-loop-row : goal.invariant-loop-row
 invariant-loop-row g l =
     Reads l.fn.store l.store
-    × (l.store.is_clean ≡ true → spec.with_rows l.fn.store.content l.all l.row-iterator.rest.items ≡ spec.with_rows l.fn.store.content empty l.fn.rows)
+    × (l.store.is_clean ≡ true → spec.with_row_delegations l.fn.store.content l.all l.row-iterator.rest.items ≡ spec.with_row_delegations l.fn.store.content empty l.fn.rows)

@@ -6,7 +6,7 @@ use Rattle.sqltables.specs.declared.host.HostRow.{HostRow}
 use Rattle.sqltables.specs.inner.Consistent.{IsConsistent}
 use Rattle.sqlobjects.specs.Objects.{addresses_of}
 use Rattle.sqlobjects.specs.inner.Changes.{IsHostPut}
-use Rattle.sqlobjects.specs.inner.Stages.{AreAddressesPut, IsHostFound, IsHostPlaced, IsHostRow, hosts, rows_named}
+use Rattle.sqlobjects.specs.inner.Stages.{AreAddressesPut, IsHostFound, IsHostPlaced, IsHostRow, named_hosts, rows_named}
 use Rattle.sqlobjects.proofs.HostLemmas.{host-put}
 use Rattle.sqlobjects.proofs.NewRowLemmas.{no-address, none-found}
 use Rattle.sqlobjects.proofs.SponsorLemmas.{found-right}
@@ -22,10 +22,10 @@ returns g c =
     let found = c.args.found in
     let row = c.in_ok-row.row in
     let is_new = c.is_none-is_new.result in
-    let placed = asked-then (λ a m. IsConsistent a → rows_named hosts host.name a ≡ rows_of found → IsHostPlaced host row a m)
-    (λ a m. IsConsistent m × (IsConsistent a → rows_named hosts host.name a ≡ rows_of found → IsHostPlaced host row a m)) old old middle (reads-same old) c.in_ok-row.ensures
+    let placed = asked-then (λ a m. IsConsistent a → rows_named named_hosts host.name a ≡ rows_of found → IsHostPlaced host row a m)
+    (λ a m. IsConsistent m × (IsConsistent a → rows_named named_hosts host.name a ≡ rows_of found → IsHostPlaced host row a m)) old old middle (reads-same old) c.in_ok-row.ensures
     (λ clean step. (c.show_consistent-2.ensures clean, step)) in
-    became-consistent (λ a m. IsConsistent m × (IsConsistent a → rows_named hosts host.name a ≡ rows_of found → IsHostPlaced host row a m))
+    became-consistent (λ a m. IsConsistent m × (IsConsistent a → rows_named named_hosts host.name a ≡ rows_of found → IsHostPlaced host row a m))
     (λ m e. (is_new ≡ true → addresses_of m row.id ≡ []) → AreAddressesPut row.id host.addresses m e)
     (λ a e. IsHostFound a host.name found → IsHostPut host.name (Some host) a e) IsConsistent old middle new
     placed (subst (λ texts. HasChanged (λ m e. (is_new ≡ true → addresses_of m row.id ≡ []) → AreAddressesPut row.id texts m e) middle new) c.as_slice.ensures (c.in_ok-put_addresses.ensures {u = tt})) c.show_consistent.ensures c.show_consistent-3.ensures

@@ -2,7 +2,7 @@ use Rattle.std.proofs.Common.{◌≡◌, pos}
 use Rattle.sqltables.specs.declared.host.HostRow.{HostRow}
 use Rattle.sqltables.specs.inner.Consistent.{IsConsistent}
 use Rattle.sqlrows.specs.Read.{rows_of}
-use Rattle.sqlobjects.specs.inner.Stages.{IsHostPlaced, IsHostRow, IsPlacedAt, hosts, rows_named}
+use Rattle.sqlobjects.specs.inner.Stages.{IsHostPlaced, IsHostRow, IsPlacedAt, named_hosts, rows_named}
 use Rattle.sqlobjects.proofs.HostLemmas.{written}
 use Rattle.sqlobjects.proofs.NamedRowLemmas.{placed-as}
 use Rattle.sqlobjects.proofs.StepLemmas.{asked-brings}
@@ -16,7 +16,7 @@ returns g c =
     let found = c.args.found in
     let row = c.in_ok-row.row in
     let given = c.in_ok-row.ensures in
-    asked-brings c.place_row.result (IsPlacedAt hosts found row) (λ row old new. IsConsistent old → rows_named hosts host.name old ≡ rows_of found → IsHostPlaced host row old new) old last c.place_row.new.store given.0 c.place_row.ensures
+    asked-brings c.place_row.result (IsPlacedAt named_hosts found row) (λ row old new. IsConsistent old → rows_named named_hosts host.name old ≡ rows_of found → IsHostPlaced host row old new) old last c.place_row.new.store given.0 c.place_row.ensures
     (λ it clean step consistent there.
     let made = written old.content (pos 0) host row (given.1 clean) in
-    placed-as hosts (λ (r : HostRow). IsHostRow old.content r.id host r) host.name found row it old.content c.place_row.new.store.content made.name made.again there step consistent)
+    placed-as named_hosts (λ (r : HostRow). IsHostRow old.content r.id host r) host.name found row it old.content c.place_row.new.store.content made.name made.again there step consistent)

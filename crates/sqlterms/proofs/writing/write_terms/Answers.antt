@@ -4,7 +4,7 @@ use Rattle.sqltables.specs.Content.{Content}
 use Rattle.sqltables.specs.inner.Content.{metas_to}
 use Rattle.sqltables.specs.Meta.{metas}
 use Rattle.sqlterms.specs.inner.Changes.{ArePutBeside}
-use Rattle.sqlterms.specs.inner.Meta.{with_terms}
+use Rattle.sqlterms.specs.inner.Meta.{with_terms_columns}
 use Rattle.sqlterms.proofs.CallLemmas.{became-through}
 use Rattle.sqlterms.proofs.MetaLemmas.{first_moment}
 use Rattle.sqlterms.proofs.TermsLemmas.{terms_are_set}
@@ -22,6 +22,6 @@ returns g c =
     e.0 written beside read.0
     (λ clean put. terms_are_set xs c.put_beside.new.store.content c.in_ok-meta.meta c.args.value.now c.in_ok-labels.labels row first_moment
     (e.1 (written.clean (beside.clean (read.0.clean clean))))
-    (c.in_ok-row.ensures {u = tt} ∙ ap (with_terms c.args.value.now c.in_ok-labels.labels) c.meta_or_new.ensures)
+    (c.in_ok-row.ensures {u = tt} ∙ ap (with_terms_columns c.args.value.now c.in_ok-labels.labels) c.meta_or_new.ensures)
     put
     (sym (read.1 clean) ∙ c.are-same.ensures.0 c.if-not-same.false))

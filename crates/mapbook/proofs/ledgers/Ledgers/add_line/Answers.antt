@@ -6,7 +6,7 @@ use Rattle.accounts.specs.declared.line.Line.{Line}
 use Rattle.accounts.specs.Entries.{with_lines}
 use Rattle.accounts.specs.Lines.{in_order}
 use Rattle.basis.specs.Bag.{add}
-use Rattle.books.specs.Ledgers.{accounts_of}
+use Rattle.books.specs.Ledgers.{accounts_with_counters}
 use Rattle.mapbook.proofs.LedgerLemmas.{changed-found, changed-kept, has-not-found, on-err, on-ok, opened-changed, relined, where-found}
 use Rattle.mapbook.proofs.ledgers.Ledgers.add_line.Goals as goal
 
@@ -30,7 +30,7 @@ returns-in-Some-clause-err c =
 
 pub returns-clause-ok : goal.returns-clause-ok
 returns-clause-ok c =
-    let held = ap (λ (accounts : FinMap nat_cmp Account). accounts_of accounts c.self.inside.counters) c.get_mut.follows.holds-at-none ∙ c.self.view_is in
+    let held = ap (λ (accounts : FinMap nat_cmp Account). accounts_with_counters accounts c.self.inside.counters) c.get_mut.follows.holds-at-none ∙ c.self.view_is in
     opened-changed c.insert.result (with_lines (add in_order c.args.line)) c.args.self.now _ c.insert.new.self c.args.registrar _ held
     (has-not-found c.self.inside.accounts c.self.inside.counters c.args.self.now c.self.view_is c.args.registrar (sym c.in_default.ensures.value))
     (ap (λ (ls : List Line). record c.empty-account.result { lines = ls }) c.in_ok-add.ensures.ok ∙ ap (λ (a : Account). with_lines (add in_order c.args.line) a) c.empty-account.ensures)

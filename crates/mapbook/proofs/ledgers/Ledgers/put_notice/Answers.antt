@@ -5,7 +5,7 @@ use Rattle.accounts.specs.declared.account.Account.{Account}
 use Rattle.accounts.specs.declared.message.Message.{Message}
 use Rattle.accounts.specs.Entries.{with_queue}
 use Rattle.accounts.specs.Queue.{put}
-use Rattle.books.specs.Ledgers.{accounts_of}
+use Rattle.books.specs.Ledgers.{accounts_with_counters}
 use Rattle.mapbook.proofs.LedgerLemmas.{changed-found, changed-kept, has-not-found, on-err, on-ok, opened-changed, requeued, where-found}
 use Rattle.mapbook.proofs.ledgers.Ledgers.put_notice.Goals as goal
 
@@ -29,7 +29,7 @@ returns-in-Some-clause-err c =
 
 pub returns-clause-ok : goal.returns-clause-ok
 returns-clause-ok c =
-    let held = ap (λ (accounts : FinMap nat_cmp Account). accounts_of accounts c.self.inside.counters) c.get_mut.follows.holds-at-none ∙ c.self.view_is in
+    let held = ap (λ (accounts : FinMap nat_cmp Account). accounts_with_counters accounts c.self.inside.counters) c.get_mut.follows.holds-at-none ∙ c.self.view_is in
     opened-changed c.insert.result (with_queue (put c.args.message)) c.args.self.now _ c.insert.new.self c.args.registrar _ held
     (has-not-found c.self.inside.accounts c.self.inside.counters c.args.self.now c.self.view_is c.args.registrar (sym c.in_default.ensures.value))
     (ap (λ (ms : List Message). record c.empty-account.result { queue = ms }) c.in_ok-push.ensures.ok ∙ ap (λ (a : Account). with_queue (put c.args.message) a) c.empty-account.ensures)

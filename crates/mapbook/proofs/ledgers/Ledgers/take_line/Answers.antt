@@ -6,13 +6,13 @@ use Rattle.accounts.specs.declared.line.Line.{Line}
 use Rattle.accounts.specs.Entries.{with_lines}
 use Rattle.accounts.specs.Lines.{in_order}
 use Rattle.basis.specs.Bag.{taken}
-use Rattle.books.specs.Ledgers.{accounts_of}
+use Rattle.books.specs.Ledgers.{accounts_with_counters}
 use Rattle.mapbook.proofs.LedgerLemmas.{changed-none, changed-there, relined, where-found}
 use Rattle.mapbook.proofs.ledgers.Ledgers.take_line.Goals as goal
 
 pub returns-in_default : goal.returns-in_default
 returns-in_default c =
-    ap (λ (accounts : FinMap nat_cmp Account). accounts_of accounts c.self.inside.counters) c.get_mut.follows.holds-at-none
+    ap (λ (accounts : FinMap nat_cmp Account). accounts_with_counters accounts c.self.inside.counters) c.get_mut.follows.holds-at-none
     ∙ changed-none c.self.inside.accounts c.self.inside.counters c.args.self.now c.self.view_is c.args.registrar (with_lines (taken in_order c.args.line.now)) (relined (taken in_order c.args.line.now)) (sym c.in_default.ensures.value)
 
 pub returns : goal.returns
