@@ -7,31 +7,40 @@ use basis::text::Text;
 use objects::{Delegation, Glue};
 use std::alloc::{AllocError, Global};
 
-/// The records of a domain's name servers.
-pub(crate) fn delegation_lines(
-    alloc: Global,
-    ttl: u32,
-    delegation: &Delegation,
-) -> Result<Vec<u8>, AllocError>
-    ensures { IfOk result (λ text. text.items ≡ spec.delegation_text ttl delegation.now) }
-{
-    let mut text = Vec::new(alloc);
-    for host in delegation.hosts.as_slice() {
-        let line = ns_line(alloc, &delegation.name, ttl, host)?;
-        text.extend_from_slice(line.as_bytes())?;
-    }
-    Ok(text)
+/// What a zone has records of.
+pub(crate) trait Recorded {
+    ghost use Rattle.std.specs.Prelude.{◌≡◌, ℕ, List, IfOk};
+
+    ghost text: { ℕ → Self → List ℕ };
+
+    /// The lines of its records.
+    fn lines(&self, alloc: Global, ttl: u32) -> Result<Vec<u8>, AllocError>
+        ensures { IfOk result (λ lines. lines.items ≡ text ttl self.now) };
 }
 
-/// The records of a host's addresses.
-pub(crate) fn glue_lines(alloc: Global, ttl: u32, glue: &Glue) -> Result<Vec<u8>, AllocError>
-    ensures { IfOk result (λ text. text.items ≡ spec.glue_text ttl glue.now) }
-{
-    let (host, addresses) = (&glue.host, glue.addresses.as_slice());
-    let mut text = Vec::new(alloc);
-    add_addresses(alloc, ttl, AddressType::A, host, addresses, &mut text)?;
-    add_addresses(alloc, ttl, AddressType::Aaaa, host, addresses, &mut text)?;
-    Ok(text)
+impl Recorded for Delegation {
+    ghost text = { spec.delegation_text };
+
+    fn lines(&self, alloc: Global, ttl: u32) -> Result<Vec<u8>, AllocError> {
+        let mut text = Vec::new(alloc);
+        for host in self.hosts.as_slice() {
+            let line = ns_line(alloc, &self.name, ttl, host)?;
+            text.extend_from_slice(line.as_bytes())?;
+        }
+        Ok(text)
+    }
+}
+
+impl Recorded for Glue {
+    ghost text = { spec.glue_text };
+
+    fn lines(&self, alloc: Global, ttl: u32) -> Result<Vec<u8>, AllocError> {
+        let (host, addresses) = (&self.host, self.addresses.as_slice());
+        let mut text = Vec::new(alloc);
+        add_addresses(alloc, ttl, AddressType::A, host, addresses, &mut text)?;
+        add_addresses(alloc, ttl, AddressType::Aaaa, host, addresses, &mut text)?;
+        Ok(text)
+    }
 }
 
 /// Adds the records of a host's addresses of one type.

@@ -3,12 +3,12 @@ ghost use Rattle.std.specs.Prelude.{◌≡◌, IfErr, OnOk};
 ghost use Rattle.std.specs.Io.KnownBytes.{Appends};
 ghost use Rattle.std.specs.List.{flat_map};
 ghost use Rattle.zonefile.specs.Lines.{soa_line};
-ghost use Rattle.zonefile.specs.ZoneText.{Stops, delegation_text, glue_text, zone_text};
+ghost use Rattle.zonefile.specs.ZoneText.{Stops, zone_text};
 
 use crate::fault::ZoneFault;
 use crate::line::soa_line;
-use crate::lines::{delegation_lines, glue_lines};
-use objects::{Delegation, Glue, ZoneData};
+use crate::lines::Recorded;
+use objects::ZoneData;
 use policy::Policy;
 use std::alloc::Global;
 use std::io::Write;
@@ -30,8 +30,8 @@ pub fn write_zone<W: Write>(
 {
     let ttl = ttl_of(policy);
     write_soa(alloc, policy, serial, writer)?;
-    write_delegations(alloc, ttl, zone.delegations.as_slice(), writer)?;
-    write_glue(alloc, ttl, zone.glue.as_slice(), writer)
+    write_all(alloc, ttl, zone.delegations.as_slice(), writer)?;
+    write_all(alloc, ttl, zone.glue.as_slice(), writer)
 }
 
 /// The time that every record may be kept (RFC 1035, 3.2.1).
@@ -58,72 +58,37 @@ fn write_soa<W: Write>(
     Ok(())
 }
 
-/// Writes the name servers of these domains.
-fn write_delegations<W: Write>(
+/// Writes the records of all of these.
+fn write_all<W: Write, T: Recorded>(
     alloc: Global,
     ttl: u32,
-    delegations: &[Delegation],
+    items: &[T],
     writer: &mut W,
 ) -> Result<(), ZoneFault>
     ensures written { OnOk result (Appends (W.contents writer.old) (W.contents writer.new)
-        (flat_map (delegation_text ttl) delegations.now)) }
+        (flat_map (T.text ttl) items.now)) }
     ensures begun { IfErr result (λ fault. Stops fault (W.contents writer.old) (W.contents writer.new)
-        (flat_map (delegation_text ttl) delegations.now)) }
+        (flat_map (T.text ttl) items.now)) }
 {
-    for delegation in delegations {
-        write_delegation(alloc, ttl, delegation, writer)?;
+    for item in items {
+        write_records(alloc, ttl, item, writer)?;
     }
     Ok(())
 }
 
-/// Writes the name servers of a domain.
-fn write_delegation<W: Write>(
+/// Writes the records of one.
+fn write_records<W: Write, T: Recorded>(
     alloc: Global,
     ttl: u32,
-    delegation: &Delegation,
+    item: &T,
     writer: &mut W,
 ) -> Result<(), ZoneFault>
     ensures written { OnOk result (Appends (W.contents writer.old) (W.contents writer.new)
-        (delegation_text ttl delegation.now)) }
+        (T.text ttl item.now)) }
     ensures begun { IfErr result (λ fault. Stops fault (W.contents writer.old) (W.contents writer.new)
-        (delegation_text ttl delegation.now)) }
+        (T.text ttl item.now)) }
 {
-    let text = delegation_lines(alloc, ttl, delegation)?;
-    write_whole(writer, &text)?;
-    Ok(())
-}
-
-/// Writes the addresses of these hosts.
-fn write_glue<W: Write>(
-    alloc: Global,
-    ttl: u32,
-    hosts: &[Glue],
-    writer: &mut W,
-) -> Result<(), ZoneFault>
-    ensures written { OnOk result (Appends (W.contents writer.old) (W.contents writer.new)
-        (flat_map (glue_text ttl) hosts.now)) }
-    ensures begun { IfErr result (λ fault. Stops fault (W.contents writer.old) (W.contents writer.new)
-        (flat_map (glue_text ttl) hosts.now)) }
-{
-    for host in hosts {
-        write_addresses(alloc, ttl, host, writer)?;
-    }
-    Ok(())
-}
-
-/// Writes the addresses of a host.
-fn write_addresses<W: Write>(
-    alloc: Global,
-    ttl: u32,
-    host: &Glue,
-    writer: &mut W,
-) -> Result<(), ZoneFault>
-    ensures written { OnOk result (Appends (W.contents writer.old) (W.contents writer.new)
-        (glue_text ttl host.now)) }
-    ensures begun { IfErr result (λ fault. Stops fault (W.contents writer.old) (W.contents writer.new)
-        (glue_text ttl host.now)) }
-{
-    let text = glue_lines(alloc, ttl, host)?;
+    let text = item.lines(alloc, ttl)?;
     write_whole(writer, &text)?;
     Ok(())
 }

@@ -11,20 +11,20 @@ returns-in_err-write_soa-clause-begun g c =
     let p = err_from_is_err_and c.from_residual.result c.from_residual.ensures.1 in
     rw (p.1, p.2) (soa_begun c.args.policy.now c.args.serial c.args.zone.now _ _ _ c.in_err-write_soa.ensures.begun)
 
-pub returns-in_err-write_delegations-clause-begun : goal.returns-in_err-write_delegations-clause-begun
-returns-in_err-write_delegations-clause-begun g c =
-    let p = err_from_is_err_and c.from_residual-in_err-write_delegations.result c.from_residual-in_err-write_delegations.ensures.1 in
+pub returns-in_err-write_all-clause-begun : goal.returns-in_err-write_all-clause-begun
+returns-in_err-write_all-clause-begun g c =
+    let p = err_from_is_err_and c.from_residual-in_err-write_all.result c.from_residual-in_err-write_all.ensures.1 in
     rw (p.1, p.2) (delegations_begun c.args.policy.now c.args.serial c.args.zone.now _ _ _ _ c.in_ok-write_soa.ensures.written
-    (subst (Stops _ _ _) (λ i. flat_map (delegation_text (c.ttl_of-ttl.ensures i)) (c.as_slice.ensures i)) c.in_err-write_delegations.ensures.begun))
+    (subst (Stops _ _ _) (λ i. flat_map (delegation_text (c.ttl_of-ttl.ensures i)) (c.as_slice.ensures i)) c.in_err-write_all.ensures.begun))
 
 pub returns-clause-written : goal.returns-clause-written
-returns-clause-written g c = on_ok_weaker c.write_glue.result (λ wrote.
+returns-clause-written g c = on_ok_weaker c.write_all-2.result (λ wrote.
     all_written c.args.policy.now c.args.serial c.args.zone.now _ _ _ _ c.in_ok-write_soa.ensures.written
-    (subst (Appends _ _) (λ i. flat_map (delegation_text (c.ttl_of-ttl.ensures i)) (c.as_slice.ensures i)) c.in_ok-write_delegations.ensures.written)
-    (subst (Appends _ _) (λ i. flat_map (glue_text (c.ttl_of-ttl.ensures i)) (c.as_slice-2.ensures i)) wrote)) c.write_glue.ensures.written
+    (subst (Appends _ _) (λ i. flat_map (delegation_text (c.ttl_of-ttl.ensures i)) (c.as_slice.ensures i)) c.in_ok-write_all.ensures.written)
+    (subst (Appends _ _) (λ i. flat_map (glue_text (c.ttl_of-ttl.ensures i)) (c.as_slice-2.ensures i)) wrote)) c.write_all-2.ensures.written
 
 pub returns-clause-begun : goal.returns-clause-begun
-returns-clause-begun g c = IfErr-weaker c.write_glue.result _ _ (λ fault begun.
+returns-clause-begun g c = IfErr-weaker c.write_all-2.result _ _ (λ fault begun.
     glue_begun c.args.policy.now c.args.serial c.args.zone.now fault _ _ _ _ c.in_ok-write_soa.ensures.written
-    (subst (Appends _ _) (λ i. flat_map (delegation_text (c.ttl_of-ttl.ensures i)) (c.as_slice.ensures i)) c.in_ok-write_delegations.ensures.written)
-    (subst (Stops fault _ _) (λ i. flat_map (glue_text (c.ttl_of-ttl.ensures i)) (c.as_slice-2.ensures i)) begun)) c.write_glue.ensures.begun
+    (subst (Appends _ _) (λ i. flat_map (delegation_text (c.ttl_of-ttl.ensures i)) (c.as_slice.ensures i)) c.in_ok-write_all.ensures.written)
+    (subst (Stops fault _ _) (λ i. flat_map (glue_text (c.ttl_of-ttl.ensures i)) (c.as_slice-2.ensures i)) begun)) c.write_all-2.ensures.begun
