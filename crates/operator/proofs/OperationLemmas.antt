@@ -1,28 +1,21 @@
 -- What a look at what waits, a look-up, and an order that is given up leave.
-use Rattle.std.proofs.Common.{◌⊎◌, ℕ, List, Option, inl, inr, ap, refl}
+use Rattle.std.proofs.Common.{◌⊎◌, ℕ, List, Option, inl, inr, refl}
 use Rattle.std.specs.Prelude.{Result, Ok, Err, IfErr, IfOk}
 use Rattle.operator.specs.Operations.{IsFailedOrder, IsMalformedOrder, outcome_of_exit}
 use Rattle.policy.specs.Rules.{PolicyRules}
 use Rattle.protocol.specs.declared.code.Code.{Code}
 use Rattle.protocol.specs.declared.order.OperatorRequest.{OperatorRequest}
 use Rattle.model.specs.Registry.{Registry}
-use Rattle.registry.specs.Calls.{LooksUpKeeping, StepKeeps}
+use Rattle.registry.specs.Calls.{StepKeeps}
 use Rattle.registry.specs.Execution.{Fails, IsUnchanged, ShowsBacklog}
-use Rattle.registry.specs.Faces.{LooksUp}
 use Rattle.registry.specs.declared.backlog.Backlog.{Backlog}
 use Rattle.registry.specs.declared.fault.Fault.{Fault}
-use Rattle.registry.specs.declared.fault.Fault.TheVariants as faults
 use Rattle.script.specs.Deposits.{IsAnsweredBy, PrintsBeginning}
 use Rattle.script.specs.Orders.{EndsUnanswered}
 use Rattle.script.specs.declared.exit.Exit.{Exit}
 use Rattle.script.specs.declared.exit.Exit.TheVariants as exits
-use Rattle.server.specs.Http.{Passes}
+use Rattle.server.proofs.PassingLemmas.{unchanged}
 use Rattle.books.specs.Book.{BookState, Stored}
-
-unchanged : (fault : Fault) (old new : BookState) → Fails fault old new → IsUnchanged old new
-unchanged faults.Memory old new fails = fails.0
-unchanged faults.Store old new fails = fails.0
-unchanged faults.Moment old new fails = fails.0
 
 -- a look at what waits changes nothing
 pub unchanged_by : (p : PolicyRules) (moment : ℕ) (makes : Stored → Stored → Type 0) (result : Result Backlog Fault) (after : PolicyRules) (old new : BookState) → IfOk result (λ found. ShowsBacklog p moment found old new)
@@ -30,22 +23,6 @@ pub unchanged_by : (p : PolicyRules) (moment : ℕ) (makes : Stored → Stored �
 unchanged_by p moment makes (Ok found) after old new shows keeps fails =
     record { content = λ clean. λ i. record { registry = (shows clean).left i; terms = keeps.terms clean i } }
 unchanged_by p moment makes (Err fault) after old new shows keeps fails = unchanged fault old new fails
-
--- a look-up changes nothing but that time passes
-pub passes_by : {X : Type 0} (lapses : ℕ → Registry → Registry) (p : PolicyRules) (moment : ℕ) (find : Registry → X) (makes : Stored → Stored → Type 0) (result : Result X Fault) (after : PolicyRules) (old new : BookState) → IfOk result (λ found. LooksUp p find lapses moment found old new)
-    → LooksUpKeeping p moment makes result after old new → IfErr result (λ fault. Fails fault old new) → Passes p moment old new
-passes_by lapses p moment find makes (Ok found) after old new step keeps fails = record {
-  registry = λ clean. inr (step clean).left;
-  terms = keeps.answered.terms;
-  follows = keeps.follows;
-}
-passes_by lapses p moment find makes (Err fault) after old new step keeps fails =
-    let kept : IsUnchanged old new = unchanged fault old new fails in
-    record {
-      registry = λ clean. inl (ap (λ (held : Stored). held.registry) (kept.content clean));
-      terms = λ clean. ap (λ (held : Stored). held.terms) (kept.content clean);
-      follows = keeps.follows;
-    }
 
 carried : (p : PolicyRules) (request : OperatorRequest) (moment : ℕ) (old new : BookState) (before after : Option (List ℕ)) → PrintsBeginning p request moment old new before after
     → (code : Code) × (lapsed : Option ℕ) × IsAnsweredBy p request moment code lapsed old new

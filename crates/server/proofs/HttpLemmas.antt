@@ -6,7 +6,7 @@ use Rattle.std.proofs.lemmas.Slice.{take-put_mid_below}
 use Rattle.std.specs.Io.KnownBytes.{Consumes, ReadConsumes}
 use borrow.Rule.Slice.PartMut.{put_mid}
 use lib.Seq.{take-add}
-use Rattle.std.specs.Prelude.{IfOk, IfErr, OnOk}
+use Rattle.std.specs.Prelude.{IfOk, OnOk}
 use Rattle.frames.specs.Clocks.{Tells}
 use Rattle.model.specs.Lapse.{lapsed}
 use Rattle.model.specs.Registry.{Registry}
@@ -15,15 +15,13 @@ use Rattle.rdap.specs.Answering.{Faces, IsAnswer}
 use Rattle.rdap.specs.Heads.{IsCut}
 use Rattle.rdap.proofs.AnswerLemmas.{stands}
 use Rattle.registry.specs.declared.fault.Fault.{Fault}
-use Rattle.registry.specs.declared.fault.Fault.TheVariants as faults
-use Rattle.registry.specs.Calls.{LooksUpKeeping}
-use Rattle.registry.specs.Execution.{Fails, IsUnchanged, last_call}
+use Rattle.registry.specs.Execution.{last_call}
 use Rattle.registry.specs.Faces.{LooksUp}
 use Rattle.registry.proofs.PassingSteps.{same_then}
 use Rattle.server.specs.Http.{AnswersHttp, IsAnswered, IsNeeded, IsRead, IsWritten, MayShow, Passes, faces_at, faces_of}
 use Rattle.server.specs.declared.http.HttpEnd.{HttpEnd}
 use Rattle.server.specs.declared.http.HttpEnd.TheVariants as ends
-use Rattle.books.specs.Book.{BookState, Stored}
+use Rattle.books.specs.Book.{BookState}
 
 -- ---- what a look-up leaves
 
@@ -33,26 +31,6 @@ at_that_moment p moment old new passes clean = elim (passes.registry clean) [
   | inl same ↦ ap (λ (s : Registry). lapsed p moment s) same
   | inr left ↦ same_then p moment old.content.registry new.content.registry left
 ]
-
-unchanged : (fault : Fault) (old new : BookState) → Fails fault old new → IsUnchanged old new
-unchanged faults.Memory old new fails = fails.0
-unchanged faults.Store old new fails = fails.0
-unchanged faults.Moment old new fails = fails.0
-
-pub passes_by : {X : Type 0} (lapses : ℕ → Registry → Registry) (p : PolicyRules) (moment : ℕ) (find : Registry → X) (makes : Stored → Stored → Type 0) (result : Result X Fault) (after : PolicyRules) (old new : BookState) → IfOk result (λ found. LooksUp p find lapses moment found old new)
-    → LooksUpKeeping p moment makes result after old new → IfErr result (λ fault. Fails fault old new) → Passes p moment old new
-passes_by lapses p moment find makes (Ok found) after old new step keeps fails = record {
-  registry = λ clean. inr (step clean).left;
-  terms = keeps.answered.terms;
-  follows = keeps.follows;
-}
-passes_by lapses p moment find makes (Err fault) after old new step keeps fails =
-    let kept : IsUnchanged old new = unchanged fault old new fails in
-    record {
-      registry = λ clean. inl (ap (λ (held : Stored). held.registry) (kept.content clean));
-      terms = λ clean. ap (λ (held : Stored). held.terms) (kept.content clean);
-      follows = keeps.follows;
-    }
 
 -- where nothing is looked up, nothing passes
 pub stays : (p : PolicyRules) (moment : ℕ) (state : BookState) → Passes p moment state state

@@ -1,5 +1,6 @@
 mod ConnectionLemmas
 mod PeerLemmas
+pub mod PassingLemmas
 mod HttpLemmas
 mod PublicLemmas
 pub mod ListeningLemmas

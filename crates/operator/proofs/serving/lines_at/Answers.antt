@@ -1,5 +1,5 @@
 use Rattle.model.specs.Registry.{Registry, account_of}
-use Rattle.operator.proofs.OperationLemmas.{passes_by}
+use Rattle.server.proofs.PassingLemmas.{passes_by}
 use Rattle.operator.proofs.serving.lines_at.Goals as goal
 
 pub returns-clause-passes : goal.returns-clause-passes

@@ -10,7 +10,7 @@ use Rattle.registry.specs.Faces.{LooksUp}
 use Rattle.server.specs.ZoneExport.{zone_at, zone_data_text}
 use Rattle.books.specs.Book.{BookState}
 use Rattle.zonefile.specs.ZoneText.{Stops}
-use Rattle.server.proofs.HttpLemmas.{passes_by}
+use Rattle.server.proofs.PassingLemmas.{passes_by}
 use Rattle.server.proofs.zone.zone_on.Goals as goal
 
 -- the text of what was found is that of the zone at the moment

@@ -1,6 +1,7 @@
 use Rattle.std.proofs.Common.{refl}
 use Rattle.eppwire.proofs.LateLemmas.{answered_in_time}
-use Rattle.server.proofs.HttpLemmas.{passes_by, shown_by}
+use Rattle.server.proofs.HttpLemmas.{shown_by}
+use Rattle.server.proofs.PassingLemmas.{passes_by}
 use Rattle.model.specs.Registry.{Registry}
 use Rattle.books.specs.Faces.{host_face_at}
 use Rattle.server.proofs.at_moment.AtMomentFaceSource.host.Goals as goal
