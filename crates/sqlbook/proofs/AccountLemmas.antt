@@ -16,8 +16,8 @@ use Rattle.sqltables.specs.Readiness.{may_be_numbered}
 use Rattle.sqltables.specs.declared.meta.MetaRow.{MetaRow}
 use Rattle.sqltables.specs.inner.Consistent.{IsConsistent}
 use Rattle.sqltables.proofs.RowLemmas.{all_at}
-use Rattle.sqlaccounts.specs.Accounts.{ident_and_held, row_of}
-use Rattle.sqlaccounts.specs.inner.Changes.{IsChange}
+use Rattle.sqlaccounts.specs.Accounts.{accounts_of, ident_and_held, row_of}
+use Rattle.sqlaccounts.specs.inner.Changes.{AreOthersKept, IsChange, with_account_changed}
 use Rattle.sqlderived.proofs.KeptLemmas.{change-kept}
 use Rattle.sqlobjects.proofs.PutLemmas.{has-get_by}
 use Rattle.sqlobjects.specs.Objects.{contacts_of, hosts_of}
@@ -98,13 +98,37 @@ same-ids (a ∷ xs) (b ∷ bs) ua ub same ids =
     go ident number more =
         λ i. cond (is_unnamed (ident i)) (more ids i) (cond (int_eq (number i) (pos (length ids + 1))) (more (ids ++ ident i ∷ []) i) None)
 
+-- ---- accounts alone are others
+
+module _ (old new : Content) (others : AreOthersKept old new) where
+  pub terms-of-others : ids_in new.accounts ≡ ids_in old.accounts → terms_of_rows new ≡ terms_of_rows old
+  terms-of-others ids = (λ i. terms_of_rows (record new { metas = others.metas i; days = others.days i })) ∙ go (meta_of old)
+    where
+      go : (m : Option MetaRow) → terms_in m old.days new.accounts ≡ terms_in m old.days old.accounts
+      go None = refl
+      go (Some row) = λ i. cond (length row.zone == 0) None (terms_made row.zone (reserved_in row.reserved) (schedule_in row old.days) (prices_in row) (ids i))
+
+  pub dues-of-others : dues_are_right new ≡ dues_are_right old
+  dues-of-others = λ i. dues_are_right (record new { metas = others.metas i; days = others.days i; contacts = others.contacts i; domains = others.domains i; hosts = others.hosts i; links = others.links i; transfers = others.transfers i })
+
+  -- what is held is the registry with that account changed
+  pub posted-of-others : (r : ℕ) (f : Account → Account) → accounts_of new ≡ with_account_changed f (accounts_of old) r → ids_in new.accounts ≡ ids_in old.accounts → stored_of new ≡ posted_to r f (stored_of old)
+  posted-of-others r f accounts ids = λ i. record {
+    registry = record {
+      contacts = contacts_of (record new { contacts = others.contacts i; transfers = others.transfers i });
+      hosts = hosts_of (record new { hosts = others.hosts i; addresses = others.addresses i });
+      domains = domains_of (record new { contacts = others.contacts i; domains = others.domains i; hosts = others.hosts i; links = others.links i; transfers = others.transfers i });
+      accounts = accounts i;
+      clock = clock_of (record new { metas = others.metas i });
+    };
+    terms = terms-of-others ids i;
+  }
+
 -- ---- an account is changed
 
 module _ (r : ℕ) (f : Account → Account) (old new : Content) (consistent : IsConsistent old) (after : IsConsistent new) (it : IsChange r f old new) where
-  terms-kept : terms_of_rows new ≡ terms_of_rows old
-  terms-kept =
-      (λ i. terms_of_rows (record new { metas = it.others.metas i; days = it.others.days i }))
-      ∙ go (meta_of old)
+  ids-kept : ids_in new.accounts ≡ ids_in old.accounts
+  ids-kept = same-ids new.accounts old.accounts after.keyed.accounts consistent.keyed.accounts (λ id. named-so (row_of new id) (row_of old id) (it.idents_and_held id)) []
     where
       named-so : (n o : Option AccountRow) → option_map ident_and_held n ≡ option_map ident_and_held o → ident_in n ≡ ident_in o
       named-so None None e = refl
@@ -112,28 +136,8 @@ module _ (r : ℕ) (f : Account → Account) (old new : Content) (consistent : I
       named-so (Some a) None e = cc
       named-so (Some a) (Some b) e = ap (λ (s : List ℕ × ℤ). Some s.0) (same_some (ident_and_held a) (ident_and_held b) e)
 
-      ids : ids_in new.accounts ≡ ids_in old.accounts
-      ids = same-ids new.accounts old.accounts after.keyed.accounts consistent.keyed.accounts (λ id. named-so (row_of new id) (row_of old id) (it.idents_and_held id)) []
-
-      go : (m : Option MetaRow) → terms_in m old.days new.accounts ≡ terms_in m old.days old.accounts
-      go None = refl
-      go (Some row) = λ i. cond (length row.zone == 0) None (terms_made row.zone (reserved_in row.reserved) (schedule_in row old.days) (prices_in row) (ids i))
-
-  dues-kept : dues_are_right new ≡ dues_are_right old
-  dues-kept = λ i. dues_are_right (record new { metas = it.others.metas i; days = it.others.days i; contacts = it.others.contacts i; domains = it.others.domains i; hosts = it.others.hosts i; links = it.others.links i; transfers = it.others.transfers i })
-
   pub right-kept : are_right new ≡ are_right old
-  right-kept = λ i. may_be_numbered (it.others.metas i) && (it.sums i && (change-kept r f old new it i && (dues-kept i && sponsors-kept old new it.others.hosts it.others.domains i)))
+  right-kept = λ i. may_be_numbered (it.others.metas i) && (it.sums i && (change-kept r f old new it i && (dues-of-others old new it.others i && sponsors-kept old new it.others.hosts it.others.domains i)))
 
-  -- what is held is the registry with that account changed
   pub account-changed : stored_of new ≡ posted_to r f (stored_of old)
-  account-changed = λ i. record {
-    registry = record {
-      contacts = contacts_of (record new { contacts = it.others.contacts i; transfers = it.others.transfers i });
-      hosts = hosts_of (record new { hosts = it.others.hosts i; addresses = it.others.addresses i });
-      domains = domains_of (record new { contacts = it.others.contacts i; domains = it.others.domains i; hosts = it.others.hosts i; links = it.others.links i; transfers = it.others.transfers i });
-      accounts = it.accounts i;
-      clock = clock_of (record new { metas = it.others.metas i });
-    };
-    terms = terms-kept i;
-  }
+  account-changed = posted-of-others old new it.others r f it.accounts ids-kept

@@ -1,5 +1,5 @@
 -- What an account that is opened over rows is to a book: a row without an id brings none.
-use Rattle.std.proofs.Common.{◌≡◌, ℕ, ℤ, ◌<ℤ◌, Bool, true, false, not, cond, ◌&&◌, ◌==◌, ◌+◌, length, List, [], ◌∷◌, ◌++◌, filter, pos, Option, Some, None, refl, sym, ap, ◌∙◌, int_eq}
+use Rattle.std.proofs.Common.{◌≡◌, ℕ, ℤ, ◌<ℤ◌, Bool, true, false, not, cond, ◌&&◌, ◌+◌, length, List, [], ◌∷◌, ◌++◌, filter, pos, Option, Some, None, refl, sym, ap, ◌∙◌, int_eq}
 use Rattle.std.specs.List.{AllByRecursion}
 use Rattle.std.specs.Option.{unwrap_or}
 use Rattle.sqlite_keyed.specs.Keyed.{IsKeyedBy, get_by}
@@ -8,20 +8,14 @@ use Rattle.books.specs.Tables.{account_opened}
 use Rattle.sqltables.specs.declared.account.AccountRow.{AccountRow}
 use Rattle.sqltables.specs.Content.{Content}
 use Rattle.sqltables.specs.Readiness.{may_be_numbered}
-use Rattle.sqltables.specs.declared.meta.MetaRow.{MetaRow}
 use Rattle.sqltables.specs.inner.Consistent.{IsConsistent}
 use Rattle.sqlaccounts.specs.Accounts.{row_of}
 use Rattle.sqlaccounts.specs.inner.Changes.{IsOpened, opened_row}
-use Rattle.sqldomains.specs.Domains.{domains_of}
 use Rattle.sqldomains.proofs.SponsorLemmas.{sponsors-kept}
 use Rattle.sqlderived.proofs.KeptLemmas.{opening-kept}
-use Rattle.sqlobjects.specs.Objects.{contacts_of, hosts_of}
-use Rattle.sqlterms.specs.Clock.{clock_of}
-use Rattle.sqlterms.specs.Meta.{meta_of}
-use Rattle.sqlterms.specs.Terms.{ids_behind, ids_in, is_unnamed, prices_in, reserved_in, schedule_in, terms_in, terms_made, terms_of_rows}
-use Rattle.sqlderived.specs.Dues.{dues_are_right}
+use Rattle.sqlterms.specs.Terms.{ids_behind, ids_in, is_unnamed}
 use Rattle.sqlbook.specs.Meaning.{are_right, stored_of}
-use Rattle.sqlbook.proofs.AccountLemmas.{ident_in, key, not-there, same-ids}
+use Rattle.sqlbook.proofs.AccountLemmas.{dues-of-others, ident_in, key, not-there, posted-of-others, same-ids}
 
 abbrev is_named : AccountRow → Bool
 is_named row = not (is_unnamed row.ident)
@@ -96,27 +90,8 @@ module _ (r : ℕ) (old new : Content) (consistent : IsConsistent old) (after : 
       (λ id. ap ident_in (get-filter new.accounts id after.keyed.accounts) ∙ named-at id (int_eq (pos r) id) refl ∙ sym (ap ident_in (get-filter old.accounts id consistent.keyed.accounts))) []
       ∙ ids-named old.accounts []
 
-  terms-opened : terms_of_rows new ≡ terms_of_rows old
-  terms-opened = (λ i. terms_of_rows (record new { metas = it.others.metas i; days = it.others.days i })) ∙ go (meta_of old)
-    where
-      go : (m : Option MetaRow) → terms_in m old.days new.accounts ≡ terms_in m old.days old.accounts
-      go None = refl
-      go (Some row) = λ i. cond (length row.zone == 0) None (terms_made row.zone (reserved_in row.reserved) (schedule_in row old.days) (prices_in row) (ids-opened i))
-
-  dues-opened : dues_are_right new ≡ dues_are_right old
-  dues-opened = λ i. dues_are_right (record new { metas = it.others.metas i; days = it.others.days i; contacts = it.others.contacts i; domains = it.others.domains i; hosts = it.others.hosts i; links = it.others.links i; transfers = it.others.transfers i })
-
   pub opening-right : are_right new ≡ are_right old
-  opening-right = λ i. may_be_numbered (it.others.metas i) && (it.sums i && (opening-kept old new r consistent it i && (dues-opened i && sponsors-kept old new it.others.hosts it.others.domains i)))
+  opening-right = λ i. may_be_numbered (it.others.metas i) && (it.sums i && (opening-kept old new r consistent it i && (dues-of-others old new it.others i && sponsors-kept old new it.others.hosts it.others.domains i)))
 
   pub opening-changed : stored_of new ≡ account_opened r (stored_of old)
-  opening-changed = λ i. record {
-    registry = record {
-      contacts = contacts_of (record new { contacts = it.others.contacts i; transfers = it.others.transfers i });
-      hosts = hosts_of (record new { hosts = it.others.hosts i; addresses = it.others.addresses i });
-      domains = domains_of (record new { contacts = it.others.contacts i; domains = it.others.domains i; hosts = it.others.hosts i; links = it.others.links i; transfers = it.others.transfers i });
-      accounts = it.accounts i;
-      clock = clock_of (record new { metas = it.others.metas i });
-    };
-    terms = terms-opened i;
-  }
+  opening-changed = posted-of-others old new it.others r (λ a. a) it.accounts ids-opened
