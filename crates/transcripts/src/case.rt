@@ -1,16 +1,16 @@
 //! Cases and transcripts: blocks that are carried out over a registry that is new, in each of some ways.
 
-use crate::chapter::Chapter;
-use crate::lines::{Line, Section, lines_of, only, policy_of, read, text_of, up_to};
 use crate::over::{Kind, NEVER, Ran, run_over};
-use crate::pieces::{IN_ONE_PIECE, Way};
-use crate::step::{Step, steps_of};
-use crate::ways::{way_of, ways_of};
-use crate::wire::Wire;
 use anyhow::{Context, Result, bail};
 use std::alloc::Global;
 use std::rt::Files;
 use std::str;
+use teststeps::chapter::Chapter;
+use teststeps::lines::{Line, Section, lines_of, only, policy_of, read, text_of, up_to};
+use teststeps::pieces::{IN_ONE_PIECE, Way};
+use teststeps::step::{Step, steps_of};
+use teststeps::ways::{way_of, ways_of};
+use teststeps::wire::Wire;
 
 /// The order that settles one object, and that which settles all, after a moment.
 const SETTLEMENTS: [&str; 2] = [

@@ -6,25 +6,15 @@
 #![tactic(auto)]
 
 mod case;
-mod chapter;
-mod escaped;
 mod failing;
 mod files;
-mod length_peer;
-mod lines;
-mod moments;
 mod over;
 mod pairs;
-mod pieces;
 mod refusals;
-mod step;
 mod stops;
-mod ways;
-mod wire;
 
 use anyhow::{Context, Result, bail};
 use case::Case;
-use lines::{Section, lines_of, read, sections_of};
 use over::Kind;
 use pairs::run_pair;
 use refusals::{find, run_refusals};
@@ -32,6 +22,7 @@ use std::env;
 use std::process::ExitCode;
 use std::rt::{Env, Files};
 use stops::run_stops;
+use teststeps::lines::{Section, lines_of, read, sections_of};
 
 /// What a section of a file begins with, by what the file's name ends with.
 fn mark_of(file: &str) -> &'static str {

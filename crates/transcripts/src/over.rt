@@ -1,7 +1,6 @@
 //! The two books that everything here runs over. What knows a book of the database by its kind is in
 //! one function: each such function costs the prover much.
 
-use crate::chapter::{Chapter, run_chapters};
 use anyhow::{Result, bail};
 use books::Book;
 use mapbook::new_book;
@@ -9,6 +8,7 @@ use oncebook::OnceBook;
 use script::Exit;
 use sqlbook::in_memory;
 use std::alloc::Global;
+use teststeps::chapter::{Chapter, run_chapters};
 
 /// Where a registry is kept: in the rows of a database in memory, or in ordered maps.
 #[derive(Clone, Copy)]

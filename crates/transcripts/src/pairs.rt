@@ -1,12 +1,12 @@
 //! Pairs of scripts that differ in nothing but what others than alfa hide: both answer alfa alike, byte for
 //! byte, and each other line begins with the same code.
 
-use crate::lines::{Section, only, policy_of, script_of, text_of};
 use crate::over::Kind;
 use crate::refusals::printed;
 use anyhow::{Context, Result, bail};
 use std::alloc::Global;
 use std::rt::Files;
+use teststeps::lines::{Section, only, policy_of, script_of, text_of};
 
 /// Refuses a pair of scripts that don't answer alfa alike, so many lines, over both books.
 pub fn run_pair(rt: &(impl Files + AllocGlobal), section: &Section<'_>) -> Result<String> {

@@ -2,16 +2,16 @@
 //! was refused. Sent again it is answered as if nothing had been refused, to the byte. So is everything
 //! that is looked at after it.
 
-use crate::chapter::Chapter;
-use crate::lines::{Section, only, policy_of, script_of};
 use crate::over::{Kind, NEVER, Places, Ran, run_over};
-use crate::pieces::IN_ONE_PIECE;
-use crate::step::Step;
-use crate::wire::Wire;
 use anyhow::{Result, bail};
 use std::alloc::Global;
 use std::mem;
 use std::rt::Files;
+use teststeps::chapter::Chapter;
+use teststeps::lines::{Section, only, policy_of, script_of};
+use teststeps::pieces::IN_ONE_PIECE;
+use teststeps::step::Step;
+use teststeps::wire::Wire;
 
 /// What is sent before a line, the line, so often, and what is sent after it.
 #[derive(Drop)]

@@ -3,13 +3,13 @@
 
 use crate::failing::{Failing, NONE};
 use crate::files::{Left, NOT_OPENED, NOT_TAKEN_UP, REFUSED, Work, work_in};
-use crate::lines::{Line, Section, is_among, only, read, script_of};
-use crate::wire::FAILED;
 use anyhow::{Context, Result, bail};
 use sqlite::{Files, Options};
 use sqlite_disk::{Crash, Disk, Memory};
 use std::alloc::Global;
 use std::rt::Files as HostFiles;
+use teststeps::lines::{Line, Section, is_among, only, read, script_of};
+use teststeps::wire::FAILED;
 
 /// A file in memory.
 type File = Failing<Memory>;
