@@ -16,7 +16,7 @@ use Rattle.matchit.specs.Rows.{RowsOf, catch_all_token, param_token}
 use Rattle.matchit.specs.Seek as seeks
 use Rattle.matchit.specs.Seek.{first, or_else, param_step, seek, step}
 use Rattle.rdap.proofs.RequestLemmas.{plain_is_text}
-use Rattle.rdap.specs.Requests.{has_slash, is_segment, name_below, request_at, segment}
+use Rattle.rdap.specs.Requests.{has_slash, is_segment, request_at, segment, segment_below}
 use Rattle.rdap.specs.Routes.{below, name_of, request_for, routes, fixed_route}
 use Rattle.rdap.specs.declared.request.Request.TheVariants.{Refused}
 use Rattle.rdap.specs.declared.wire.Outcome.TheVariants.{NotFound}
@@ -136,7 +136,7 @@ abbrev found : Route → Option (List ℕ) → Option Route
 found r None = None
 found r (Some name) = Some r
 
-folder_row : (w : List ℕ) (r : Route) (path : List ℕ) → IsText w → seek 0 ((w ++ param_token ∷ [], r) ∷ []) path ≡ found r (name_below w path)
+folder_row : (w : List ℕ) (r : Route) (path : List ℕ) → IsText w → seek 0 ((w ++ param_token ∷ [], r) ∷ []) path ≡ found r (segment_below w path)
 folder_row w r path bytes = behind w (param_token ∷ []) r path bytes ∙ by (bytes_eq (take (length w) path) w)
   where
     within : (v : Bool) (name : List ℕ) → cond v (Some r) None ≡ found r (if v then Some name else None)
@@ -228,7 +228,7 @@ walked folder name bytes called =
     ap (λ (w : ℕ × ℕ). part_of path w.1 (wild_stop pattern w.0 path w.1)) place ∙ read in
     λ i. (called i, from i) ∷ []
 
-named_in : (folder path name : List ℕ) → name_below folder path ≡ Some name → path ≡ folder ++ name
+named_in : (folder path name : List ℕ) → segment_below folder path ≡ Some name → path ≡ folder ++ name
 named_in folder path name is = by (bytes_eq (take (length folder) path) folder) refl is
   where
     left : List ℕ
@@ -248,11 +248,11 @@ named_in folder path name is = by (bytes_eq (take (length folder) path) folder) 
 module _ (folder : List ℕ) (kind : Kind)
     (walks : (name : List ℕ) → walk (below folder kind).1.pattern (below folder kind).1.text (folder ++ name) (below folder kind).1.names 0 0 ≡ (codes "name", name) ∷ [])
     (texts : (name : List ℕ) → IsUtf8 (folder ++ name) → IsUtf8 name) where
-  folder_routed : (path : List ℕ) → IsUtf8 path → (name_below folder path ≡ None → request_at path ≡ Refused NotFound) → ((name : List ℕ) → name_below folder path ≡ Some name → request_for kind name ≡ request_at path)
-      → Routed path (found (below folder kind).1 (name_below folder path))
-  folder_routed path text none some = by (name_below folder path) refl
+  folder_routed : (path : List ℕ) → IsUtf8 path → (segment_below folder path ≡ None → request_at path ≡ Refused NotFound) → ((name : List ℕ) → segment_below folder path ≡ Some name → request_for kind name ≡ request_at path)
+      → Routed path (found (below folder kind).1 (segment_below folder path))
+  folder_routed path text none some = by (segment_below folder path) refl
     where
-      by : (o : Option (List ℕ)) → name_below folder path ≡ o → Routed path (found (below folder kind).1 o)
+      by : (o : Option (List ℕ)) → segment_below folder path ≡ o → Routed path (found (below folder kind).1 o)
       by None e = none e
       by (Some name) e =
           let joins : path ≡ folder ++ name = named_in folder path name e in

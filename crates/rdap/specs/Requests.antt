@@ -43,8 +43,8 @@ segment None = None
 segment (Some name) = if is_segment name then Some name else None
 
 -- the last segment of a path below a folder
-abbrev pub name_below : List ℕ → List ℕ → Option (List ℕ)
-name_below folder path = segment (after folder path)
+abbrev pub segment_below : List ℕ → List ℕ → Option (List ℕ)
+segment_below folder path = segment (after folder path)
 
 -- letters, digits and hyphens, as the names of contacts have
 abbrev pub is_handle : List ℕ → Bool
@@ -66,9 +66,9 @@ domain_or (Some name) other = Domain name
 abbrev pub request_at : List ℕ → Request
 request_at path =
     if bytes_eq path (codes "/help") then Help
-    else domain_or (name_below (codes "/domain/") path)
-    (nameserver_at (name_below (codes "/nameserver/") path)
-    (entity_at (name_below (codes "/entity/") path)))
+    else domain_or (segment_below (codes "/domain/") path)
+    (nameserver_at (segment_below (codes "/nameserver/") path)
+    (entity_at (segment_below (codes "/entity/") path)))
 
 -- another method than GET is refused first, then a path that isn't plain
 unfoldable pub request_of : List ℕ → List ℕ → Request

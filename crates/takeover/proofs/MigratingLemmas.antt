@@ -50,7 +50,7 @@ use Rattle.takeover.specs.declared.migrating.MigrateFault.{MigrateFault}
 use Rattle.takeover.specs.declared.migrating.MigrateFault.TheVariants.{Policy, Schema, Memory, Store}
 use Rattle.takeover.specs.Graces.{with_grace_end}
 use Rattle.sqlbook.specs.Meaning.{are_right, stored_of}
-use Rattle.takeover.specs.inner.Migrating.{AreAsked, EndsAs, IsRefused, IsTakenOver, IsUnkept, TakesOver, heads, others, put_lines, taken_over}
+use Rattle.takeover.specs.inner.Migrating.{AreAsked, EndsAs, IsRefused, IsTakenOver, IsUnkept, TakesOver, heads, migrated_rows, others, put_lines}
 use Rattle.takeover.specs.Migrating.{AreThere, IsAll, IsMigrated, IsTried, IsUnsuited, MayBeTaken, Migrates, fault_of, lines_with_ends, numbered_anew, redated, suits, suits_in}
 use Rattle.sqlbook.specs.AsBook.{HasMade}
 
@@ -108,13 +108,13 @@ module _ (days : Schedule) (xs : Content) where
   pub sums-same : sums_are_right ys ≡ sums_are_right xs
   sums-same = all-same xs.accounts
 
-pub stored-taken : (days : Schedule) (xs : Content) → stored_of (taken_over days xs) ≡ stored_of xs
+pub stored-taken : (days : Schedule) (xs : Content) → stored_of (migrated_rows days xs) ≡ stored_of xs
 stored-taken days xs = λ i. record {
   registry = record { contacts = contacts_of xs; hosts = hosts_of xs; domains = domains_of xs; accounts = accounts-same days xs i; clock = clock-taken xs.metas i };
   terms = terms-taken xs.metas xs.days xs.accounts i;
 }
 
-pub right-taken : (days : Schedule) (xs : Content) → are_right (taken_over days xs) ≡ are_right (numbered_anew xs)
+pub right-taken : (days : Schedule) (xs : Content) → are_right (migrated_rows days xs) ≡ are_right (numbered_anew xs)
 right-taken days xs = ap (λ sums. may_be_numbered (map renumbered xs.metas) && (sums && (helds_are_right xs && (dues_are_right (numbered_anew xs) && sponsors_are_right xs)))) (sums-same days xs)
 
 -- ---- what is put is what was there
@@ -132,7 +132,7 @@ module _ (xs : Content) (is : IsOldContent xs) where
   ended-keyed : (days : Schedule) → IsKeyedBy lines.key (lines_with_ends days xs.lines)
   ended-keyed days = ascending-map _ (with_grace_end days) xs.lines is.keyed.lines
 
-  put-rest : (days : Schedule) → put_lines days xs (put_of_all others xs (record no_content { metas = map renumbered xs.metas; accounts = xs.accounts })) ≡ taken_over days xs
+  put-rest : (days : Schedule) → put_lines days xs (put_of_all others xs (record no_content { metas = map renumbered xs.metas; accounts = xs.accounts })) ≡ migrated_rows days xs
   put-rest days = λ i. record {
     metas = map renumbered xs.metas;
     accounts = xs.accounts;
@@ -152,7 +152,7 @@ module _ (xs : Content) (is : IsOldContent xs) where
       ap (λ (c : Content). suits p (stored_of c)) put-heads
       ∙ (λ i. suits_in p (clock-taken xs.metas i) ((terms-taken xs.metas [] xs.accounts ∙ ap (λ (tables : List DayRow). terms_in (slice_get xs.metas 0) tables xs.accounts) (sym is.days)) i))
 
-  pub put-all : (days : Schedule) → put_lines days xs (put_of_all others xs (put_of_all heads xs no_content)) ≡ taken_over days xs
+  pub put-all : (days : Schedule) → put_lines days xs (put_of_all others xs (put_of_all heads xs no_content)) ≡ migrated_rows days xs
   put-all days = ap (λ (c : Content). put_lines days xs (put_of_all others xs c)) put-heads ∙ put-rest days
 
 -- ---- one call after another
@@ -223,7 +223,7 @@ module _ (p : PolicyRules) (from read : OldState) (to written looked : StateOf C
     lines_are = λ c e. kept e ∙ ap (λ (xs : Content). xs.lines) (consistent c (days.clean e));
   }
     where
-      consistent : more.is_clean ≡ true → wrote.is_clean ≡ true → wrote.content ≡ taken_over p.days from.content
+      consistent : more.is_clean ≡ true → wrote.is_clean ≡ true → wrote.content ≡ migrated_rows p.days from.content
       consistent c e =
           let l = rest.clean e in
           let w = found.0.clean l in

@@ -19,8 +19,8 @@ use Rattle.sqlbook.specs.Meaning.{are_right, stored_of}
 use Rattle.takeover.specs.Migrating.{AreThere, fault_of, numbered_anew, lines_with_ends, suits, redated}
 
 -- the same rows as today's tables have them
-abbrev pub taken_over : Schedule → Content → Content
-taken_over days xs = record xs { metas = map renumbered xs.metas; lines = lines_with_ends days xs.lines }
+abbrev pub migrated_rows : Schedule → Content → Content
+migrated_rows days xs = record xs { metas = map renumbered xs.metas; lines = lines_with_ends days xs.lines }
 
 -- the tables with the clock and the terms, and the others but for that of lines
 abbrev pub heads : List TableName
