@@ -1,6 +1,5 @@
 //! The book in a file, and the registry.
 ghost use Rattle.std.specs.Prelude.{◌≡◌, true, false, IfErr, IfOk};
-ghost use Rattle.sqlite.specs.Files.{over_files};
 ghost use Rattle.sqlite_std_file.specs.File.{IsFresh};
 ghost use Rattle.sqlite_store.specs.FileStore.{recovers, view};
 ghost use Rattle.sqlite_trees.specs.View.{IsClean};

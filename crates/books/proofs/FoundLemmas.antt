@@ -4,7 +4,7 @@ use Rattle.model.specs.Registry.{Registry}
 use Rattle.books.specs.Book.{Stored}
 use Rattle.books.specs.Records.{RecordsState}
 use Rattle.states.specs.States.{Reads}
-use Rattle.books.proofs.RecordsLemmas.{reads-on}
+use Rattle.states.proofs.CallLemmas.{reads-on}
 
 -- what else is found
 pub also-found : {P A : Type 0} (f : Registry → A) (x : A) (s m t : RecordsState) → Reads s m × (m.is_clean ≡ true → P) → Reads m t × (t.is_clean ≡ true → x ≡ f m.content.registry)

@@ -1,5 +1,4 @@
 pub mod PutLemmas
-pub mod RecordsLemmas
 pub mod FoundLemmas
 pub mod LinesOnLemmas
 pub mod RenameLemmas

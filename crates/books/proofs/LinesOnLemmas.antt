@@ -21,7 +21,7 @@ use Rattle.policy.specs.Rules.{PolicyRules}
 use Rattle.books.specs.Book.{Stored}
 use Rattle.books.specs.Records.{RecordsState}
 use Rattle.states.specs.States.{Reads}
-use Rattle.books.proofs.RecordsLemmas.{reads-on}
+use Rattle.states.proofs.CallLemmas.{reads-on}
 
 -- ---- of a part
 

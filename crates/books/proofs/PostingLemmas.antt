@@ -30,7 +30,7 @@ use Rattle.states.specs.States.{Makes, Reads, Writes}
 use Rattle.states.proofs.LeavingLemmas.{leaves-on}
 use Rattle.books.specs.Tables.{account_opened, counters_set, posted_to, line_added, line_taken, lines_swapped, message_acked, message_added, with_accounts}
 use Rattle.books.proofs.PutLemmas.{changed-at, changed-if, changed-put, changed-twice, put-put, put-same, put-there}
-use Rattle.books.proofs.RecordsLemmas.{makes-on}
+use Rattle.states.proofs.CallLemmas.{makes-on}
 
 some-there : {A : Type 0} (o : Option A) → is_some o ≡ true → (x : A) × (o ≡ Some x)
 some-there None h = absurd cc

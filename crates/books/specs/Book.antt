@@ -39,7 +39,7 @@ abbrev pub StillAnswers : BookState → BookState → Type 0
 StillAnswers old new = Answers old → Answers new
 
 -- what a crash may leave is what it might have left before, and there is a book where there was one
-pub record LeavesSame (old new : BookState) : Type 0 where
+pub record BookLeavesSame (old new : BookState) : Type 0 where
   pub honest : new.is_honest ≡ true → old.is_honest ≡ true
   pub same : new.crash_leaves ≡ old.crash_leaves
   pub ready : new.readiness ≡ old.readiness
@@ -112,13 +112,13 @@ GivesUp Store old new = IsBack old new × HasRefused old new
 
 -- so it went back, and a crash leaves what it left before
 abbrev pub WentBack : BookFault → BookState → BookState → Type 0
-WentBack fault old new = GivesUp fault old new × (Follows old new × LeavesSame old new)
+WentBack fault old new = GivesUp fault old new × (Follows old new × BookLeavesSame old new)
 
 -- What answered still does, and a crash leaves what it left before.
 pub record BookStays (old new : BookState) : Type 0 where
   pub clean : new.is_clean ≡ true → old.is_clean ≡ true
   pub answers : StillAnswers old new
-  pub leaves : LeavesSame old new
+  pub leaves : BookLeavesSame old new
 
 -- nothing is changed
 pub record BookReads (old new : BookState) : Type 0 where

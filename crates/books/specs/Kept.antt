@@ -3,7 +3,7 @@ use Rattle.std.specs.Prelude.{◌≡◌, ℕ, ◌≤◌, Bool, true, false, if�
 use Rattle.std.proofs.Common.{ap}
 use Rattle.states.specs.declared.fault.BookFault.{BookFault}
 use Rattle.states.specs.declared.fault.BookFault.TheVariants.{Memory, Store}
-use Rattle.books.specs.Book.{BookState, HasRefused, LeavesSame, NoRefusal}
+use Rattle.books.specs.Book.{BookState, HasRefused, BookLeavesSame, NoRefusal}
 use Rattle.books.specs.Records.{RecordsState}
 
 abbrev pub book_state : RecordsState → ℕ → BookState
@@ -37,7 +37,7 @@ pub record HasRolledBack (old new : BookState) : Type 0 where
   pub counted : old.refused ≤ new.refused
   pub closed : new.is_open ≡ false
   pub content : new.is_clean ≡ true → new.content ≡ old.before
-  pub leaves : LeavesSame old new
+  pub leaves : BookLeavesSame old new
 
 abbrev pub GaveUp : BookFault → BookState → BookState → Type 0
 GaveUp Memory old new = HasRolledBack old new × NoRefusal old new

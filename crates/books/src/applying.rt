@@ -16,7 +16,8 @@ use policy::Policy;
 use states::BookFault;
 
 /// Makes changes: those of the account that comes first, then those of objects, and then those of other
-/// accounts. So records that have one account at hand come to each of them once.
+/// accounts. Records that have one account at hand come to the first once. They come to another once for each
+/// run of its changes.
 pub(crate) fn apply<R: Records>(
     records: &mut R,
     changes: Seq<Change>,

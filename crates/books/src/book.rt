@@ -1,7 +1,7 @@
 //! The trait of a place where a registry is kept.
 ghost use Rattle.std.specs.Prelude.{◌≡◌, Bool, true, false, None};
 ghost use Rattle.books.specs.Book.{BookBegins, BookEnds, BookFinds, BookFindsIn, BookMakesOf};
-ghost use Rattle.books.specs.Book.{Follows, IsBack, LeavesHeld, LeavesSame, NoRefusal};
+ghost use Rattle.books.specs.Book.{Follows, IsBack, LeavesHeld, BookLeavesSame, NoRefusal};
 ghost use Rattle.books.specs.Book.{with_changes, with_terms};
 ghost use Rattle.concerns.specs.Names.{named_by, named_of};
 ghost use Rattle.concerns.specs.DueFor.{due_for};
@@ -166,5 +166,5 @@ pub trait Book {
         ensures back { IsBack (state self.old) (state self.new) }
         ensures silent { NoRefusal (state self.old) (state self.new) }
         ensures follows { Follows (state self.old) (state self.new) }
-        ensures leaves { LeavesSame (state self.old) (state self.new) };
+        ensures leaves { BookLeavesSame (state self.old) (state self.new) };
 }

@@ -1,7 +1,6 @@
 //! What a zone has of a registry, as it is found in records.
 ghost use Rattle.std.specs.Prelude.{◌≡◌, IfOk, OnOk, filter, fold};
 ghost use Rattle.std.specs.FinMap.{keys};
-ghost use Rattle.std.specs.List.{filter_map};
 ghost use Rattle.model.specs.Zone as spec;
 ghost use Rattle.states.specs.States.{Finds};
 

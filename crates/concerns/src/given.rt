@@ -2,7 +2,7 @@
 ghost use Rattle.std.specs.Prelude.{◌≡◌, ◌++◌, IfOk};
 ghost use Rattle.std.specs.Option.{option_copied};
 ghost use Rattle.concerns.specs.Names as spec;
-ghost use Rattle.protocol.specs.Requests.{asks_of, hosts_asked};
+ghost use Rattle.protocol.specs.Requests.{asks_of};
 
 use basis::list::Seq;
 use basis::text::Text;

@@ -54,7 +54,7 @@ SameBytes p r c moment reply old new =
 
 -- A command is answered by a step of the rules, which is isolated, at a moment at which calls are taken.
 -- What was taken wrongly before isn't forgotten.
-pub record IsServed (p : PolicyRules) (r : ℕ) (c : Command) (moment : ℕ) (old : BookState) (outcome : Outcome) (new : BookState) : Type 0 where
+pub record IsCommandServed (p : PolicyRules) (r : ℕ) (c : Command) (moment : ℕ) (old : BookState) (outcome : Outcome) (new : BookState) : Type 0 where
   pub reply : Reply
   pub early : moment ≤ last_call
   pub step : Steps p r c moment reply old new
@@ -69,7 +69,7 @@ FailsToAnswer old outcome new = (outcome ≡ failed) × IsUnchanged old new × F
 
 abbrev pub AnswersCommand : PolicyRules → ℕ → Command → ℕ → BookState → Outcome → BookState → Type 0
 AnswersCommand p r c moment old outcome new =
-    FailsToAnswer old outcome new ⊎ IsServed p r c moment old outcome new
+    FailsToAnswer old outcome new ⊎ IsCommandServed p r c moment old outcome new
 
 -- hello is answered with the registry's clock
 pub record IsGreeted (p : PolicyRules) (moment : ℕ) (old : BookState) (outcome : Outcome) (new : BookState) : Type 0 where

@@ -1,5 +1,5 @@
 //! Frames: four bytes of total length, big-endian, these four included, and the payload.
-ghost use Rattle.std.specs.Prelude.{◌≡◌, ℕ, ◌+◌, ◌^◌, ◌<◌, ◌≤◌, length, take, vec_len, IfOk, OnOk, OnErr};
+ghost use Rattle.std.specs.Prelude.{◌≡◌, ℕ, ◌+◌, ◌^◌, ◌<◌, ◌≤◌, length, vec_len, IfOk, OnOk, OnErr};
 ghost use Rattle.std.specs.Io.KnownBytes.{Appends};
 ghost use Rattle.frames.specs.Frames.{frame, Receives};
 ghost use Rattle.streams.specs.Moves.{AppendsLess};

@@ -42,7 +42,7 @@ abbrev pub plain_state : PlainBook → BookState
 plain_state b = state_of (plain_records b.records) false b.refused
 
 -- nothing is left to undo but what an open transaction did
-pub record IsSettled (old : RecordsState) (new : Plain) : Type 0 where
+pub record IsPlainSettled (old : RecordsState) (new : Plain) : Type 0 where
   pub same : plain_records new ≡ old
   pub content : content_of new.content ≡ old.content
 

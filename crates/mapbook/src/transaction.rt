@@ -4,7 +4,7 @@ ghost use Rattle.books.specs.Book.{unused};
 ghost use Rattle.mapbook.specs.Contents.{registry_in};
 ghost use Rattle.model.specs.DueBy.{due_by};
 ghost use Rattle.mapbook.specs.Edits.{edited, undone_all};
-ghost use Rattle.mapbook.specs.Plain.{IsSettled, LatestUndoes, content_of, at_begin, plain_records, plain_state, without_latest};
+ghost use Rattle.mapbook.specs.Plain.{IsPlainSettled, LatestUndoes, content_of, at_begin, plain_records, plain_state, without_latest};
 ghost use Rattle.mapbook.specs.Quiet.{IsQuiet};
 ghost use Rattle.states.specs.States.{Makes, Stays};
 ghost use Rattle.books.specs.Records.{FindsIn};
@@ -138,7 +138,7 @@ impl Plain {
 impl Plain {
     /// Undoes what was left to undo, so that what is held is the content.
     pub(crate) fn settle(&mut self) -> Result<(), BookFault>
-        ensures ok { OnOk result (IsSettled (plain_records self.old) self.new) }
+        ensures ok { OnOk result (IsPlainSettled (plain_records self.old) self.new) }
         ensures stays { Stays (plain_records self.old) (plain_records self.new) }
     {
         if self.is_open {

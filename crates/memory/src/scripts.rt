@@ -1,5 +1,5 @@
 //! A script, answered over a registry in memory that was never used.
-ghost use Rattle.std.specs.Prelude.{◌≡◌, IfSome};
+ghost use Rattle.std.specs.Prelude.{IfSome};
 ghost use Rattle.script.specs.Runs.{EndsRun, kept};
 ghost use Rattle.memory.specs.Runs.{EndsByFile, EndsUnder};
 

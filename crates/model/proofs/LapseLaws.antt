@@ -17,7 +17,7 @@ use Rattle.objects.specs.declared.contact.Contact.{Contact}
 use Rattle.objects.specs.declared.domain.Domain.{Domain}
 use Rattle.policy.specs.Rules.{PolicyRules}
 use Rattle.model.specs.Lapse.{Choice, accounts_at, at, contacts_at, domains_at, either, lapse as lapse_registry, lapse_if, lapse_some, nothing}
-use Rattle.model.specs.LapseLaws.{AllDueLapseAsAll, HaveOneFuture, LapsedIsSettled, LapsesOn, LapsesOnFromSome, SettledIsNow, SomeLapseInAnyOrder, SomeLapseTogether}
+use Rattle.model.specs.LapseLaws.{AllDueLapseAsAll, HaveOneFuture, LapsedIsSettled, LapsesInSteps, LapsesOnFromSome, SettledIsNow, SomeLapseInAnyOrder, SomeLapseTogether}
 use Rattle.model.specs.Registry.{Registry}
 use Rattle.model.proofs.SweepLemmas.{Named, left, swept-again, swept-alike, swept-still}
 
@@ -59,7 +59,7 @@ lapses-on-from-some p chosen a b clock le s = ap (at b) (swept-again
     (λ name c. if-on (lapse_contact a) (lapse_contact b) (contact-law a b le) (chosen.contacts name) c)
     (λ name d. if-on (lapse p a) (lapse p b) (domain-law p a b le) (chosen.domains name) d) s)
 
-pub lapses-on : LapsesOn
+pub lapses-on : LapsesInSteps
 unfolding contacts_at domains_at accounts_at
 lapses-on p a b le s = ap (at b) (swept-again
     (λ name. lapse_contact a) (λ name. lapse_contact b) (λ name. lapse_contact b)

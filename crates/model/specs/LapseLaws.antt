@@ -13,8 +13,8 @@ use Rattle.model.specs.Lapse.{Choice, among, at, either, lapse_each, lapse, laps
 -- ---- one lapse after another
 
 -- to lapse to a moment and then to a later one is to lapse to the later one
-abbrev pub LapsesOn : Type 0
-LapsesOn =
+abbrev pub LapsesInSteps : Type 0
+LapsesInSteps =
     (p : PolicyRules) (a b : ℕ) → a ≤ b → (s : Registry) → lapse p b (lapse p a s) ≡ lapse p b s
 
 -- the same where only some objects had lapsed to the earlier moment, wherever the clock was put

@@ -5,7 +5,7 @@ ghost use Rattle.model.specs.Standards.{RegistriesMeetStandards};
 
 /// Time may pass in any steps, and some objects may lapse before the others do.
 pub fn time_passes_in_any_steps()
-    ensures on { spec.LapsesOn }
+    ensures on { spec.LapsesInSteps }
     ensures on_from_some { spec.LapsesOnFromSome }
     ensures on_from_each { spec.LapsesOnFromEach }
     ensures one_future { spec.HaveOneFuture }

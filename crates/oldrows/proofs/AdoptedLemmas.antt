@@ -31,7 +31,7 @@ use Rattle.sqltables.proofs.SoundLemmas.{after_key, holds}
 use Rattle.sqltables.proofs.StandingLemmas.{honest}
 use Rattle.oldrows.specs.inner.Adoption.{IsSeen}
 use Rattle.oldrows.specs.inner.Lines.{first_line_in, first_lines, without_end}
-use Rattle.oldrows.specs.inner.Stored.{CoversOld, FitsOld, Guards, IsLeftAsOld, IsOld, IsOldContent, IsSameOld, IsSeenAs, IsShapedAsOld, old_leaves, old_remains, old_contents, old_readiness, old_rows, as_found}
+use Rattle.oldrows.specs.inner.Stored.{CoversOld, FitsOld, GuardsOld, IsLeftAsOld, IsOld, IsOldContent, IsSameOld, IsSeenAs, IsShapedAsOld, old_leaves, old_remains, old_contents, old_readiness, old_rows, as_found}
 use Rattle.oldrows.specs.Stored.{IsRead, OldState}
 use Rattle.sqltables.specs.Content.{Content}
 use Rattle.states.specs.States.{Has, Remains}
@@ -84,7 +84,7 @@ left-as s found is_there is not trees clean e = (shaped is_there s.now trees e (
 
 -- what is found may be left, and nothing else
 pub guards_found : (s : State) → IsFound s → (is_there : Bool) → (is_there ≡ true → s.now.schema ≡ first_registry) → (is_there ≡ false → s.now.schema ≢ first_registry)
-    → ((db : Trees) → IsTrue s.is_open → s.may_leave db → db ≡ s.committed.trees) → Guards s (old_remains is_there s ∷ [])
+    → ((db : Trees) → IsTrue s.is_open → s.may_leave db → db ≡ s.committed.trees) → GuardsOld s (old_remains is_there s ∷ [])
 guards_found s found is_there is not settled clean db may =
     let it = (found clean).0 in
     let same : s.now.trees ≡ db = ap (λ (d : Database). d.trees) it.clean ∙ sym (settled db it.is_open may) in

@@ -21,7 +21,7 @@ use Rattle.sqltables.specs.inner.FirstTables.{first_registry}
 use Rattle.sqltables.proofs.StandingLemmas.{clean-of, honest, leaves-no-more, was-honest}
 use Rattle.states.specs.declared.fault.BookFault.{BookFault}
 use Rattle.states.specs.States.{Remains}
-use Rattle.oldrows.specs.inner.Stored.{Agrees, Asks, FindsOld, FitsOld, Guards, IsOld, old_contents, old_rows, as_found}
+use Rattle.oldrows.specs.inner.Stored.{AgreesAsOld, Asks, FindsOld, FitsOld, GuardsOld, IsOld, old_contents, old_rows, as_found}
 use Rattle.oldrows.specs.Stored.{Answers, IsRead, OldState}
 use Rattle.oldrows.proofs.CopyLemmas.{read-on}
 
@@ -31,7 +31,7 @@ record IsSame (old new : State) : Type 0 where
   pub mode : new.in_transaction ≡ false
   pub settled : new.now ≡ new.committed
 
-same-after : (old new : State) → Agrees old → IsTrue new.is_open → StaysOrUndoes old new → IsSame old new
+same-after : (old new : State) → AgreesAsOld old → IsTrue new.is_open → StaysOrUndoes old new → IsSame old new
 same-after old new it opened (inl same) = record {
   db = same.0.now_is;
   mode = same.0.mode ∙ it.mode;
@@ -43,7 +43,7 @@ same-after old new it opened (inr back) = let gone = back.undone opened in recor
   settled = gone.0 ∙ sym gone.1;
 }
 
-agrees-same : (old new : State) → Agrees old → IsSame old new → Agrees new
+agrees-same : (old new : State) → AgreesAsOld old → IsSame old new → AgreesAsOld new
 agrees-same old new it same = record {
   mode = same.mode;
   holds = subst (λ (db : Database). IsOld (old_contents db.trees) db) (sym same.db) it.holds;
@@ -58,7 +58,7 @@ same-rows false old new same = refl
 -- ---- a text is made ready
 
 module _ (is_there : Bool) (old new : State) (survives : Survives old new (λ _. ⊥)) (fits : FitsOld is_there old) (stood : HasCleanDisk new → StaysOrUndoes old new) where
-  looked : HasCleanDisk new → IsTrue new.is_open → is_there ≡ true → Agrees old × IsSame old new
+  looked : HasCleanDisk new → IsTrue new.is_open → is_there ≡ true → AgreesAsOld old × IsSame old new
   looked clean opened there =
       let it = fits (was-honest old new (λ _. ⊥) survives clean) (was_open old new (stood clean) opened) there in
       (it, same-after old new it opened (stood clean))
@@ -66,7 +66,7 @@ module _ (is_there : Bool) (old new : State) (survives : Survives old new (λ _.
   pub fits-looked : FitsOld is_there new
   fits-looked clean opened there = let it = looked clean opened there in agrees-same old new it.0 it.1
 
-  pub guards-looked : (leaves : List (Remains Content)) → Guards old leaves → Guards new leaves
+  pub guards-looked : (leaves : List (Remains Content)) → GuardsOld old leaves → GuardsOld new leaves
   guards-looked leaves guards clean db may = guards (was-honest old new (λ _. ⊥) survives clean) db (leaves-no-more old new survives clean db may)
 
   pub reads-looked : (leaves : List (Remains Content)) → IsRead (as_found is_there old leaves) (as_found is_there new leaves)
@@ -83,10 +83,10 @@ module _ (is_there : Bool) (old new : State) (survives : Survives old new (λ _.
 -- ---- a query
 
 module _ (sql : List ℕ) (params : Row) (is_there : Bool) (old new : State) (P : Trees → Type 0) (survives : Survives old new P) (fits : FitsOld is_there old) (there : is_there ≡ true) (plain : IsPlain (understood first_registry sql)) where
-  plain-in : Agrees old → IsPlain (understood old.now.schema sql)
+  plain-in : AgreesAsOld old → IsPlain (understood old.now.schema sql)
   plain-in h = subst (λ (s : Schema). IsPlain (understood s sql)) (sym h.holds.schema) plain
 
-  agreed : (found : List Row) → HasCleanDisk new → Shown sql params old new found → Agrees old
+  agreed : (found : List Row) → HasCleanDisk new → Shown sql params old new found → AgreesAsOld old
   agreed found clean seen = fits (was-honest old new P survives clean) (queried_open sql params old new found seen) there
 
   same-if : (found : List Row) → HasCleanDisk new → Shown sql params old new found → IsUnchanged old new
@@ -115,13 +115,13 @@ module _ (sql : List ℕ) (params : Row) (is_there : Bool) (old new : State) (P 
       ap (λ (b : Bool). b && new.is_open) e ∙ (same-if found clean (seen clean)).0.is_open
 
   -- a query commits nothing, where the connection is open
-  pub guards-asked : Survives old new (CommitsShowing sql params old) → (HasCleanDisk new → IsTrue old.is_open) → (leaves : List (Remains Content)) → Guards old leaves → Guards new leaves
+  pub guards-asked : Survives old new (CommitsShowing sql params old) → (HasCleanDisk new → IsTrue old.is_open) → (leaves : List (Remains Content)) → GuardsOld old leaves → GuardsOld new leaves
   guards-asked shows opened leaves guards clean db may =
       let was = was-honest old new P survives clean in
       guards was db (leaves-no-more old new (commits_nothing sql params old new (plain-in (fits was (opened clean) there)) shows) clean db may)
 
   -- after an error
-  left-by : (e : Error) → (HasCleanDisk new → FailsToQuery sql params old new e) → HasCleanDisk new → IsTrue new.is_open → Agrees old × IsSame old new × IsTrue old.is_open
+  left-by : (e : Error) → (HasCleanDisk new → FailsToQuery sql params old new e) → HasCleanDisk new → IsTrue new.is_open → AgreesAsOld old × IsSame old new × IsTrue old.is_open
   left-by e fails clean opened =
       let it = fits (was-honest old new P survives clean) (not_queried_open sql params old new e (fails clean) opened) there in
       let left = stands_if_not_shown sql params old new e (plain-in it) (fails clean) in

@@ -13,7 +13,7 @@ use Rattle.states.specs.States.{Makes, StateOf, Writes}
 use Rattle.states.proofs.LeavingLemmas.{leaves-on}
 use Rattle.sqltables.specs.Content.{Content}
 use Rattle.oldrows.specs.Stored.{IsAsked, IsRead, OldState}
-use Rattle.oldrows.specs.inner.Copies.{Copies, IsLeft, IsOnItsWay, put_rows}
+use Rattle.oldrows.specs.inner.Copies.{Copies, IsCopyLeft, IsOnItsWay, put_rows}
 
 -- ---- rows in the order of their numbers
 
@@ -105,7 +105,7 @@ all-put key to none all a b on = record {
 }
 
 -- a table that wasn't copied
-pub left-on : (put rest : Content → Content → Content) (from read more : OldState) (to written wrote : StateOf Content) → IsOnItsWay put rest from read to written → IsLeft read more written wrote → IsLeft from more to wrote
+pub left-on : (put rest : Content → Content → Content) (from read more : OldState) (to written wrote : StateOf Content) → IsOnItsWay put rest from read to written → IsCopyLeft read more written wrote → IsCopyLeft from more to wrote
 left-on put rest from read more to written wrote on left = record {
   source = read-on from read more on.asked.reads left.source;
   target = record {

@@ -1,5 +1,5 @@
 //! A database with the tables of the schema before this one.
-ghost use Rattle.std.specs.Prelude.{◌≡◌, ◌≢◌, true, false, List, map, IfErr, IfOk, OnOk};
+ghost use Rattle.std.specs.Prelude.{◌≡◌, ◌≢◌, true, false, List, IfErr, IfOk, OnOk};
 ghost use Rattle.oldrows.specs.inner.Adoption.{is_first};
 ghost use Rattle.sqltables.specs.inner.FirstTables.{first_registry};
 
@@ -32,7 +32,7 @@ pub struct OldRows<S: Alter> {
 
 impl<S: Alter> Model for OldRows<S> {
     ghost use Rattle.sqlite.specs.Held.{state};
-    ghost use Rattle.oldrows.specs.inner.Stored.{FitsOld, Guards, old_leaves, as_found};
+    ghost use Rattle.oldrows.specs.inner.Stored.{FitsOld, GuardsOld, old_leaves, as_found};
     ghost use Rattle.oldrows.specs.Stored.{OldState};
 
     ghost Value = { OldState };
@@ -40,7 +40,7 @@ impl<S: Alter> Model for OldRows<S> {
     ghost view = { λ r. as_found r.is_there (state S.Store r.conn) (old_leaves (state S.Store) r.seen.items) };
 
     ghost invariant = { λ r. FitsOld r.is_there (state S.Store r.conn)
-        × Guards (state S.Store r.conn) (old_leaves (state S.Store) r.seen.items) };
+        × GuardsOld (state S.Store r.conn) (old_leaves (state S.Store) r.seen.items) };
 }
 
 /// The schema that the texts make, read off a database in memory.
@@ -168,7 +168,7 @@ impl<S: Alter + Drop> OldRows<S> {
     ghost use Rattle.std.specs.Prelude.{IsTrue};
     ghost use Rattle.sqltables.specs.Adoption.{IsFound};
     ghost use Rattle.oldrows.specs.inner.Stored.{CoversOld, LeavesAlone};
-    ghost use Rattle.oldrows.specs.inner.Adoption.{IsAdopted, IsSeen};
+    ghost use Rattle.oldrows.specs.inner.Adoption.{IsOldAdopted, IsSeen};
 
     /// Gives back what the connection is over.
     fn into_store(self) -> S
@@ -202,7 +202,7 @@ impl<S: Alter + Drop> OldRows<S> {
 
     /// The same rows, if their row of `meta` has the number.
     fn numbered(old: OldRows<S>) -> Result<OldRows<S>, (BookFault, S)>
-        ensures adopted { (trees : Trees) → IsSeen trees old → IfOk result (IsAdopted trees) }
+        ensures adopted { (trees : Trees) → IsSeen trees old → IfOk result (IsOldAdopted trees) }
         ensures left { (trees : Trees) → IsSeen trees old → IfErr result (λ e. IsClean (S.Store.view e.1)
             → LeavesAlone trees (S.Store.recovers e.1)) }
     {
@@ -223,7 +223,7 @@ impl<S: Alter + Drop> OldRows<S> {
     /// The rows of a database of the schema before this one. It is read and checked anew, whole. After a
     /// fault the database is given back, with what was committed as it was.
     pub fn adopt(conn: Connection<S>, alloc: Global) -> Result<OldRows<S>, (BookFault, S)>
-        ensures adopted { IfOk result (IsAdopted (state S.Store conn).committed.trees) }
+        ensures adopted { IfOk result (IsOldAdopted (state S.Store conn).committed.trees) }
         ensures left { IfErr result (λ e. IsClean (S.Store.view e.1) → IsTrue (state S.Store conn).is_open
             → LeavesAlone (state S.Store conn).committed.trees (S.Store.recovers e.1)) }
     {

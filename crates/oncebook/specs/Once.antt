@@ -1,6 +1,6 @@
 -- A book that refuses one call of its own accord.
 use Rattle.std.specs.Prelude.{◌≡◌, ℕ, ◌+◌, min, true, ◌&&◌, nat_eq}
-use Rattle.books.specs.Book.{BookState, Follows, HasRefused, IsBack, LeavesSame}
+use Rattle.books.specs.Book.{BookState, Follows, HasRefused, IsBack, BookLeavesSame}
 
 -- the state of a book that refused so often besides, for no cause
 abbrev pub with_refusals : ℕ → BookState → BookState
@@ -14,5 +14,5 @@ pub record RefusesOnce (old new : BookState) : Type 0 where
   pub back : IsBack old new
   pub refused : HasRefused old new
   pub follows : Follows old new
-  pub leaves : LeavesSame old new
+  pub leaves : BookLeavesSame old new
   pub dishonest : new.is_honest ≡ true → ⊥

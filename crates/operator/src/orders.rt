@@ -1,5 +1,5 @@
 //! Orders that come over the operator's port.
-ghost use Rattle.std.specs.Prelude.{◌≡◌, Some, []};
+ghost use Rattle.std.specs.Prelude.{◌≡◌};
 ghost use Rattle.operator.specs.Operations.{Orders};
 ghost use Rattle.operator.specs.Operations as spec;
 ghost use Rattle.books.specs.Book.{Follows};

@@ -1,5 +1,5 @@
 //! A connection of the operator's: one request.
-ghost use Rattle.std.specs.Prelude.{◌≡◌, ◌≤◌, true, string_bytes, IfSome, OnOk};
+ghost use Rattle.std.specs.Prelude.{◌≡◌, true, string_bytes, IfSome};
 ghost use Rattle.operator.specs.Answers.{refusal, response_of_kind};
 ghost use Rattle.operator.specs.Operations.{AnswersUnheard, DoesAsked, IsSent, Operates};
 ghost use Rattle.operator.specs.Operations as spec;

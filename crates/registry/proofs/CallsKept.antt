@@ -25,7 +25,7 @@ use Rattle.decisions.specs.Steps.{effect}
 use Rattle.decisions.proofs.LapsedLemmas.{serial-lapsed}
 use Rattle.decisions.proofs.MoneyLaws.{money-effect-now, money-lapsed-now, money-order-now}
 use Rattle.decisions.proofs.RegistryLemmas.{registry-effect, registry-lapsed, registry-now, registry-order}
-use Rattle.books.specs.Book.{BookStarts, BookState, BookStays, Follows, LeavesOldOrMade, LeavesSame, NoRefusal, Stored}
+use Rattle.books.specs.Book.{BookStarts, BookState, BookStays, Follows, LeavesOldOrMade, BookLeavesSame, NoRefusal, Stored}
 use Rattle.states.specs.declared.fault.BookFault.{BookFault}
 use Rattle.states.specs.declared.fault.BookFault.TheVariants.{Memory, Store}
 use Rattle.registry.proofs.CrashLemmas.{gave_up_by, later}
@@ -143,5 +143,5 @@ step_went_back p step fault old mid new begins keeps =
 
 -- or it couldn't be begun
 pub step_gave_up : {A : Type 0} (p : PolicyRules) (makes : Stored → Stored → Type 0) (fault : Fault) (old new : BookState)
-    → Follows old new → LeavesSame old new → StepKeeps {A = A} p makes (Err fault) p old new
+    → Follows old new → BookLeavesSame old new → StepKeeps {A = A} p makes (Err fault) p old new
 step_gave_up p makes fault old new follows same = record { policy = refl; follows = follows; crash = (gave_up_by fault makes old new same, same.ready); terms = tt }

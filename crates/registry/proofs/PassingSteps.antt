@@ -24,7 +24,7 @@ use Rattle.registry.specs.Execution.{IsGreetingStep, IsOrderStep, IsPrepared, Is
 use Rattle.registry.specs.Faces.{IsLookUp}
 use Rattle.registry.specs.Lapsing.{dues_lapsed, with_dues_lapsed}
 use Rattle.registry.specs.inner.Passing.{Extent, IsPassed, IsSettledAs, about_named, concerning, due_in, everything, lapsing, nothing, status_at}
-use Rattle.registry.specs.inner.Steps.{HasMoved, IsCarriedOut, IsMade, IsWithin}
+use Rattle.registry.specs.inner.Steps.{HasMoved, IsOrderCarriedOut, AreChangesMade, IsWithin}
 use Rattle.registry.proofs.LapseSteps.{same-lapse}
 use Rattle.registry.proofs.LapsingLemmas.{all-lapsed, each-as-some, has-concerned, objects_of, some-lapsed}
 use Rattle.registry.proofs.StepLemmas.{within-on, written}
@@ -144,7 +144,7 @@ pub executed : (p : PolicyRules) (r : ℕ) (c : Command) (moment clock : ℕ) (p
     (reply : Reply) (before mid looked after : Registry)
     → IsPassed p (concerning (Some r) (named_by c)) moment before mid clock → looked ≡ mid
     → IsPrepared p r c clock (facts p r c mid) prepared
-    → IsMade p prepared.changes prepared.reply looked after reply
+    → AreChangesMade p prepared.changes prepared.reply looked after reply
     → IsStep p r c moment before after reply
 executed p r c moment clock prepared reply before mid looked after is same by made =
     let clock-is : clock ≡ mid.clock = is.answer_is ∙ sym is.clock in
@@ -177,7 +177,7 @@ due-named p kind (Some name) t s = refl
 pub ordered : (p : PolicyRules) (o : StatusOrder) (moment clock : ℕ) (name : Option (List ℕ))
     (before mid after : Registry) (code : Code)
     → name ≡ name_ordered p.zone o → IsPassed p (about_named o.kind name) moment before mid clock
-    → IsCarriedOut p (status_at o name mid) mid after code
+    → IsOrderCarriedOut p (status_at o name mid) mid after code
     → IsOrderStep p (orders.Status o) moment before after code
 ordered p o moment clock name before mid after code named is made =
     let settled : IsSettledFor p o.kind (name_ordered p.zone o) mid = subst
@@ -199,7 +199,7 @@ ordered p o moment clock name before mid after code named is made =
 
 pub deposited : (p : PolicyRules) (id : List ℕ) (cents : ℤ) (moment clock : ℕ)
     (before mid after : Registry) (code : Code) → IsPassed p nothing moment before mid clock
-    → IsCarriedOut p (deposit_decision p clock id cents) mid after code
+    → IsOrderCarriedOut p (deposit_decision p clock id cents) mid after code
     → IsOrderStep p (orders.Deposit id cents) moment before after code
 deposited p id cents moment clock before mid after code is made = record {
   answered = made.answer_is ∙ ap (λ (t : ℕ). (deposit_decision p t id cents).code) is.answer_is;

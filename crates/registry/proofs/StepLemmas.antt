@@ -2,11 +2,11 @@
 use Rattle.std.proofs.Common.{◌≡◌, ◌<◌, ◌⊎◌, true, cond, Result, Ok, Err, sym, subst, ap, ◌∙◌, arith}
 use Rattle.model.specs.Registry.{Registry}
 use Rattle.registry.specs.inner.Steps.{IsWithin, Works}
-use Rattle.books.specs.Book.{BookFinds, BookReads, BookState, BookStays, BookWrites, Follows, GivesUp, IsBack, LeavesSame, Stored, WentBack}
+use Rattle.books.specs.Book.{BookFinds, BookReads, BookState, BookStays, BookWrites, Follows, GivesUp, IsBack, BookLeavesSame, Stored, WentBack}
 use Rattle.states.specs.declared.fault.BookFault.{BookFault}
 use Rattle.states.specs.declared.fault.BookFault.TheVariants.{Memory, Store}
 
-leaves-on : (old mid new : BookState) → LeavesSame old mid → LeavesSame mid new → LeavesSame old new
+leaves-on : (old mid new : BookState) → BookLeavesSame old mid → BookLeavesSame mid new → BookLeavesSame old new
 leaves-on old mid new first then = record {
   honest = λ honest. first.honest (then.honest honest);
   same = then.same ∙ first.same;

@@ -1,5 +1,5 @@
 //! How much of what is due still waits: a look-up in which no time passes.
-ghost use Rattle.std.specs.Prelude.{◌≡◌, max, length};
+ghost use Rattle.std.specs.Prelude.{◌≡◌, length};
 ghost use Rattle.registry.specs.Execution.{IsBacklog};
 
 use crate::work::Work;

@@ -2,7 +2,7 @@
 ghost use Rattle.std.specs.Prelude.{◌≡◌, true, IfOk};
 ghost use Rattle.accounts.specs.Account.{saturating_next};
 ghost use Rattle.registry.specs.Execution.{IsPrepared, IsStep};
-ghost use Rattle.registry.specs.inner.Steps.{BookFindsSome, IsMade, Works};
+ghost use Rattle.registry.specs.inner.Steps.{BookFindsSome, AreChangesMade, Works};
 ghost use Rattle.decisions.specs.Steps.{reply_of};
 ghost use Rattle.facts.specs.Facts.{facts};
 ghost use Rattle.rules.specs.ResponseData.{id_of};
@@ -102,7 +102,7 @@ fn make_prepared<B: Book>(
     policy: &Policy,
 ) -> Result<Reply, BookFault>
     requires { (B.state book.old).is_open ≡ true }
-    ensures { Works result (IsMade policy.now prepared.changes prepared.reply) (B.state book.old)
+    ensures { Works result (AreChangesMade policy.now prepared.changes prepared.reply) (B.state book.old)
         (B.state book.new) }
 {
     let Prepared { reply, changes } = prepared;

@@ -3,7 +3,7 @@ ghost use Rattle.std.specs.Prelude.{◌≡◌, true, option_and_then};
 ghost use Rattle.registry.specs.Execution.{IsOrderStep};
 ghost use Rattle.protocol.specs.declared.order.Order.TheVariants as orders;
 ghost use Rattle.registry.specs.inner.Passing.{status_at};
-ghost use Rattle.registry.specs.inner.Steps.{IsCarriedOut, Works};
+ghost use Rattle.registry.specs.inner.Steps.{IsOrderCarriedOut, Works};
 ghost use Rattle.decisions.specs.Orders.{deposit_decision};
 ghost use Rattle.books.specs.Book.{BookFinds};
 ghost use Rattle.model.specs.Objects.{object_at};
@@ -92,7 +92,7 @@ fn set_statuses<B: Book>(
     policy: &Policy,
 ) -> Result<Code, BookFault>
     requires { (B.state book.old).is_open ≡ true }
-    ensures { Works result (λ before after code. IsCarriedOut policy.now
+    ensures { Works result (λ before after code. IsOrderCarriedOut policy.now
         (status_at order.now name.now before) before after code) (B.state book.old)
         (B.state book.new) }
 {
@@ -112,7 +112,7 @@ fn deposit<B: Book>(
     policy: &Policy,
 ) -> Result<Code, BookFault>
     requires { (B.state book.old).is_open ≡ true }
-    ensures { Works result (IsCarriedOut policy.now
+    ensures { Works result (IsOrderCarriedOut policy.now
         (deposit_decision policy.now now registrar.now cents)) (B.state book.old)
         (B.state book.new) }
 {

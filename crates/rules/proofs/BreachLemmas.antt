@@ -10,7 +10,7 @@ use Rattle.protocol.specs.declared.command.Request.{Request}
 use Rattle.protocol.specs.declared.transfer.TransferOp.TheVariants as ops
 use Rattle.rules.specs.Causes.{cause_of}
 use Rattle.rules.specs.Conditions.{holds}
-use Rattle.rules.specs.Laws.{Keeps}
+use Rattle.rules.specs.Laws.{KeepsLaw}
 use Rattle.rules.specs.Rules.{table_of}
 use Rattle.rules.specs.declared.rules.Condition.{Condition}
 use Rattle.rules.proofs.RowLemmas.{StandsIn}
@@ -46,7 +46,7 @@ row-at Passes (first ∷ rest) each condition (inr further) = row-at Passes rest
 module _ (p : PolicyRules) (r t : ℕ) (f : Facts) where
   -- where the law of its cause is kept, the row doesn't hold
   abbrev IsBreach : Request → Condition → Type 0
-  IsBreach q condition = Keeps p r t q f (cause_of condition) → holds p r t q f condition ≡ false
+  IsBreach q condition = KeepsLaw p r t q f (cause_of condition) → holds p r t q f condition ≡ false
 
   each : (q : Request) → AllByRecursion (IsBreach q) (table_of q)
   each (InfoContact name secret) = (λ l. not_from_true _ (l.there tt), (λ l. l.shows refl, tt))
@@ -78,5 +78,5 @@ module _ (p : PolicyRules) (r t : ℕ) (f : Facts) where
   each _ = tt
 
   -- what holds and stands in the table of a request breaks the law of its cause
-  pub breaks : (q : Request) (condition : Condition) → StandsIn (table_of q) condition → Keeps p r t q f (cause_of condition) → holds p r t q f condition ≡ false
+  pub breaks : (q : Request) (condition : Condition) → StandsIn (table_of q) condition → KeepsLaw p r t q f (cause_of condition) → holds p r t q f condition ≡ false
   breaks q condition stands = row-at (IsBreach q) (table_of q) (each q) condition stands

@@ -15,7 +15,7 @@ use Rattle.protocol.specs.declared.transfer.TransferOp.TheVariants as ops
 use Rattle.rules.specs.Causes.{cause_of}
 use Rattle.rules.specs.Charges.{charge_of}
 use Rattle.rules.specs.Conditions.{holds, is_involved, presents_secret}
-use Rattle.rules.specs.Laws.{ActsOnObject, Alters, EndsTransfer, NamesAreKept, NothingExists, NothingIsMissing, IsEntitled, SecretIsRight, NoTransferIsPending, TransferIsThere, NoStatusProhibits, NoAssociationProhibits, IsRenewable, IsTransferable, ParametersFit, HoldsNoMore, IsPaid}
+use Rattle.rules.specs.Laws.{ActsOnObject, AltersObject, EndsTransfer, NamesAreKept, NothingExists, NothingIsMissing, IsEntitled, SecretIsRight, NoTransferIsPending, TransferIsThere, NoStatusProhibits, NoAssociationProhibits, IsRenewable, IsTransferable, ParametersFit, HoldsNoMore, IsPaid}
 use Rattle.rules.specs.Rules.{table_of}
 use Rattle.rules.specs.declared.refusal.Cause.TheVariants.{NamesRefused, Exists, Missing, NotSponsor, WrongSecret, TransferPends, NoTransferPends, StatusProhibits, AssociationProhibits, NotRenewable, NotTransferable, ParametersRefused, LimitReached, BillingFailure}
 use Rattle.rules.specs.declared.rules.Condition.{Condition}
@@ -87,7 +87,7 @@ module _ (p : PolicyRules) (r t : ℕ) (f : Facts) where
   acting actions.PollRequest is = absurd is
   acting _ is = search (inl, inr) depth 20
 
-  altering : (a : Action) → Alters a → OfEach (IsAnswered IsAnothers) a
+  altering : (a : Action) → AltersObject a → OfEach (IsAnswered IsAnothers) a
   altering actions.Logout is = absurd is
   altering actions.Balance is = absurd is
   altering actions.Check is = absurd is

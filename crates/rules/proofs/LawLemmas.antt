@@ -27,7 +27,7 @@ use Rattle.rules.specs.Causes.{cause_of}
 use Rattle.rules.specs.Charges.{years_charged, years_needed}
 use Rattle.rules.specs.Conditions.{holds, domain_in_full, full_domain}
 use Rattle.rules.specs.Deletion.{goes_at_once}
-use Rattle.rules.specs.Laws.{AnswersLawfully, KeepsLaws, SecretIsRight, Keeps}
+use Rattle.rules.specs.Laws.{AnswersLawfully, KeepsLaws, SecretIsRight, KeepsLaw}
 use Rattle.rules.specs.Poll.{code_of_poll}
 use Rattle.rules.specs.Refusals.{code_of, first_refusal}
 use Rattle.rules.specs.Rules.{table_of}
@@ -95,7 +95,7 @@ turns-law t f =
 
 module _ (p : PolicyRules) (r t : ℕ) (f : Facts) where
   -- what no row of its cause stands against is kept
-  keeps : (q : Request) (cause : Cause) → Clear p r t q f cause → Keeps p r t q f cause
+  keeps : (q : Request) (cause : Cause) → Clear p r t q f cause → KeepsLaw p r t q f cause
   keeps q NamesRefused clear = names-kept p r t f q clear
   keeps q Exists clear = nothing-exists p r t f q clear
   keeps q Missing clear = nothing-missing p r t f q clear

@@ -30,24 +30,24 @@ use Rattle.rules.specs.Conditions.{adds_known, domain_is_locked, expires_otherwi
 use Rattle.rules.specs.Refusals.{code_of, place_of}
 
 -- it changes, renews, deletes or restores an object, or answers who asks for one
-abbrev pub Alters : Action → Type 0
-Alters Logout = ⊥
-Alters Balance = ⊥
-Alters Check = ⊥
-Alters Info = ⊥
-Alters Create = ⊥
-Alters Delete = Unit {0}
-Alters Update = Unit {0}
-Alters Renew = Unit {0}
-Alters RequestRestore = Unit {0}
-Alters ReportRestore = Unit {0}
-Alters RequestTransfer = ⊥
-Alters QueryTransfer = ⊥
-Alters ApproveTransfer = Unit {0}
-Alters RejectTransfer = Unit {0}
-Alters CancelTransfer = ⊥
-Alters PollRequest = ⊥
-Alters PollAck = ⊥
+abbrev pub AltersObject : Action → Type 0
+AltersObject Logout = ⊥
+AltersObject Balance = ⊥
+AltersObject Check = ⊥
+AltersObject Info = ⊥
+AltersObject Create = ⊥
+AltersObject Delete = Unit {0}
+AltersObject Update = Unit {0}
+AltersObject Renew = Unit {0}
+AltersObject RequestRestore = Unit {0}
+AltersObject ReportRestore = Unit {0}
+AltersObject RequestTransfer = ⊥
+AltersObject QueryTransfer = ⊥
+AltersObject ApproveTransfer = Unit {0}
+AltersObject RejectTransfer = Unit {0}
+AltersObject CancelTransfer = ⊥
+AltersObject PollRequest = ⊥
+AltersObject PollAck = ⊥
 
 -- it acts on an object that has to be there
 abbrev pub ActsOnObject : Action → Type 0
@@ -120,7 +120,7 @@ pub record NothingIsMissing (p : PolicyRules) (q : Request) (f : Facts) : Type 0
 -- transfer is answered to the sponsor, to whom the last transfer names, and to who presents a secret
 -- (RFC 5730, 2.9.2.4). Its requester alone cancels a transfer (RFC 5730, 2.9.3.4).
 pub record IsEntitled (p : PolicyRules) (r : ℕ) (q : Request) (f : Facts) : Type 0 where
-  pub sponsor : Alters (asks_of q).action → is_of_another p.zone r q f ≡ false
+  pub sponsor : AltersObject (asks_of q).action → is_of_another p.zone r q f ≡ false
   pub creates_below_own : (new : NewHost) → q ≡ CreateHost new
       → holds_of (superordinate_is_anothers p.zone r) (host_to_be q f) ≡ false
   pub updates_below_own : (u : HostUpdate) → q ≡ UpdateHost u
@@ -226,32 +226,32 @@ pub record IsPaid (p : PolicyRules) (t : ℕ) (q : Request) (f : Facts) : Type 0
   pub paid : 0 < charge_of p t q f → pos (charge_of p t q f) ≤ℤ f.account.balance
 
 -- the law whose breach is the cause
-abbrev pub Keeps : PolicyRules → ℕ → ℕ → Request → Facts → Cause → Type 0
-Keeps p r t q f NamesRefused = NamesAreKept p q
-Keeps p r t q f Exists = NothingExists q f
-Keeps p r t q f Missing = NothingIsMissing p q f
-Keeps p r t q f NotSponsor = IsEntitled p r q f
-Keeps p r t q f WrongSecret = SecretIsRight r q f
-Keeps p r t q f TransferPends = NoTransferIsPending q f
-Keeps p r t q f NoTransferPends = TransferIsThere q f
-Keeps p r t q f StatusProhibits = NoStatusProhibits p q f
-Keeps p r t q f AssociationProhibits = NoAssociationProhibits q f
-Keeps p r t q f NotRenewable = IsRenewable t q f
-Keeps p r t q f NotTransferable = IsTransferable p r t q f
-Keeps p r t q f ParametersRefused = ParametersFit p q f
-Keeps p r t q f LimitReached = HoldsNoMore q f
-Keeps p r t q f BillingFailure = IsPaid p t q f
+abbrev pub KeepsLaw : PolicyRules → ℕ → ℕ → Request → Facts → Cause → Type 0
+KeepsLaw p r t q f NamesRefused = NamesAreKept p q
+KeepsLaw p r t q f Exists = NothingExists q f
+KeepsLaw p r t q f Missing = NothingIsMissing p q f
+KeepsLaw p r t q f NotSponsor = IsEntitled p r q f
+KeepsLaw p r t q f WrongSecret = SecretIsRight r q f
+KeepsLaw p r t q f TransferPends = NoTransferIsPending q f
+KeepsLaw p r t q f NoTransferPends = TransferIsThere q f
+KeepsLaw p r t q f StatusProhibits = NoStatusProhibits p q f
+KeepsLaw p r t q f AssociationProhibits = NoAssociationProhibits q f
+KeepsLaw p r t q f NotRenewable = IsRenewable t q f
+KeepsLaw p r t q f NotTransferable = IsTransferable p r t q f
+KeepsLaw p r t q f ParametersRefused = ParametersFit p q f
+KeepsLaw p r t q f LimitReached = HoldsNoMore q f
+KeepsLaw p r t q f BillingFailure = IsPaid p t q f
 
 -- a lawful request keeps the law of each cause
 abbrev pub IsLawful : PolicyRules → ℕ → ℕ → Request → Facts → Type 0
-IsLawful p r t q f = (cause : Cause) → Keeps p r t q f cause
+IsLawful p r t q f = (cause : Cause) → KeepsLaw p r t q f cause
 
 -- A request is refused with the code of the first cause whose law it breaks.
 pub record IsRefused (p : PolicyRules) (r t : ℕ) (q : Request) (f : Facts) (code : Code) : Type 0 where
   pub cause : Cause
   pub answer_is : code ≡ code_of cause
-  pub broken : Keeps p r t q f cause → ⊥
-  pub first : (other : Cause) → place_of other < place_of cause → Keeps p r t q f other
+  pub broken : KeepsLaw p r t q f cause → ⊥
+  pub first : (other : Cause) → place_of other < place_of cause → KeepsLaw p r t q f other
 
 -- A verdict on a request: what is carried out is lawful, what is lawful is carried out, and what is
 -- refused breaks the law that its code names. The years for which a report on a restoration charges

@@ -11,7 +11,7 @@ use Rattle.registry.proofs.CallsKept.{formed, paid}
 use Rattle.decisions.proofs.MoneyLaws.{money-lapsed}
 use Rattle.decisions.proofs.RegistryLemmas.{registry-lapsed}
 use Rattle.isolation.specs.Runs.{Answer, IsCall, Question, command, date, inspection, look_up, order}
-use Rattle.runs.specs.Runs.{Taken, Turn, AreTurns, IsAskedIn, IsTurn, call, calls_of, moment_of, settlement}
+use Rattle.runs.specs.Runs.{Taken, RunTurn, AreTurns, IsAskedIn, IsRunTurn, call, calls_of, moment_of, settlement}
 use Rattle.runs.specs.RunLaws.{RunsKeepMoney, RunsKeepRegistries}
 
 call-keeps : (p : PolicyRules) → IsSound p → (moment : ℕ) → moment ≤ last_clock → (q : Question) (a : Answer) (before after : Registry) → IsAskedIn p q before → IsCall p moment q before after a → IsRegistry p (now p before) → IsRegistry p (now p after)
@@ -21,7 +21,7 @@ call-keeps p sound moment early date a before after asked called is = formed p s
 call-keeps p sound moment early look_up a before after asked called is = formed p sound moment early look_up tt before after a called is
 call-keeps p sound moment early inspection a before after asked called is = formed p sound moment early inspection tt before after a called is
 
-turn-keeps : (p : PolicyRules) → IsSound p → (turn : Turn) (before after : Registry) → IsTurn p turn before after → IsRegistry p (now p before) → IsRegistry p (now p after)
+turn-keeps : (p : PolicyRules) → IsSound p → (turn : RunTurn) (before after : Registry) → IsRunTurn p turn before after → IsRegistry p (now p before) → IsRegistry p (now p after)
 turn-keeps p sound (call moment q a) before after taken is = call-keeps p sound moment taken.0 q a before after taken.1 taken.2 is
 turn-keeps p sound (settlement moment at_most done) before after taken is = subst (IsRegistry p) (sym taken.1.unnoticed) (registry-lapsed p moment before taken.0 is)
 
@@ -39,11 +39,11 @@ call-follows p sound moment early date a before after called is = paid p sound m
 call-follows p sound moment early look_up a before after called is = paid p sound moment early look_up before after a called
 call-follows p sound moment early inspection a before after called is = paid p sound moment early inspection before after a called
 
-turn-early : (p : PolicyRules) (turn : Turn) (before after : Registry) → IsTurn p turn before after → moment_of turn ≤ last_clock
+turn-early : (p : PolicyRules) (turn : RunTurn) (before after : Registry) → IsRunTurn p turn before after → moment_of turn ≤ last_clock
 turn-early p (call moment q a) before after taken = taken.0
 turn-early p (settlement moment at_most done) before after taken = taken.0
 
-turn-follows : (p : PolicyRules) → IsSound p → (turn : Turn) (before after : Registry) → IsTurn p turn before after → IsRegistry p (now p before) → MoneyFollows p (moment_of turn) (now p before) (now p after)
+turn-follows : (p : PolicyRules) → IsSound p → (turn : RunTurn) (before after : Registry) → IsRunTurn p turn before after → IsRegistry p (now p before) → MoneyFollows p (moment_of turn) (now p before) (now p after)
 turn-follows p sound (call moment q a) before after taken is = call-follows p sound moment taken.0 q a before after taken.2 is
 turn-follows p sound (settlement moment at_most done) before after taken is = subst (MoneyFollows p moment (now p before)) (sym taken.1.unnoticed) (money-lapsed p moment before)
 

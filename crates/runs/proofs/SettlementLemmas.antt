@@ -6,15 +6,15 @@ use Rattle.model.proofs.LapseLaws.{have-one-future, lapses-on}
 use Rattle.policy.specs.Rules.{PolicyRules}
 use Rattle.registry.specs.Execution.{IsSettlement}
 use Rattle.isolation.specs.Runs.{Answer, IsCall, Question, answer_to, effect_of}
-use Rattle.runs.specs.Runs.{Turn, Follow, IsLater, IsRun, answers_of, call, questions_of, settlement, settles_last}
+use Rattle.runs.specs.Runs.{RunTurn, Follow, IsLaterRegistry, IsRun, answers_of, call, questions_of, settlement, settles_last}
 use Rattle.runs.specs.RunLaws.{AnswersAreDetermined, SettlementsGoUnnoticed, SettlementsMayBeLeftOut}
 
-is-later-itself : (p : PolicyRules) (s : Registry) → IsLater p s s
+is-later-itself : (p : PolicyRules) (s : Registry) → IsLaterRegistry p s s
 is-later-itself p s = record { clock = omega arith; future = λ t late. refl }
 
 -- a settlement leaves a later registry
-settled-later : (p : PolicyRules) (moment at_most done : ℕ) (left before between : Registry) → IsLater p left before → IsSettlement p moment at_most before between done
-    → IsLater p left between × (between.clock ≡ max moment before.clock)
+settled-later : (p : PolicyRules) (moment at_most done : ℕ) (left before between : Registry) → IsLaterRegistry p left before → IsSettlement p moment at_most before between done
+    → IsLaterRegistry p left between × (between.clock ≡ max moment before.clock)
 settled-later p moment at_most done left before between later settled = (record { clock = omega (arith, later.clock, clock-is); future = future }, clock-is)
   where
     u : ℕ
@@ -31,7 +31,7 @@ settled-later p moment at_most done left before between later settled = (record 
         ∙ later.future t (omega (arith, clock-is, late))
 
 -- a call that isn't earlier finds the same registry
-same-found : (p : PolicyRules) (moment : ℕ) (left before : Registry) → IsLater p left before → before.clock ≤ max moment left.clock → lapsed p moment before ≡ lapsed p moment left
+same-found : (p : PolicyRules) (moment : ℕ) (left before : Registry) → IsLaterRegistry p left before → before.clock ≤ max moment left.clock → lapsed p moment before ≡ lapsed p moment left
 same-found p moment left before later early =
     ap (λ (t : ℕ). lapse p t before) clock-is ∙ later.future (max moment left.clock) early
   where
@@ -45,18 +45,18 @@ same-call p moment q a left before after same called = record {
 }
 
 -- what is left of a run without its settlements
-record LeftOut (p : PolicyRules) (last : Bool) (turns : List Turn) (before after : Registry) : Type 0 where
+record LeftOut (p : PolicyRules) (last : Bool) (turns : List RunTurn) (before after : Registry) : Type 0 where
   pub left : Registry
   pub run : IsRun p (questions_of turns) (answers_of turns) before left
-  pub later : IsLater p left after
+  pub later : IsLaterRegistry p left after
   pub same : settles_last last turns ≡ false → left ≡ after
 
-left-out : (p : PolicyRules) (last : Bool) (turns : List Turn) (left : Registry) (latest : ℕ) (before after : Registry) → IsLater p left before → before.clock ≤ max latest left.clock → (last ≡ false → left ≡ before)
+left-out : (p : PolicyRules) (last : Bool) (turns : List RunTurn) (left : Registry) (latest : ℕ) (before after : Registry) → IsLaterRegistry p left before → before.clock ≤ max latest left.clock → (last ≡ false → left ≡ before)
     → Follow p left latest turns before after → LeftOut p last turns left after
 left-out p last [] left latest before after later bound same follow = record {
   left = left;
   run = (refl, refl);
-  later = subst (IsLater p left) (sym follow) later;
+  later = subst (IsLaterRegistry p left) (sym follow) later;
   same = λ e. same e ∙ sym follow;
 }
 left-out p last (call moment q a ∷ turns) left latest before after later bound same follow =
@@ -71,7 +71,7 @@ left-out p last (call moment q a ∷ turns) left latest before after later bound
     }
 left-out p last (settlement moment at_most done ∷ turns) left latest before after later bound same follow =
     let between : Registry = follow.0 in
-    let next : IsLater p left between × (between.clock ≡ max moment before.clock) = settled-later p moment at_most done left before between later follow.1 in
+    let next : IsLaterRegistry p left between × (between.clock ≡ max moment before.clock) = settled-later p moment at_most done left before between later follow.1 in
     let rest : LeftOut p true turns left after = left-out p true turns left (max moment latest) between after next.0 (omega (arith, next.1, bound)) (λ e. let never : true ≡ false = e in cc) follow.2 in
     record { left = rest.left; run = rest.run; later = rest.later; same = rest.same }
 

@@ -15,7 +15,7 @@ use Rattle.isolation.specs.Alike.{Pair, AreAlikeInTurn, firsts, seconds}
 use Rattle.isolation.specs.Laws.{none}
 use Rattle.isolation.specs.Public.{IsPublic, PublicPart, public_part}
 use Rattle.isolation.specs.Runs.{Answer, IsCall, Question, code, command, date, dated, inspected, inspection, look_up, order, reply, shown}
-use Rattle.runs.specs.Runs.{Taken, Turn, AreTurns, IsLater, IsRun, IsSettledRun, answers_of, calls_of, questions_of, settles_last, answers_for}
+use Rattle.runs.specs.Runs.{Taken, RunTurn, AreTurns, IsLaterRegistry, IsRun, IsSettledRun, answers_of, calls_of, questions_of, settles_last, answers_for}
 
 -- ---- the steps of the registry's calls are calls of a run
 
@@ -58,10 +58,10 @@ InspectionsAreCalls X =
 -- after a settlement one that is later.
 abbrev pub SettlementsMayBeLeftOut : Type 0
 SettlementsMayBeLeftOut =
-    (p : PolicyRules) (turns : List Turn) (before after : Registry)
+    (p : PolicyRules) (turns : List RunTurn) (before after : Registry)
     → IsSettledRun p turns before after
     → (left : Registry) × IsRun p (questions_of turns) (answers_of turns) before left
-    × IsLater p left after × (settles_last false turns ≡ false → left ≡ after)
+    × IsLaterRegistry p left after × (settles_last false turns ≡ false → left ≡ after)
 
 -- the same questions in registries that are the same now have the same answers, and leave such
 abbrev pub AnswersAreDetermined : Type 0
@@ -74,7 +74,7 @@ AnswersAreDetermined =
 -- so are both registries from the later of their clocks on, or now, where a call was last in both.
 abbrev pub SettlementsGoUnnoticed : Type 0
 SettlementsGoUnnoticed =
-    (p : PolicyRules) (xs ys : List Turn) (s t x y : Registry)
+    (p : PolicyRules) (xs ys : List RunTurn) (s t x y : Registry)
     → now p s ≡ now p t → IsSettledRun p xs s x → IsSettledRun p ys t y
     → questions_of xs ≡ questions_of ys
     → (answers_of xs ≡ answers_of ys)

@@ -28,16 +28,16 @@ answers_for r (asked ∷ others) (a ∷ answers) = if is_asked_by r asked.1 then
 
 -- A call by its moment, its question and its answer; or a settlement by its moment, how many objects
 -- may lapse, and how many did.
-pub data Turn : Type 0 where
-  call : ℕ → Question → Answer → Turn
-  settlement : ℕ → ℕ → ℕ → Turn
+pub data RunTurn : Type 0 where
+  call : ℕ → Question → Answer → RunTurn
+  settlement : ℕ → ℕ → ℕ → RunTurn
 
-abbrev pub questions_of : List Turn → List (ℕ × Question)
+abbrev pub questions_of : List RunTurn → List (ℕ × Question)
 questions_of [] = []
 questions_of (call moment q a ∷ turns) = (moment, q) ∷ questions_of turns
 questions_of (settlement moment at_most done ∷ turns) = questions_of turns
 
-abbrev pub answers_of : List Turn → List Answer
+abbrev pub answers_of : List RunTurn → List Answer
 answers_of [] = []
 answers_of (call moment q a ∷ turns) = a ∷ answers_of turns
 answers_of (settlement moment at_most done ∷ turns) = answers_of turns
@@ -45,7 +45,7 @@ answers_of (settlement moment at_most done ∷ turns) = answers_of turns
 -- Turns one after another. `left` is the registry that the last call left, and `latest` the latest
 -- moment of a settlement since: none is later than the moment that the next call counts as, had there
 -- been no settlement.
-abbrev pub Follow : PolicyRules → Registry → ℕ → List Turn → Registry → Registry → Type 0
+abbrev pub Follow : PolicyRules → Registry → ℕ → List RunTurn → Registry → Registry → Type 0
 Follow p left latest [] before after = after ≡ before
 Follow p left latest (call moment q a ∷ turns) before after =
     (latest ≤ max moment left.clock) × (between : Registry) × IsCall p moment q before between a
@@ -54,17 +54,17 @@ Follow p left latest (settlement moment at_most done ∷ turns) before after =
     (between : Registry) × IsSettlement p moment at_most before between done
     × Follow p left (max moment latest) turns between after
 
-abbrev pub IsSettledRun : PolicyRules → List Turn → Registry → Registry → Type 0
+abbrev pub IsSettledRun : PolicyRules → List RunTurn → Registry → Registry → Type 0
 IsSettledRun p turns before after = Follow p before 0 turns before after
 
 -- whether a settlement is the last turn, where those before these ended with one or not
-abbrev pub settles_last : Bool → List Turn → Bool
+abbrev pub settles_last : Bool → List RunTurn → Bool
 settles_last last [] = last
 settles_last last (call moment q a ∷ turns) = settles_last false turns
 settles_last last (settlement moment at_most done ∷ turns) = settles_last true turns
 
 -- The clock may be later, and from then on both are one registry.
-pub record IsLater (p : PolicyRules) (earlier later : Registry) : Type 0 where
+pub record IsLaterRegistry (p : PolicyRules) (earlier later : Registry) : Type 0 where
   pub clock : earlier.clock ≤ later.clock
   pub future : (t : ℕ) → later.clock ≤ t → lapse p t later ≡ lapse p t earlier
 
@@ -79,24 +79,24 @@ IsAskedIn p look_up before = Unit {0}
 IsAskedIn p inspection before = Unit {0}
 
 -- no call is later than the last moment
-abbrev pub IsTurn : PolicyRules → Turn → Registry → Registry → Type 0
-IsTurn p (call moment q a) before after =
+abbrev pub IsRunTurn : PolicyRules → RunTurn → Registry → Registry → Type 0
+IsRunTurn p (call moment q a) before after =
     (moment ≤ last_clock) × IsAskedIn p q before × IsCall p moment q before after a
-IsTurn p (settlement moment at_most done) before after =
+IsRunTurn p (settlement moment at_most done) before after =
     (moment ≤ last_clock) × IsSettlement p moment at_most before after done
 
 -- a turn, and the registry that it left
 pub record Taken : Type 0 where
-  pub turn : Turn
+  pub turn : RunTurn
   pub left : Registry
 
 -- turns one after another, with settlements at any moments, each in the registry that the one before it left
 abbrev pub AreTurns : PolicyRules → List Taken → Registry → Registry → Type 0
 AreTurns p [] before after = after ≡ before
 AreTurns p (taken ∷ others) before after =
-    IsTurn p taken.turn before taken.left × AreTurns p others taken.left after
+    IsRunTurn p taken.turn before taken.left × AreTurns p others taken.left after
 
-abbrev pub moment_of : Turn → ℕ
+abbrev pub moment_of : RunTurn → ℕ
 moment_of (call moment q a) = moment
 moment_of (settlement moment at_most done) = moment
 

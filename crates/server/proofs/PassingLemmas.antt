@@ -1,5 +1,5 @@
 -- What a look-up leaves of a registry, and a call that gave up.
-use Rattle.std.proofs.Common.{ℕ, inl, inr, ap, refl}
+use Rattle.std.proofs.Common.{ℕ, inl, inr, ap}
 use Rattle.std.specs.Prelude.{Result, Ok, Err, IfErr, IfOk}
 use Rattle.books.specs.Book.{BookState, Stored}
 use Rattle.model.specs.Registry.{Registry}

@@ -6,7 +6,7 @@ use Rattle.model.specs.Registry.{Registry}
 use Rattle.model.specs.Zone.{zone_data}
 use Rattle.objects.specs.declared.zone.ZoneData.{ZoneData}
 use Rattle.policy.specs.Rules.{PolicyRules}
-use Rattle.zonefile.specs.ZoneText.{Stops, zone_text}
+use Rattle.zonefile.specs.ZoneText.{StopsWithin, zone_text}
 use Rattle.server.specs.declared.zone.ZoneExportFault.{ZoneExportFault}
 use Rattle.server.specs.declared.zone.ZoneExportFault.TheVariants as faults
 
@@ -26,4 +26,4 @@ zone_at p moment s = zone_data_text p (zone_data p.zone (lapsed p moment s))
 -- what went out of a zone before a fault: nothing if the registry gave up
 abbrev pub StopsAs : ZoneExportFault → Option (List ℕ) → Option (List ℕ) → List ℕ → Type 0
 StopsAs (faults.Registry fault) old new text = Appends old new []
-StopsAs (faults.Zone fault) old new text = Stops fault old new text
+StopsAs (faults.Zone fault) old new text = StopsWithin fault old new text

@@ -4,7 +4,7 @@ ghost use Rattle.std.specs.Io.KnownBytes.{Appends};
 ghost use Rattle.server.specs.ZoneExport.{StopsAs, serial_of, zone_at, zone_data_text};
 ghost use Rattle.server.specs.Http.{Passes};
 ghost use Rattle.server.specs.declared.zone.ZoneExportFault.TheVariants as faults;
-ghost use Rattle.zonefile.specs.ZoneText.{Stops};
+ghost use Rattle.zonefile.specs.ZoneText.{StopsWithin};
 
 use books::Book;
 use calendar::Moment;
@@ -73,7 +73,7 @@ fn write_data<W: Write>(
 ) -> Result<(), ZoneFault>
     ensures written { OnOk result (Appends (W.contents writer.old) (W.contents writer.new)
         (zone_data_text policy.now zone.now)) }
-    ensures begun { IfErr result (λ fault. Stops fault (W.contents writer.old) (W.contents writer.new)
+    ensures begun { IfErr result (λ fault. StopsWithin fault (W.contents writer.old) (W.contents writer.new)
         (zone_data_text policy.now zone.now)) }
 {
     write_zone(alloc, policy, serial_of(zone.moment), zone, writer)

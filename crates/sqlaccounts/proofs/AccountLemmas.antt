@@ -17,7 +17,7 @@ use Rattle.sqltables.specs.declared.account.AccountRow.{AccountRow}
 use Rattle.sqltables.specs.Content.{Content}
 use Rattle.sqltables.specs.inner.Content.{accounts_to}
 use Rattle.sqlaccounts.specs.Accounts.{account_of_row, accounts_of, balance_in, entries_of, has_right_sums, ident_and_held, ident_and_held_of, is_right, lines_under, queue_under, row_of, sums_are_right}
-use Rattle.sqlaccounts.specs.inner.Changes.{AreOthersKept, IsChange, IsCounted, counters_in, with_account_changed}
+use Rattle.sqlaccounts.specs.inner.Changes.{AreOthersKept, IsChange, HasNewCounters, counters_in, with_account_changed}
 use Rattle.accounts.specs.Counters.{counters_of, with_counters}
 use Rattle.accounts.specs.declared.counters.Counters.{Counters}
 use Rattle.sqlrows.proofs.RowLemmas.{all-insert_by, all_with, get_by-insert_by}
@@ -241,7 +241,7 @@ module _ (xs ys : Content) (r : ℕ) (f : Account → Account) (row new : Accoun
   }
 
 -- the counters alone
-pub counted : (xs : Content) (r : ℕ) (x : Counters) (row new : AccountRow) → is_place r ≡ true → Some row ≡ row_of xs (pos r) → IsCounted x row new
+pub counted : (xs : Content) (r : ℕ) (x : Counters) (row new : AccountRow) → is_place r ≡ true → Some row ≡ row_of xs (pos r) → HasNewCounters x row new
     → IsChange r (with_counters x) xs (accounts_to (λ rows. insert_by key rows new) xs)
 counted xs r x row new place found it =
     let ys : Content = accounts_to (λ rows. insert_by key rows new) xs in

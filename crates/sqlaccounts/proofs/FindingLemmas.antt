@@ -19,12 +19,12 @@ use Rattle.accounts.specs.Lines.{in_order, is_line, is_of, is_on, is_same_roid}
 use Rattle.accounts.proofs.LineLaws.{itself-roid, line-told, same-in_order, same-roids}
 use Rattle.basis.specs.Bag.{same}
 use Rattle.sqlcolumns.specs.Lines.{line_of_columns, maybe_domain_in}
-use Rattle.sqlcolumns.specs.Numbers.{counter_column, exact_in, maybe_moment_in, moment_in_column, registrar_column, years_in_column}
-use Rattle.sqlcolumns.specs.Codes.{kind_in}
+use Rattle.sqlcolumns.specs.Numbers.{counter_column, registrar_column}
 use Rattle.sqlcolumns.specs.Roids.{roid_in}
 use Rattle.sqlcolumns.specs.Steps.{◌>>=◌}
+use Rattle.sqlcolumns.proofs.LineLemmas.{is_read}
 use Rattle.sqlcolumns.proofs.NumberLemmas.{registrar_back, registrar_written, serial_back, serial_written}
-use Rattle.sqlcolumns.proofs.ReadLemmas.{same_some, some_read, step}
+use Rattle.sqlcolumns.proofs.ReadLemmas.{same_some, some_read}
 use Rattle.sqlcolumns.proofs.RoidLemmas.{roid_read}
 use Rattle.sqltables.specs.Line.{line_with_account}
 use Rattle.sqltables.specs.declared.line.LineRow.{LineRow}
@@ -67,23 +67,10 @@ module _ (roid : Roid) (is : IsDomainRoid roid) where
   of_columns (Some c) (Some s) o e =
       some_read (roid_in Domain c s) o (λ m. is_of roid m ≡ (int_eq c (registrar_column roid.creator) && int_eq s (counter_column roid.serial))) (λ x read. same_columns c s x read) e
 
--- the domain that a row's line is on
-domain_read : (row : LineRow) (line : Line) → line_of_columns row ≡ Some line → maybe_domain_in row.creator row.serial ≡ Some line.roid
-domain_read row line e =
-    let kind = step (kind_in row.kind) _ line e in
-    let roid = step (maybe_domain_in row.creator row.serial) _ line kind.rest in
-    let recorded = step (moment_in_column row.recorded) _ line roid.rest in
-    let years = step (years_in_column row.years) _ line recorded.rest in
-    let cents = step (exact_in row.cents) _ line years.rest in
-    let started = step (maybe_moment_in row.grace.started) _ line cents.rest in
-    let refunded = step (maybe_moment_in row.refunded) _ line started.rest in
-    let same : ◌≡◌ {A = Line} (record { kind = kind.given; roid = roid.given; recorded = recorded.given; years = years.given; cents = cents.given; started = started.given; refunded = refunded.given }) line = same_some _ _ refunded.rest in
-    roid.is ∙ λ i. Some ((same i).roid)
-
 -- a row that reads is on the domain by its columns
 pub on-row : (roid : Roid) → IsDomainRoid roid → (row : LineRow) (line : Line) → line_of_columns row ≡ Some line
     → is_on roid line ≡ (points_to row.creator (registrar_column roid.creator) && points_to row.serial (counter_column roid.serial))
-on-row roid is row line e = of_columns roid is row.creator row.serial line.roid (domain_read row line e)
+on-row roid is row line e = of_columns roid is row.creator row.serial line.roid ((is_read row line e).roid)
 
 -- a line's row is among those that are looked at
 about : (r : ℕ) (o : Option Roid) (row : LineRow) (line : Line) → line.roid ≡ o → IfSome o IsDomainRoid → line_with_account (registrar_column r) row ≡ true → line_of_columns row ≡ Some line

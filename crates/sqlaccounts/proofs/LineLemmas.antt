@@ -26,7 +26,7 @@ use Rattle.sqltables.specs.declared.line.LineRow.{LineRow}
 use Rattle.sqltables.specs.Line.{line_with_account}
 use Rattle.sqltables.specs.Message.{message_with_account}
 use Rattle.sqlaccounts.specs.Accounts.{balance_in, ident_and_held, lines_under, put_all, queue_under, row_of}
-use Rattle.sqlaccounts.specs.inner.Changes.{AreOthersKept, IsChange, IsPaid, IsWritten}
+use Rattle.sqlaccounts.specs.inner.Changes.{AreOthersKept, IsChange, IsBalanceChanged, IsWritten}
 use Rattle.sqlaccounts.proofs.AccountLemmas.{changed}
 use Rattle.sqlaccounts.proofs.BagLemmas.{bag-middle}
 use Rattle.sqlaccounts.proofs.FindingLemmas.{equal}
@@ -83,7 +83,7 @@ both-less x y a =
 
 -- ---- another balance beside other lines
 
-pub repaid : (xs ys : Content) (r : ℕ) (change : List Line → List Line) (cents : ℤ) (row new : AccountRow) → is_place r ≡ true → Some row ≡ row_of xs (pos r) → IsPaid cents row new
+pub repaid : (xs ys : Content) (r : ℕ) (change : List Line → List Line) (cents : ℤ) (row new : AccountRow) → is_place r ≡ true → Some row ≡ row_of xs (pos r) → IsBalanceChanged cents row new
     → ys.accounts ≡ insert_by account_table.accounts.key xs.accounts new → ys.messages ≡ xs.messages → ((id : ℤ) → int_eq (pos r) id ≡ false → lines_under ys id ≡ lines_under xs id)
     → lines_under ys (pos r) ≡ change (lines_under xs (pos r)) → int_eq (balance_in row.balance +ℤ cents) (balance (lines_under ys (pos r))) ≡ int_eq (balance_in row.balance) (balance (lines_under xs (pos r)))
     → AreOthersKept xs ys → IsChange r (with_lines change) xs ys
@@ -104,7 +104,7 @@ repaid xs ys r change cents row new place found paid put messages elsewhere here
 -- ---- one line more
 
 pub added : (xs : Content) (r : ℕ) (line : Line) (ends : Option ℤ) (row new : AccountRow) (it : LineRow) → is_place r ≡ true → Some row ≡ row_of xs (pos r)
-    → IsPaid (amount line) row new → IsWritten r line ends it
+    → IsBalanceChanged (amount line) row new → IsWritten r line ends it
     → IsChange r (with_lines (add in_order line)) xs (lines_to (appended table.lines (λ id. record it { id = id })) (accounts_to (λ rows. insert_by account_table.accounts.key rows new) xs))
 added xs r line ends row new it place found paid written =
     let x : LineRow = record it { id = next_key (λ (y : LineRow). y.id) xs.lines } in

@@ -20,7 +20,7 @@ use Rattle.sqltables.specs.declared.line.LineRow.{LineRow}
 use Rattle.sqltables.specs.inner.Consistent.{IsConsistent}
 use Rattle.sqlcolumns.proofs.ReadLemmas.{same_some}
 use Rattle.sqlaccounts.specs.Accounts.{account_of_row, balance_in, lines_under, row_of}
-use Rattle.sqlaccounts.specs.inner.Changes.{IsChange, IsPaid, without_line_row}
+use Rattle.sqlaccounts.specs.inner.Changes.{IsChange, IsBalanceChanged, without_line_row}
 use Rattle.sqlaccounts.specs.inner.Finding.{IsDomainRoid, is_row_about, reads_as}
 use Rattle.sqlaccounts.proofs.AccountLemmas.{unchanged}
 use Rattle.sqlaccounts.proofs.FindingLemmas.{equal, found, none-there, own-row, parts, reads}
@@ -38,7 +38,7 @@ not-taken xs r line row place there is none =
 -- ---- one row less
 
 removed : (xs : Content) (r : ℕ) (line : Line) (row new : AccountRow) (it : LineRow) → IsKeyedBy (λ (x : LineRow). x.id) xs.lines → is_place r ≡ true → Some row ≡ row_of xs (pos r)
-    → IsPaid (pos 0 -ℤ amount line) row new → find (reads_as line) (filter (is_row_about r line.roid) xs.lines) ≡ Some it
+    → IsBalanceChanged (pos 0 -ℤ amount line) row new → find (reads_as line) (filter (is_row_about r line.roid) xs.lines) ≡ Some it
     → IsChange r (with_lines (taken in_order line)) xs (without_line_row it.id new xs)
 removed xs r line row new it up place there paid finds =
     let ys : Content = without_line_row it.id new xs in
@@ -58,7 +58,7 @@ removed xs r line row new it up place there paid finds =
 
 -- by its number
 pub taken-out : (xs : Content) (r : ℕ) (line : Line) (row new : AccountRow) (rows : List LineRow) (id : ℤ) → IsConsistent xs → is_place r ≡ true → Some row ≡ row_of xs (pos r)
-    → IsPaid (pos 0 -ℤ amount line) row new → rows ≡ filter (is_row_about r line.roid) xs.lines → Some id ≡ option_map (λ (x : LineRow). x.id) (find (reads_as line) rows)
+    → IsBalanceChanged (pos 0 -ℤ amount line) row new → rows ≡ filter (is_row_about r line.roid) xs.lines → Some id ≡ option_map (λ (x : LineRow). x.id) (find (reads_as line) rows)
     → IsChange r (with_lines (taken in_order line)) xs (without_line_row id new xs)
 taken-out xs r line row new rows id consistent place there paid are finds =
     go (find (reads_as line) (filter (is_row_about r line.roid) xs.lines)) refl (finds ∙ ap (λ rs. option_map (λ (x : LineRow). x.id) (find (reads_as line) rs)) are)

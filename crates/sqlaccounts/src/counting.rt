@@ -1,7 +1,7 @@
 //! What an account counts.
 ghost use Rattle.std.specs.Prelude.{◌≡◌, true};
 ghost use Rattle.sqlaccounts.specs.Accounts.{account_of_rows, sums_are_right};
-ghost use Rattle.sqlaccounts.specs.inner.Changes.{IsChange, IsCounted, counters_in};
+ghost use Rattle.sqlaccounts.specs.inner.Changes.{IsChange, HasNewCounters, counters_in};
 ghost use Rattle.accounts.specs.Counters.{counters_of, with_counters};
 ghost use Rattle.sqlrows.specs.Meanings.{FindsIfRight, Changes};
 
@@ -58,7 +58,7 @@ pub fn set_counters<S: Alter>(
 }
 
 fn with_counters(row: AccountRow, counters: Counters) -> AccountRow
-    ensures { IsCounted counters row result }
+    ensures { HasNewCounters counters row result }
 {
     let mut row = row;
     row.commands = counter_column(counters.commands);

@@ -3,7 +3,7 @@ ghost use Rattle.std.specs.Prelude.{◌≡◌, ◌⊎◌, ◌+ℤ◌, ◌-ℤ◌
 ghost use Rattle.std.specs.Int.{w128};
 ghost use Rattle.accounts.specs.Lines.{amount};
 ghost use Rattle.sqlaccounts.specs.Accounts.{balance_in};
-ghost use Rattle.sqlaccounts.specs.inner.Changes.{IsPaid};
+ghost use Rattle.sqlaccounts.specs.inner.Changes.{IsBalanceChanged};
 
 use accounts::Line;
 use sqltables::{AccountRow, bytes_of_balance};
@@ -11,7 +11,7 @@ use states::BookFault;
 
 /// The row with so many cents more.
 pub(crate) fn paid(row: AccountRow, cents: i128) -> Result<AccountRow, BookFault>
-    ensures paid { IfOk result (IsPaid cents row) }
+    ensures paid { IfOk result (IsBalanceChanged cents row) }
     ensures fits { OnErr result (¬ FitsSigned w128 (balance_in row.balance +ℤ cents)) }
 {
     let mut row = row;
@@ -24,7 +24,7 @@ pub(crate) fn paid(row: AccountRow, cents: i128) -> Result<AccountRow, BookFault
 
 /// The row without what a line is worth.
 pub(crate) fn paid_back(row: AccountRow, line: &Line) -> Result<AccountRow, BookFault>
-    ensures paid { IfOk result (IsPaid (pos 0 -ℤ amount line.now) row) }
+    ensures paid { IfOk result (IsBalanceChanged (pos 0 -ℤ amount line.now) row) }
     ensures fits { OnErr result ((¬ FitsSigned w128 (pos 0 -ℤ amount line.now))
         ⊎ (¬ FitsSigned w128 (balance_in row.balance +ℤ (pos 0 -ℤ amount line.now)))) }
 {

@@ -1,7 +1,7 @@
 //! Lines as rows that read as these lines.
 ghost use Rattle.std.specs.Prelude.{◌↔◌, IsTrue, IfOk, IfSome};
 ghost use Rattle.calendar.specs.Moment.{IsMoment};
-ghost use Rattle.sqlcolumns.specs.inner.Lines.{IsLine};
+ghost use Rattle.sqlcolumns.specs.inner.Lines.{IsStorableLine};
 ghost use Rattle.sqlcolumns.specs.Roids.{IsRoid};
 ghost use Rattle.sqlaccounts.specs.inner.Changes.{IsWritten};
 
@@ -33,7 +33,7 @@ pub(crate) fn written(
 
 /// Whether a line's domain, if it has one, has an identifier that reads.
 fn is_line(line: &Line) -> bool
-    ensures { IsTrue result ↔ IsLine line.now }
+    ensures { IsTrue result ↔ IsStorableLine line.now }
 {
     let _years = line.years;
     show_moment(Some(line.recorded));

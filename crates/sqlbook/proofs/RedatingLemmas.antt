@@ -1,11 +1,10 @@
 -- A deleted domain that is put again beside another moment.
-use Rattle.std.proofs.Common.{◌≡◌, ◌||◌, ℕ, Bool, true, false, int_eq, is_some, pos, List, Option, Some, None, option_map, refl, sym, ap, subst, ◌∙◌}
+use Rattle.std.proofs.Common.{◌≡◌, ◌||◌, ℕ, true, false, int_eq, is_some, pos, List, Option, Some, None, option_map, refl, sym, ap, ◌∙◌}
 use Rattle.std.specs.Cmp.Lexicographic.{nat_list_cmp_total, slice_cmp}
 use Rattle.std.specs.FinMap.{FinMap, get, nat_cmp-IsAntisymmetric, slice_cmp-IsAntisymmetric}
 use Rattle.std.specs.Option.{option_map_or}
 use Rattle.std.specs.Ordering.{nat_cmp}
 use Rattle.calendar.specs.Moment.{capped}
-use Rattle.sqlite_rules.specs.Lists.{Has}
 use Rattle.lifecycle.specs.Lapse.{completes_at, earlier}
 use Rattle.lifecycle.specs.Periods.{rules_with}
 use Rattle.lifecycle.specs.Phases.{purge_at}
@@ -23,7 +22,7 @@ use Rattle.sqldomains.specs.Domains.{domain_read, domains_of}
 use Rattle.sqlderived.specs.Redates.{is_live_right}
 use Rattle.sqlbook.specs.Meaning.{stored_of}
 use Rattle.sqlbook.specs.inner.Replacing.{IsCheckedDomain, IsReplaced}
-use Rattle.sqlbook.specs.inner.Suiting.{IsDeleted, MeansSame, end_of}
+use Rattle.sqlbook.specs.inner.Suiting.{IsOneDeleted, MeansSame, end_of}
 use Rattle.sqlbook.proofs.ObjectLemmas.{live-of-reading}
 use Rattle.sqlbook.proofs.ReplacingLemmas.{reading-is, reads-after, replaced, replaced-days, replaced-lines, replaced-right}
 
@@ -35,13 +34,13 @@ found-put m name d is =
     ∙ put-back (slice_cmp nat_cmp) nat_list_cmp_total (slice_cmp-IsAntisymmetric nat_cmp-IsAntisymmetric) m name (Some d)
 
 -- the row of a deleted domain is right by any lengths
-deleted-right : (xs : Content) (row : DomainRow) (o : Option Domain) → domain_read xs row ≡ o → IsDeleted o → is_live_right xs row ≡ true
+deleted-right : (xs : Content) (row : DomainRow) (o : Option Domain) → domain_read xs row ≡ o → IsOneDeleted o → is_live_right xs row ≡ true
 deleted-right xs row None reads is = absurd is
 deleted-right xs row (Some d) reads is =
     ap (λ o. option_map_or (λ (x : Domain). is_some x.deletion || int_eq row.due (pos (capped (earlier (expiry x) (completes_at x.transfer))))) o false) reads
     ∙ ap (λ b. b || int_eq row.due (pos (capped (earlier (expiry d) (completes_at d.transfer))))) is
 
-pub deleted-checked : (name : List ℕ) (xs : Content) (o : Option Domain) → IsConsistent xs → get (domains_of xs) name ≡ o → IsDeleted o → IsCheckedDomain name is_live_right xs o
+pub deleted-checked : (name : List ℕ) (xs : Content) (o : Option Domain) → IsConsistent xs → get (domains_of xs) name ≡ o → IsOneDeleted o → IsCheckedDomain name is_live_right xs o
 deleted-checked name xs o consistent there is = record {
   domain_is = there;
   right_is = λ row here named. deleted-right xs row o (reading-is xs row consistent here ∙ ap (get (domains_of xs)) named ∙ there) is;

@@ -45,13 +45,13 @@ numbered-if xs terms [] is e some = absurd (let never : ◌≡◌ {A = Option Te
 numbered-if xs terms (meta ∷ more) is e some = e
 
 found-again : (new : StateOf Content) (refused : ℕ) (left : Remains Content) → are_right left.content ≡ true → new.is_clean ≡ true → new.before ≡ new.content
-    → rows.IsFoundAgain left.readiness left.content new.readiness new.content → IsFoundAgain left.readiness (stored_of left.content) (book_state (as_book stored_of are_right new) refused)
+    → rows.IsContentFoundAgain left.readiness left.content new.readiness new.content → IsFoundAgain left.readiness (stored_of left.content) (book_state (as_book stored_of are_right new) refused)
 found-again new refused left right clean home found = go left.readiness found
   where
     consistent : new.content ≡ left.content → (new.is_clean && are_right new.before) ≡ true
     consistent same = ap (λ b. b && are_right new.before) clean ∙ ap are_right (home ∙ same) ∙ right
 
-    go : (r : Ready) → rows.IsFoundAgain r left.content new.readiness new.content → IsFoundAgain r (stored_of left.content) (book_state (as_book stored_of are_right new) refused)
+    go : (r : Ready) → rows.IsContentFoundAgain r left.content new.readiness new.content → IsFoundAgain r (stored_of left.content) (book_state (as_book stored_of are_right new) refused)
     go Empty it = record { ready = it.0; content = ap stored_of it.1; clean = consistent it.1 }
     go Used it = λ terms some.
         let same = it (numbered-if left.content terms left.content.metas refl (and_parts (may_be_numbered left.content.metas) _ right).0 some) in

@@ -43,7 +43,7 @@ use Rattle.sqlbook.specs.Meaning.{are_right, stored_of}
 use Rattle.states.specs.declared.fault.BookFault.{BookFault}
 use Rattle.states.specs.States.{FindsSome, Reads, StateOf}
 use Rattle.sqlrows.proofs.StateLemmas.{reads-on, stays-on}
-use Rattle.sqlbook.specs.inner.Replacing.{IsCheckedDomain, IsExchangedThere, IsReplaced, IsUnder, due_with}
+use Rattle.sqlbook.specs.inner.Replacing.{IsCheckedDomain, IsExchangedThere, IsReplaced, IsUnderDays, due_with}
 use Rattle.sqlbook.specs.inner.Suiting.{are_right_by}
 use Rattle.sqlbook.proofs.DomainLemmas.{domain-changed, held-put, rights-put, sums-put}
 use Rattle.sqlbook.proofs.ObjectLemmas.{IsOfReading, due-of-reading, rights-where}
@@ -143,7 +143,7 @@ module _ (name : List ℕ) (right : Content → DomainRow → Bool) (after : Opt
 
 -- ---- a domain that is due when its row says
 
-pub under-right : (days : Schedule) (xs : Content) (row : DomainRow) → IsUnder days xs → is_due_right days xs row ≡ true → has_right_due xs row ≡ true
+pub under-right : (days : Schedule) (xs : Content) (row : DomainRow) → IsUnderDays days xs → is_due_right days xs row ≡ true → has_right_due xs row ≡ true
 under-right days xs row under is = go (days_of_rows xs) under
   where
     go : (o : Option Schedule) → IfSome o (λ d. d ≡ days) → option_map_or (λ ds. is_due_right ds xs row) o true ≡ true
@@ -160,7 +160,7 @@ equal-columns a n e = ap (λ z. int_eq z (pos n)) e ∙ itself (pos n)
 abbrev pub IsDueThen : Schedule → ℕ → Option Domain → Type 0
 IsDueThen days due after = (d : Domain) → after ≡ Some d → due ≡ capped (due_at (rules_with days) d)
 
-module _ (name : List ℕ) (days : Schedule) (after : Option Domain) (due : ℕ) (old new : Content) (under : IsUnder days old) (it : IsReplaced name has_right_due after due old new) (is_due : IsDueThen days due after) where
+module _ (name : List ℕ) (days : Schedule) (after : Option Domain) (due : ℕ) (old new : Content) (under : IsUnderDays days old) (it : IsReplaced name has_right_due after due old new) (is_due : IsDueThen days due after) where
   row-is : (row : DomainRow) → Has new.domains row → row.name ≡ name → is_due_right days new row ≡ true
   row-is row here named = go after refl
     where
@@ -179,9 +179,9 @@ module _ (name : List ℕ) (days : Schedule) (after : Option Domain) (due : ℕ)
       (λ row here named. under-right days new row (subst (λ o. IfSome o (λ d. d ≡ days)) (sym (replaced-days name has_right_due after due old new it)) under) (row-is row here named))
 
 -- a domain that was found under lengths that are those that were put down
-pub found-under : (name : List ℕ) (days : Schedule) (a b c : StateOf Content) → Reads a b × (b.is_clean ≡ true → IsUnder days a.content) → (r : Result (Option Domain) BookFault)
+pub found-under : (name : List ℕ) (days : Schedule) (a b c : StateOf Content) → Reads a b × (b.is_clean ≡ true → IsUnderDays days a.content) → (r : Result (Option Domain) BookFault)
     → FindsSome r (λ domain. (get (domains_of b.content) name ≡ domain) × ((row : DomainRow) → Has b.content.domains row → row.name ≡ name → is_due_right days b.content row ≡ true)) b c
-    → FindsSome r (λ domain. IsUnder days a.content × IsCheckedDomain name has_right_due a.content domain) a c
+    → FindsSome r (λ domain. IsUnderDays days a.content × IsCheckedDomain name has_right_due a.content domain) a c
 found-under name days a b c asked (Err fault) met = stays-on a b c asked.0 met
 found-under name days a b c asked (Ok domain) met = (
   reads-on a b c asked.0 met.0,

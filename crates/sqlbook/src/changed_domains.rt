@@ -4,7 +4,7 @@ ghost use Rattle.books.specs.Tables as tables;
 ghost use Rattle.sqlrows.specs.Meanings.{Changes};
 ghost use Rattle.states.specs.States.{FindsSome};
 ghost use Rattle.sqlbook.specs.Meaning.{are_right, stored_of};
-ghost use Rattle.sqlbook.specs.inner.Replacing.{IsCheckedDomain, IsExchanged, IsExchangedThere, IsReplaced, IsUnder, due_with};
+ghost use Rattle.sqlbook.specs.inner.Replacing.{IsCheckedDomain, IsExchanged, IsExchangedThere, IsReplaced, IsUnderDays, due_with};
 ghost use Rattle.sqlderived.specs.Dues.{has_right_due};
 ghost use Rattle.sqlbook.specs.AsBook.{MakesAs};
 ghost use Rattle.sqldomains.specs.inner.Changes.{IsDomainPut, sponsor_in};
@@ -59,7 +59,7 @@ fn found<S: Alter>(
     name: &Text,
     policy: &Policy,
 ) -> Result<Option<Domain>, BookFault>
-    ensures { FindsSome result (λ domain. IsUnder policy.now.days store.old.content
+    ensures { FindsSome result (λ domain. IsUnderDays policy.now.days store.old.content
         × IsCheckedDomain name.now has_right_due store.old.content domain) store.old store.new }
 {
     same_days(store, alloc, policy.schedule())?;
@@ -76,7 +76,7 @@ fn replace<S: Alter>(
     policy: &Policy,
 ) -> Result<(), BookFault>
     requires { store.old.is_open ≡ true }
-    ensures { Changes result (λ old new. IsUnder policy.now.days old
+    ensures { Changes result (λ old new. IsUnderDays policy.now.days old
         × IsReplaced name.now has_right_due after.now due old new) store.old store.new }
 {
     set_sponsor_below(store, name, sponsor_of(after))?;
@@ -103,7 +103,7 @@ fn exchange_there<S: Alter>(
     policy: &Policy,
 ) -> Result<(), BookFault>
     requires { store.old.is_open ≡ true }
-    ensures { Changes result (λ old new. IsUnder policy.now.days old
+    ensures { Changes result (λ old new. IsUnderDays policy.now.days old
         × IsExchangedThere name.now has_right_due after.now due old new) store.old store.new }
 {
     store.show_consistent();

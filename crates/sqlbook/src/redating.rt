@@ -4,7 +4,7 @@ ghost use Rattle.sqlrows.specs.Meanings.{Changes};
 ghost use Rattle.states.specs.States.{FindsSome};
 ghost use Rattle.sqlderived.specs.Redates.{is_live_right};
 ghost use Rattle.sqlbook.specs.inner.Replacing.{IsCheckedDomain, IsExchangedThere, IsReplaced};
-ghost use Rattle.sqlbook.specs.inner.Suiting.{IsDeleted, MeansSame, end_of};
+ghost use Rattle.sqlbook.specs.inner.Suiting.{IsOneDeleted, MeansSame, end_of};
 
 use crate::changed_domains::{exchange, sponsor_of};
 use basis::text::Text;
@@ -135,7 +135,7 @@ fn found<S: Alter>(
 }
 
 fn is_deleted(domain: &Option<Domain>) -> bool
-    ensures { result ≡ true → IsDeleted domain.now }
+    ensures { result ≡ true → IsOneDeleted domain.now }
 {
     match domain {
         None => false,

@@ -7,7 +7,7 @@ use Rattle.objects.specs.declared.roid.ObjectKind.TheVariants as kinds
 use Rattle.objects.specs.declared.transfer.Transfer.{Transfer}
 use Rattle.sqltables.specs.declared.domain.DomainRow.{DomainRow}
 use Rattle.sqlcolumns.specs.declared.domain.DeletionColumns.{DeletionColumns}
-use Rattle.sqlcolumns.specs.inner.Domains.{IsDeletion, IsDomain, deletion_columns, domain_registration, domain_row_with, row_of_domain}
+use Rattle.sqlcolumns.specs.inner.Domains.{IsStorableDeletion, IsDomain, deletion_columns, domain_registration, domain_row_with, row_of_domain}
 use Rattle.sqlcolumns.specs.Domains.{deletion_in, domain_of_columns, domain_registration_columns, domain_with, some_deletion_in}
 use Rattle.sqlcolumns.specs.Numbers.{maybe_moment_in, moment_in_column, years_in_column}
 use Rattle.sqlcolumns.specs.Registrations.{registration_columns, registration_in}
@@ -23,7 +23,7 @@ use Rattle.sqlcolumns.proofs.TextLemmas.{statuses_back}
 abbrev read_deletion : DeletionColumns → Option (Option Deletion)
 read_deletion columns = deletion_in columns.deleted columns.restore_requested
 
-pub deletion_back : (d : Option Deletion) → IfSome d IsDeletion → read_deletion (deletion_columns d) ≡ Some d
+pub deletion_back : (d : Option Deletion) → IfSome d IsStorableDeletion → read_deletion (deletion_columns d) ≡ Some d
 deletion_back None is = refl
 deletion_back (Some d) is =
     λ i. moment_back d.deleted is.deleted i >>= (λ m.
@@ -52,7 +52,7 @@ no_deletion deleted restore_requested e =
     let some : ◌≡◌ {A = Option Deletion} (Some (record { deleted = m.given; restore_requested = r.given })) None = same_some _ _ r.rest in
     cc
 
-pub deletion_is : (deleted restore_requested : Option ℤ) (d : Option Deletion) → deletion_in deleted restore_requested ≡ Some d → IfSome d IsDeletion
+pub deletion_is : (deleted restore_requested : Option ℤ) (d : Option Deletion) → deletion_in deleted restore_requested ≡ Some d → IfSome d IsStorableDeletion
 deletion_is None None None e = tt
 deletion_is None None (Some d) e = cc
 deletion_is None (Some r) d e = cc

@@ -11,7 +11,7 @@ use Rattle.sqlcolumns.specs.Codes.{kind_column, kind_in}
 use Rattle.sqlcolumns.specs.Numbers.{exact_column, exact_in, maybe_moment_column, maybe_moment_in, moment_column, moment_in_column, years_column, years_in_column}
 use Rattle.sqlcolumns.specs.Roids.{IsRoid, roid_columns, roid_in}
 use Rattle.sqlcolumns.specs.Steps.{◌>>=◌}
-use Rattle.sqlcolumns.specs.inner.Lines.{IsLine, domain_columns, line_row_with, not_null, row_of_line}
+use Rattle.sqlcolumns.specs.inner.Lines.{IsStorableLine, domain_columns, line_row_with, not_null, row_of_line}
 use Rattle.sqlcolumns.specs.Lines.{line_made, line_of_columns, maybe_domain_in}
 use Rattle.sqlcolumns.proofs.CodeLemmas.{kind_back, kind_written}
 use Rattle.sqlcolumns.proofs.NumberLemmas.{exact_back, exact_written, maybe_moment_back, maybe_moment_is, maybe_moment_written, moment_back, moment_is, moment_written, years_are, years_back, years_written}
@@ -78,7 +78,7 @@ has_columns id account line ends row e =
     }
 
 -- what was written is read back
-pub line_back : (id account : ℤ) (line : Line) (ends : Option ℤ) (row : LineRow) → IsLine line → row_of_line id account line ends ≡ Some row → line_of_columns row ≡ Some line
+pub line_back : (id account : ℤ) (line : Line) (ends : Option ℤ) (row : LineRow) → IsStorableLine line → row_of_line id account line ends ≡ Some row → line_of_columns row ≡ Some line
 line_back id account line ends row is e =
     let has = has_columns id account line ends row e in
     λ i. line_made
@@ -93,7 +93,7 @@ line_back id account line ends row is e =
 -- ---- read
 
 -- each column reads as the line's
-record IsRead (row : LineRow) (line : Line) : Type 0 where
+pub record IsRead (row : LineRow) (line : Line) : Type 0 where
   pub kind : kind_in row.kind ≡ Some line.kind
   pub roid : maybe_domain_in row.creator row.serial ≡ Some line.roid
   pub recorded : moment_in_column row.recorded ≡ Some line.recorded
@@ -102,7 +102,7 @@ record IsRead (row : LineRow) (line : Line) : Type 0 where
   pub started : maybe_moment_in row.grace.started ≡ Some line.started
   pub refunded : maybe_moment_in row.refunded ≡ Some line.refunded
 
-is_read : (row : LineRow) (line : Line) → line_of_columns row ≡ Some line → IsRead row line
+pub is_read : (row : LineRow) (line : Line) → line_of_columns row ≡ Some line → IsRead row line
 is_read row line e =
     let kind = step (kind_in row.kind) _ line e in
     let roid = step (maybe_domain_in row.creator row.serial) _ line kind.rest in
@@ -136,7 +136,7 @@ line_written row line e =
     }))
 
 -- and is a line's
-pub line_is : (row : LineRow) (line : Line) → line_of_columns row ≡ Some line → IsLine line
+pub line_is : (row : LineRow) (line : Line) → line_of_columns row ≡ Some line → IsStorableLine line
 line_is row line e =
     let read = is_read row line e in
     record {

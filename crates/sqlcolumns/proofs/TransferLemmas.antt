@@ -6,7 +6,7 @@ use Rattle.objects.specs.declared.transfer.Transfer.{Transfer}
 use Rattle.sqltables.specs.declared.transfer.TransferRow.{TransferRow}
 use Rattle.sqlcolumns.specs.Codes.{state_in}
 use Rattle.sqlcolumns.specs.Numbers.{moment_in_column, registrar_in}
-use Rattle.sqlcolumns.specs.Transfers.{IsTransfer, due_column, is_same, row_of_transfer, transfer_due_at, transfer_made, transfer_of_columns}
+use Rattle.sqlcolumns.specs.Transfers.{IsStorableTransfer, due_column, is_same, row_of_transfer, transfer_due_at, transfer_made, transfer_of_columns}
 use Rattle.sqlcolumns.proofs.CodeLemmas.{state_back, state_written}
 use Rattle.sqlcolumns.proofs.NumberLemmas.{moment_back, moment_is, moment_written, registrar_back, registrar_is, registrar_written}
 use Rattle.sqlcolumns.proofs.ReadLemmas.{kept, passed, same_some, step}
@@ -26,7 +26,7 @@ same_as_itself (Some a) = (Decides-int_eq a a).1 refl
 -- ---- transfers
 
 -- what was written is read back
-pub transfer_back : (id : ℤ) (contact domain : Option ℤ) (t : Transfer) → IsTransfer t → transfer_of_columns (row_of_transfer id contact domain t) ≡ Some t
+pub transfer_back : (id : ℤ) (contact domain : Option ℤ) (t : Transfer) → IsStorableTransfer t → transfer_of_columns (row_of_transfer id contact domain t) ≡ Some t
 transfer_back id contact domain t is =
     (λ i. transfer_due_at (transfer_made
     (registrar_back t.requester is.requester i)
@@ -78,7 +78,7 @@ transfer_written row t e =
     }
 
 -- and is a transfer's
-pub transfer_is : (row : TransferRow) (t : Transfer) → transfer_of_columns row ≡ Some t → IsTransfer t
+pub transfer_is : (row : TransferRow) (t : Transfer) → transfer_of_columns row ≡ Some t → IsStorableTransfer t
 transfer_is row t e =
     let read = is_read row t e in
     record {

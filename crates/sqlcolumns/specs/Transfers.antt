@@ -10,7 +10,7 @@ use Rattle.sqlcolumns.specs.Codes.{state_column, state_in}
 use Rattle.sqlcolumns.specs.Numbers.{IsPlace, moment_column, moment_in_column, registrar_column, registrar_in}
 use Rattle.sqlcolumns.specs.Steps.{◌>>=◌}
 
-pub record IsTransfer (t : Transfer) : Type 0 where
+pub record IsStorableTransfer (t : Transfer) : Type 0 where
   pub requester : IsPlace t.requester
   pub losing_registrar : IsPlace t.losing_registrar
   pub requested : IsMoment t.requested

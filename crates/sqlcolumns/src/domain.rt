@@ -56,7 +56,7 @@ pub fn is_domain(domain: &Domain) -> bool
 
 /// Tells a proof that its moments are within the range.
 fn show_deletion(deletion: Option<Deletion>)
-    ensures { IfSome deletion inner_spec.IsDeletion }
+    ensures { IfSome deletion inner_spec.IsStorableDeletion }
 {
     if let Some(deletion) = deletion {
         show_moment(deletion.deleted);

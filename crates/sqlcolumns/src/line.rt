@@ -50,7 +50,7 @@ pub fn line_of_row(row: &LineRow) -> Option<Line>
     ensures value { result ≡ spec.line_of_columns row.now }
     ensures found { IfSome result (λ line. inner_spec.row_of_line row.now.id row.now.account line
         row.now.grace.ends ≡ Some row.now) }
-    ensures only { (line : Line) → inner_spec.IsLine line
+    ensures only { (line : Line) → inner_spec.IsStorableLine line
         → inner_spec.row_of_line row.now.id row.now.account line row.now.grace.ends ≡ Some row.now
         → result ≡ Some line }
 {

@@ -35,7 +35,7 @@ pub fn transfer_row(
 
 /// Whether a transfer's registrars have places: such a transfer is read back from its row.
 pub fn is_transfer(transfer: &Transfer) -> bool
-    ensures { IsTrue result ↔ spec.IsTransfer transfer.now }
+    ensures { IsTrue result ↔ spec.IsStorableTransfer transfer.now }
 {
     show_moment(transfer.requested);
     show_moment(transfer.ac_date);
@@ -68,7 +68,7 @@ pub fn transfer_of_row(row: &TransferRow) -> Option<Transfer>
     ensures value { result ≡ spec.transfer_of_columns row.now }
     ensures found { IfSome result (λ t. spec.row_of_transfer row.now.id row.now.contact row.now.domain
         t ≡ row.now) }
-    ensures only { (t : Transfer) → spec.IsTransfer t
+    ensures only { (t : Transfer) → spec.IsStorableTransfer t
         → spec.row_of_transfer row.now.id row.now.contact row.now.domain t ≡ row.now
         → result ≡ Some t }
 {

@@ -12,7 +12,7 @@ use Rattle.sqlaccounts.specs.Accounts.{account_of_row, accounts_of, has_right_su
 use Rattle.sqlaccounts.proofs.AccountLemmas.{accounts-put, get-found, kept_accounts, row_here, row_there, sums-put}
 use Rattle.sqlaccounts.proofs.FindingLemmas.{equal}
 use Rattle.sqlderived.specs.Held.{counts_where}
-use Rattle.sqlderived.specs.inner.Recounts.{AreAlike, AreCounted, IsCounted, IsCountedAnew}
+use Rattle.sqlderived.specs.inner.Recounts.{AreAlike, AreCounted, IsHeldCounted, IsCountedAnew}
 use Rattle.sqltables.specs.Account as table
 use Rattle.sqltables.specs.declared.account.AccountRow.{AccountRow}
 use Rattle.sqltables.specs.Content.{Content}
@@ -101,7 +101,7 @@ same-place r q = go (int_eq (pos r) (pos q)) (r == q) refl refl
     go true false e f = absurd (true≢false (sym (eq-eqb r q (ap number (same_int (pos r) (pos q) e))) ∙ f))
     go false true e f = absurd (true≢false (sym (equal (pos r) (pos q) (ap pos (eqb-true r q f))) ∙ e))
 
-module _ (xs : Content) (r l m : ℕ) (row new : AccountRow) (place : is_place r ≡ true) (found : Some row ≡ row_of xs (pos r)) (it : IsCounted l m row new) where
+module _ (xs : Content) (r l m : ℕ) (row new : AccountRow) (place : is_place r ≡ true) (found : Some row ≡ row_of xs (pos r)) (it : IsHeldCounted l m row new) where
   abbrev ys : Content
   ys = accounts_to (λ rows. insert_by key rows new) xs
 
@@ -146,12 +146,12 @@ come true = refl
 come false = refl
 
 module _ (xs : Content) (who : Option ℕ) (r : ℕ) (row new : AccountRow) (is : who ≡ Some r) (place : is_place r ≡ true) (found : Some row ≡ row_of xs (pos r)) where
-  pub one-gone : IsCounted 1 0 row new → IsCountedAnew (λ q. counts_where (λ x. x == q) who) (λ q. 0) xs (accounts_to (λ rows. insert_by key rows new) xs)
+  pub one-gone : IsHeldCounted 1 0 row new → IsCountedAnew (λ q. counts_where (λ x. x == q) who) (λ q. 0) xs (accounts_to (λ rows. insert_by key rows new) xs)
   one-gone it =
       subst (λ o. IsCountedAnew (λ q. counts_where (λ x. x == q) o) (λ q. 0) xs (accounts_to (λ rows. insert_by key rows new) xs)) (sym is)
       (anew-as (λ q. cond (r == q) 1 0) (λ q. cond (r == q) 0 0) (λ q. cond (r == q) 1 0) (λ q. 0) xs (accounts_to (λ rows. insert_by key rows new) xs) (λ q. gone (r == q)) (counted-anew xs r 1 0 row new place found it))
 
-  pub one-come : IsCounted 0 1 row new → IsCountedAnew (λ q. 0) (λ q. counts_where (λ x. x == q) who) xs (accounts_to (λ rows. insert_by key rows new) xs)
+  pub one-come : IsHeldCounted 0 1 row new → IsCountedAnew (λ q. 0) (λ q. counts_where (λ x. x == q) who) xs (accounts_to (λ rows. insert_by key rows new) xs)
   one-come it =
       subst (λ o. IsCountedAnew (λ q. 0) (λ q. counts_where (λ x. x == q) o) xs (accounts_to (λ rows. insert_by key rows new) xs)) (sym is)
       (anew-as (λ q. cond (r == q) 0 0) (λ q. cond (r == q) 1 0) (λ q. 0) (λ q. cond (r == q) 1 0) xs (accounts_to (λ rows. insert_by key rows new) xs) (λ q. come (r == q)) (counted-anew xs r 0 1 row new place found it))

@@ -4,7 +4,7 @@ ghost use Rattle.std.specs.Int.{w64};
 ghost use Rattle.sqlrows.specs.Meanings.{Changes};
 ghost use Rattle.sqlderived.specs.Held.{counts_one, counts_where};
 ghost use Rattle.sqlderived.specs.inner.Holders.{is_some_holder};
-ghost use Rattle.sqlderived.specs.inner.Recounts.{IsCounted, IsCountedAnew, IsRecounted};
+ghost use Rattle.sqlderived.specs.inner.Recounts.{IsHeldCounted, IsCountedAnew, IsRecounted};
 
 use crate::holders::{Holders, holders_of, incoming_without, sponsor_without};
 use basis::registrar::RegistrarNo;
@@ -98,7 +98,7 @@ fn one_more<S: Alter>(
 }
 
 fn with_less(row: AccountRow) -> Result<AccountRow, BookFault>
-    ensures counted { IfOk result (IsCounted 1 0 row) }
+    ensures counted { IfOk result (IsHeldCounted 1 0 row) }
     ensures least { OnErr result (¬ FitsSigned w64 (row.held -ℤ pos 1)) }
 {
     let mut row = row;
@@ -110,7 +110,7 @@ fn with_less(row: AccountRow) -> Result<AccountRow, BookFault>
 }
 
 fn with_more(row: AccountRow) -> Result<AccountRow, BookFault>
-    ensures counted { IfOk result (IsCounted 0 1 row) }
+    ensures counted { IfOk result (IsHeldCounted 0 1 row) }
     ensures most { OnErr result (¬ FitsSigned w64 (row.held +ℤ pos 1)) }
 {
     let mut row = row;

@@ -19,7 +19,7 @@ use Rattle.sqltables.proofs.RowLemmas.{bytes_same}
 use Rattle.sqlrows.specs.Read.{rows_of}
 use Rattle.sqlobjects.specs.Changes.{contact_name_by_number, host_name_by_number}
 use Rattle.sqlobjects.proofs.PutLemmas.{bytes_is, filter-has, has-filter, has-get_by}
-use Rattle.sqldomains.specs.inner.Links.{IsNoContact, IsNumberOfContact, IsNumberOfHost, IsUseOfContact, IsUseOfHost, Passes, some_domain_names_contact, some_domain_names_host}
+use Rattle.sqldomains.specs.inner.Links.{IsNoContact, IsNumberOfContact, IsNumberOfHost, IsUseOfContact, IsUseOfHost, PassesTest, some_domain_names_contact, some_domain_names_host}
 use Rattle.sqldomains.proofs.LinkedLemmas.{contact-unnamed, host-unnamed, one-passes}
 
 pub equal : (a b : ℤ) → a ≡ b → int_eq a b ≡ true
@@ -81,7 +81,7 @@ module _ (xs : Content) (name : List ℕ) (consistent : IsConsistent xs) where
       (λ row there at. subst (λ l. Has l row) none.registrant (filter-has (table.domain_with_registrant id) xs.domains row there (equal row.registrant id (only-contact id it row.registrant at))))
       (λ row there leads. subst (λ l. Has l row) none.links (filter-has (link_with_contact id) xs.links row there (subst (λ c. link_with_contact id (record row { contact = c }) ≡ true) (sym leads.1) (equal leads.0 id (only-contact id it leads.0 leads.2)))))
 
-  pub contact-used : (row : DomainRow) → Has xs.domains row → Passes xs (λ d. names_contact name d.links) row → some_domain_names_contact xs name ≡ true
+  pub contact-used : (row : DomainRow) → Has xs.domains row → PassesTest xs (λ d. names_contact name d.links) row → some_domain_names_contact xs name ≡ true
   contact-used row there passes = one-passes xs (λ d. names_contact name d.links) consistent row passes.0 there passes.1 passes.2
 
 -- ---- hosts
@@ -122,7 +122,7 @@ module _ (xs : Content) (name : List ℕ) (consistent : IsConsistent xs) where
       host-unnamed xs name
       (λ row there leads. subst (λ l. Has l row) none (filter-has (link_with_host id) xs.links row there (subst (λ h. link_with_host id (record row { host = h }) ≡ true) (sym leads.1) (equal leads.0 id (only-host id it leads.0 leads.2)))))
 
-  pub host-used : (row : DomainRow) → Has xs.domains row → Passes xs (λ d. names_host name d.links) row → some_domain_names_host xs name ≡ true
+  pub host-used : (row : DomainRow) → Has xs.domains row → PassesTest xs (λ d. names_host name d.links) row → some_domain_names_host xs name ≡ true
   host-used row there passes = one-passes xs (λ d. names_host name d.links) consistent row passes.0 there passes.1 passes.2
 
 -- ---- the same of states that are alike

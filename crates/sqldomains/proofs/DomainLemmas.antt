@@ -29,7 +29,7 @@ use Rattle.sqlrows.specs.Read.{named, rows_of}
 use Rattle.sqlobjects.specs.Changes.{contact_name_by_number, host_name_by_number}
 use Rattle.sqlobjects.specs.inner.Changes.{with_named}
 use Rattle.sqlobjects.specs.Objects.{contact_entry, contact_read, contacts_of, hosts_of, last_transfer}
-use Rattle.sqlobjects.specs.inner.Stages.{AreOthersKept, IsPlaced}
+use Rattle.sqlobjects.specs.inner.Stages.{AreOtherNamesKept, IsPlaced}
 use Rattle.sqlobjects.specs.declared.transfers.Transferable.TheVariants as transferable
 use Rattle.sqlobjects.specs.inner.Transfers.{IsTransferCleared, IsTransferPut}
 use Rattle.sqlobjects.proofs.PutLemmas.{apart, drop-stands, map_of, none-stands, others-removed, none-removed, put-stands, row_there, filter-has}
@@ -65,7 +65,7 @@ module _ (xs ys : Content) (id : ℤ) (kept : AreOtherPartsKept id xs ys) where
       ap (λ (x : Content). from_entries (filter_map (contact_entry ys) x.contacts)) kept.rest
       ∙ (λ i. from_entries (filter_map (λ (row : ContactRow). named row.name (contact-same row i)) xs.contacts))
 
-  assembled : (name : List ℕ) (value : Option Domain) (due : Option ℕ) → domains_of ys ≡ with_named (domains_of xs) name value → AreOthersKept name_of name xs.domains ys.domains
+  assembled : (name : List ℕ) (value : Option Domain) (due : Option ℕ) → domains_of ys ≡ with_named (domains_of xs) name value → AreOtherNamesKept name_of name xs.domains ys.domains
       → ((r : DomainRow) → Has xs.domains r → Has ys.domains r → bytes_eq r.name name ≡ false → int_eq id r.id ≡ false)
       → ((r : DomainRow) → Has ys.domains r → r.name ≡ name → Some r.due ≡ option_map moment_column due)
       → ((r : DomainRow) → Has ys.domains r → r.name ≡ name → Some r.sponsor ≡ maybe_registrar_column (sponsor_in value))

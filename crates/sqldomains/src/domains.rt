@@ -13,10 +13,11 @@ use crate::links::{links_of, number_of};
 use basis::list::Seq;
 use basis::text::Text;
 use objects::{Domain, Links, Transfer};
-use sqlcolumns::{domain_of_row, transfer_of_row};
+use sqlcolumns::domain_of_row;
 use sqlite::Alter;
+use sqlobjects::last_transfer;
 use sqlrows::{only, or_fault};
-use sqltables::{DomainRow, RowStore, TransferRow};
+use sqltables::{DomainRow, RowStore};
 use states::BookFault;
 use std::alloc::Global;
 
@@ -77,16 +78,6 @@ fn transfer_of<S: Alter>(
     let number = number_of(row);
     let rows = store.transfers_by_domain(number)?;
     last_transfer(rows)
-}
-
-fn last_transfer(rows: Seq<TransferRow>) -> Result<Option<Transfer>, BookFault>
-    ensures { IfOk result (λ transfer. objects_spec.last_transfer rows ≡ Some transfer) }
-{
-    let Some(row) = only(rows)? else {
-        return Ok(None);
-    };
-    let transfer = or_fault(transfer_of_row(&row))?;
-    Ok(Some(transfer))
 }
 
 fn read_domain(

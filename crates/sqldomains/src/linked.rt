@@ -115,7 +115,7 @@ fn naming_contact<S: Alter>(
     row: DomainRow,
     name: &Text,
 ) -> Result<(), BookFault>
-    ensures { FindsSome result (λ done. spec.Passes store.old.content (λ d. links.names_contact name.now
+    ensures { FindsSome result (λ done. spec.PassesTest store.old.content (λ d. links.names_contact name.now
         d.links) row) store.old store.new }
 {
     let domain = domain_of(store, alloc, row)?;
@@ -194,7 +194,7 @@ fn naming_host<S: Alter>(
     row: DomainRow,
     name: &Text,
 ) -> Result<(), BookFault>
-    ensures { FindsSome result (λ done. spec.Passes store.old.content
+    ensures { FindsSome result (λ done. spec.PassesTest store.old.content
         (λ d. links.names_host name.now d.links) row) store.old store.new }
 {
     let domain = domain_of(store, alloc, row)?;

@@ -18,7 +18,7 @@ use Rattle.sqltables.specs.inner.Consistent.{IsConsistent}
 use Rattle.sqlrows.specs.Read.{rows_of}
 use Rattle.sqlobjects.specs.inner.Changes.{IsContactPut, with_named}
 use Rattle.sqlobjects.specs.Objects.{contact_read, contacts_of, hosts_of, last_transfer}
-use Rattle.sqlobjects.specs.inner.Stages.{AreOthersKept, IsContactDropped, IsContactPlaced, IsContactRemoved, IsPlaced}
+use Rattle.sqlobjects.specs.inner.Stages.{AreOtherNamesKept, IsContactDropped, IsContactPlaced, IsContactRemoved, IsPlaced}
 use Rattle.sqlobjects.specs.declared.transfers.Transferable.TheVariants as transferable
 use Rattle.sqlobjects.specs.inner.Transfers.{AreOtherTransfersKept, IsTransferCleared, IsTransferPut, is_transfer_of}
 use Rattle.sqlobjects.proofs.PutLemmas.{drop-stands, map_of, names_kept, none-stands, others-removed, put-stands}
@@ -34,7 +34,7 @@ reads-alike : (xs ys : Content) (id : ℤ) (r : ContactRow) → AreOtherTransfer
 reads-alike xs ys id r kept other = λ i. last_transfer (kept.others (transferable.Contact r.id) other i) >>= (λ transfer. contact_of_columns r transfer)
 
 -- what else a change of contacts leaves
-assembled : (xs ys : Content) (name : List ℕ) (value : Option Contact) (id : ℤ) → contacts_of ys ≡ with_named (contacts_of xs) name value → AreOthersKept name_of name xs.contacts ys.contacts
+assembled : (xs ys : Content) (name : List ℕ) (value : Option Contact) (id : ℤ) → contacts_of ys ≡ with_named (contacts_of xs) name value → AreOtherNamesKept name_of name xs.contacts ys.contacts
     → AreOtherTransfersKept (transferable.Contact id) xs (record ys { contacts = xs.contacts }) → IsConsistent xs → IsConsistent ys → IsContactPut name value xs ys
 assembled xs ys name value id stands others kept consistent after = record {
   contacts = stands;

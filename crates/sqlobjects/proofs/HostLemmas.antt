@@ -19,7 +19,7 @@ use Rattle.sqlrows.specs.Read.{rows_of}
 use Rattle.sqlobjects.specs.inner.Changes.{IsHostPut, with_named}
 use Rattle.sqlobjects.specs.Objects.{addresses_of, contacts_of, host_read, hosts_of}
 use Rattle.sqlobjects.specs.Sponsors.{is_sponsor_right, sponsor_of}
-use Rattle.sqlobjects.specs.inner.Stages.{AreAddressesPut, AreOtherAddressesKept, AreOthersKept, IsHostDropped, IsHostPlaced, IsHostRemoved, IsHostRow, IsPlaced}
+use Rattle.sqlobjects.specs.inner.Stages.{AreAddressesPut, AreOtherAddressesKept, AreOtherNamesKept, IsHostDropped, IsHostPlaced, IsHostRemoved, IsHostRow, IsPlaced}
 use Rattle.sqlobjects.proofs.SponsorLemmas.{nobody, same-from, sponsor-kept}
 use Rattle.sqlobjects.proofs.PutLemmas.{drop-stands, map_of, names_kept, none-removed, none-stands, others-removed, put-stands}
 
@@ -34,7 +34,7 @@ pub reads-alike : (xs ys : Content) (id : ℤ) (r : HostRow) → AreOtherAddress
 reads-alike xs ys id r kept other = ap (host_of_columns r) (kept.hosts r.id other)
 
 -- what else a change of hosts leaves
-assembled : (xs ys : Content) (name : List ℕ) (value : Option Host) (id : ℤ) → hosts_of ys ≡ with_named (hosts_of xs) name value → AreOthersKept name_of name xs.hosts ys.hosts
+assembled : (xs ys : Content) (name : List ℕ) (value : Option Host) (id : ℤ) → hosts_of ys ≡ with_named (hosts_of xs) name value → AreOtherNamesKept name_of name xs.hosts ys.hosts
     → AreOtherAddressesKept id xs (record ys { hosts = xs.hosts }) → ((row : HostRow) → Has xs.hosts row → row.name ≡ name → is_sponsor_right xs row ≡ true)
     → ((row : HostRow) → Has ys.hosts row → row.name ≡ name → is_sponsor_right ys row ≡ true) → IsConsistent xs → IsConsistent ys → IsHostPut name value xs ys
 assembled xs ys name value id stands others kept was is consistent after = record {

@@ -18,7 +18,7 @@ use Rattle.sqltables.proofs.RowLemmas.{all_at, bytes_same, same_by_key}
 use Rattle.sqlrows.specs.Read.{first_read, or_else}
 use Rattle.sqlrows.proofs.NameLemmas.{entries_of, stands}
 use Rattle.sqlobjects.specs.inner.Changes.{with_named}
-use Rattle.sqlobjects.specs.inner.Stages.{AreOthersKept, IsPlaced}
+use Rattle.sqlobjects.specs.inner.Stages.{AreOtherNamesKept, IsPlaced}
 
 -- ---- names
 
@@ -191,7 +191,7 @@ module _ {P : Type 0} (key : P → ℤ) where
         (has-filter (λ x. bytes_eq (name x) a) ys r (subst (λ l. Has l r) same (filter-has (λ x. bytes_eq (name x) a) xs r there (bytes_same (name r) a is)))).0
 
     -- a number leads to no other name than before
-    pub names_kept : (n : List ℕ) (old new : List P) → IsKeyedBy key old → IsKeyedBy key new → AreOthersKept name n old new
+    pub names_kept : (n : List ℕ) (old new : List P) → IsKeyedBy key old → IsKeyedBy key new → AreOtherNamesKept name n old new
         → (id : ℤ) (a b : List ℕ) → option_map name (get_by key old id) ≡ Some a → option_map name (get_by key new id) ≡ Some b → a ≡ b
     names_kept n old new up_old up_new others id a b was is =
         let x = found (get_by key old id) a was in
@@ -236,7 +236,7 @@ module _ {P : Type 0} (key : P → ℤ) (name : P → List ℕ) (n : List ℕ) (
       others = λ q other. filter-insert_by key (λ r. bytes_eq (name r) q) xs new (bytes_apart (name new) n q is other) (λ x there e. tied q other x there (e ∙ id));
     }
 
-    pub others-removed : AreOthersKept name n xs (delete_where (numbered_so (key row)) xs)
+    pub others-removed : AreOtherNamesKept name n xs (delete_where (numbered_so (key row)) xs)
     others-removed q other =
         filter-delete (λ r. bytes_eq (name r) q) (numbered_so (key row)) xs (λ x there e. tied q other x there (same_int (key x) (key row) e))
 
@@ -276,7 +276,7 @@ module _ {P X : Type 0} (name : P → List ℕ) where
   -- as they were and read as before.
   pub changed : (n : List ℕ) (value : Option X) (f g : P → Option X) (old new : List P)
       → first_read g (filter (λ r. bytes_eq (name r) n) new) ≡ value
-      → AreOthersKept name n old new
+      → AreOtherNamesKept name n old new
       → ((r : P) → Has old r → Has new r → bytes_eq (name r) n ≡ false → g r ≡ f r)
       → map_of g new ≡ with_named (map_of f old) n value
   changed n value f g old new here others same = same_map nat_list_cmp_total (slice_cmp-IsAntisymmetric nat_cmp-IsAntisymmetric) _ _ (λ q.

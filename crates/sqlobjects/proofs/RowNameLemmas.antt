@@ -27,7 +27,7 @@ use Rattle.sqlobjects.specs.inner.Changes.{IsRowRenamed, new_name, with_named}
 use Rattle.sqlobjects.specs.Changes.{host_name_by_number}
 use Rattle.sqlobjects.specs.Objects.{addresses_of, contacts_of, host_read, hosts_of}
 use Rattle.sqlobjects.specs.Sponsors.{is_sponsor_right, sponsor_of, sponsors_are_right}
-use Rattle.sqlobjects.specs.inner.Stages.{AreAddressesPut, AreOtherAddressesKept, AreOthersKept, IsRowTaken}
+use Rattle.sqlobjects.specs.inner.Stages.{AreAddressesPut, AreOtherAddressesKept, AreOtherNamesKept, IsRowTaken}
 use Rattle.sqlobjects.proofs.HostLemmas.{reads-alike, written}
 use Rattle.sqlobjects.proofs.PutLemmas.{all_from_has, apart, bytes_apart, bytes_is, changed, drop-stands, filter-insert_by, get_by-has, has-get_by, has-insert_by, none-removed, only_named, others-removed, row_there, tied}
 use Rattle.sqlobjects.proofs.SponsorLemmas.{found-right, nobody, same-from, sponsor-kept}
@@ -102,7 +102,7 @@ module _ (from : List ℕ) (h : Host) (row : HostRow) (xs m ys : Content) (consi
   abbrev rest : List HostRow
   rest = delete_where (λ (r : HostRow). int_eq (key r) (key found)) xs.hosts
 
-  others-from : AreOthersKept name_of from xs.hosts rest
+  others-from : AreOtherNamesKept name_of from xs.hosts rest
   others-from = others-removed key name_of from xs.hosts found taken.was.rows consistent.keyed.hosts
 
   none-from : filter (λ (r : HostRow). bytes_eq r.name from) rest ≡ []
@@ -115,7 +115,7 @@ module _ (from : List ℕ) (h : Host) (row : HostRow) (xs m ys : Content) (consi
       go r there true e = absurd (gone-now r there (bytes_is r.name from e))
       go r there false e = e
 
-  others-to : AreOthersKept name_of h.name rest ys.hosts
+  others-to : AreOtherNamesKept name_of h.name rest ys.hosts
   others-to q other = go (bytes_eq q from) refl
     where
       go : (b : Bool) → bytes_eq q from ≡ b → filter (λ (r : HostRow). bytes_eq r.name q) ys.hosts ≡ filter (λ (r : HostRow). bytes_eq r.name q) rest

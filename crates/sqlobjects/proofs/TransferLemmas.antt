@@ -9,7 +9,7 @@ use Rattle.sqlite_keyed.specs.Rules.{points_to}
 use Rattle.sqlite_keyed.proofs.KeyedLemmas.{same_int}
 use Rattle.sqlite_rules.specs.Lists.{Has}
 use Rattle.objects.specs.declared.transfer.Transfer as object
-use Rattle.sqlcolumns.specs.Transfers.{IsTransfer}
+use Rattle.sqlcolumns.specs.Transfers.{IsStorableTransfer}
 use Rattle.sqlcolumns.proofs.TransferLemmas.{transfer_back}
 use Rattle.sqltables.specs.Content.{Content}
 use Rattle.sqltables.specs.inner.Content.{transfers_to}
@@ -45,7 +45,7 @@ alone (Domain id) (Domain other) row single apart is = elsewhere row.domain id o
 -- ---- the row of an object's transfer
 
 -- under a number
-module _ (k : ℤ) (t : object.Transfer) (is : IsTransfer t) where
+module _ (k : ℤ) (t : object.Transfer) (is : IsStorableTransfer t) where
   abbrev row_under : Transferable → TransferRow
   row_under it = record (transfer_row_of it t) { id = k }
 
@@ -80,7 +80,7 @@ module _ (it : Transferable) (xs : Content) (one : TransferRow) (found : filter 
     };
   }
 
-  replaced : IsKeyedBy transfers.key xs.transfers → (t : object.Transfer) (is : IsTransfer t) → IsTransferPut it (Some t) xs (transfers_to (λ rows. insert_by transfers.key rows (row_under one.id t is it)) xs)
+  replaced : IsKeyedBy transfers.key xs.transfers → (t : object.Transfer) (is : IsStorableTransfer t) → IsTransferPut it (Some t) xs (transfers_to (λ rows. insert_by transfers.key rows (row_under one.id t is it)) xs)
   replaced keyed t is =
       let row : TransferRow = row_under one.id t is it in
       let there = has-filter (is_transfer_of it) xs.transfers one (subst (λ l. Has l one) (sym found) (inl refl)) in
@@ -104,12 +104,12 @@ transfer-cleared it xs None of = record {
 }
 transfer-cleared it xs (Some one) of = cleared it xs one of.is of.alone
 
-pub transfer-put : (it : Transferable) (xs : Content) (transfer : Option object.Transfer) (there row : Option TransferRow) → row ≡ maybe_row it transfer → IfSome transfer IsTransfer
+pub transfer-put : (it : Transferable) (xs : Content) (transfer : Option object.Transfer) (there row : Option TransferRow) → row ≡ maybe_row it transfer → IfSome transfer IsStorableTransfer
     → IsRowOf it xs.transfers there → IsKeyedBy transfers.key xs.transfers → IsTransferPut it transfer xs (transfers_to (with_over it there row) xs)
 transfer-put it xs transfer there row given is of keyed =
     subst (λ r. IsTransferPut it transfer xs (transfers_to (with_over it there r) xs)) (sym given) (go there transfer is of.is of.alone)
   where
-    go : (there : Option TransferRow) (transfer : Option object.Transfer) → IfSome transfer IsTransfer → filter (is_transfer_of it) xs.transfers ≡ rows_of there → option_map_or names_both there false ≡ false
+    go : (there : Option TransferRow) (transfer : Option object.Transfer) → IfSome transfer IsStorableTransfer → filter (is_transfer_of it) xs.transfers ≡ rows_of there → option_map_or names_both there false ≡ false
         → IsTransferPut it transfer xs (transfers_to (with_over it there (maybe_row it transfer)) xs)
     go None None is none single = record { last = ap last_transfer none; kept = (clear-already it xs none).kept }
     go None (Some t) is none single =

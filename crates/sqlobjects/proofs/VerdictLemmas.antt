@@ -5,7 +5,7 @@ use Rattle.std.specs.List.{list_all}
 use Rattle.sqlite_rules.specs.Lists.{Has}
 use Rattle.sqlite_typed.specs.Tests.{bytes_eq}
 use Rattle.sqltables.proofs.RowLemmas.{bytes_same}
-use Rattle.sqlobjects.specs.inner.Stages.{AreOthersKept}
+use Rattle.sqlobjects.specs.inner.Stages.{AreOtherNamesKept}
 use Rattle.sqlobjects.proofs.PutLemmas.{bytes_is, filter-has, has-filter}
 
 module _ {A : Type 0} (p : A → Bool) where
@@ -33,7 +33,7 @@ both-or-none false true f g = g refl
 both-or-none false false f g = refl
 
 -- rows of one name, which pass, in the place of others, which passed
-module _ {P : Type 0} (name : P → List ℕ) (n : List ℕ) (old new : List P) (p q : P → Bool) (others : AreOthersKept name n old new)
+module _ {P : Type 0} (name : P → List ℕ) (n : List ℕ) (old new : List P) (p q : P → Bool) (others : AreOtherNamesKept name n old new)
     (alike : (row : P) → Has old row → Has new row → bytes_eq (name row) n ≡ false → q row ≡ p row)
     (was : (row : P) → Has old row → name row ≡ n → p row ≡ true) (is : (row : P) → Has new row → name row ≡ n → q row ≡ true) where
   in-new : (row : P) → Has old row → bytes_eq (name row) n ≡ false → Has new row

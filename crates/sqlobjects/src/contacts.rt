@@ -81,7 +81,7 @@ fn transfer_of<S: Alter>(
 }
 
 /// The last transfer, if there was one, of the object whose transfers these rows are.
-fn last_transfer(rows: Seq<TransferRow>) -> Result<Option<Transfer>, BookFault>
+pub fn last_transfer(rows: Seq<TransferRow>) -> Result<Option<Transfer>, BookFault>
     ensures { IfOk result (λ transfer. spec.last_transfer rows ≡ Some transfer) }
 {
     let Some(row) = only(rows)? else {

@@ -28,7 +28,7 @@ mod transfers;
 
 pub use addresses::are_same;
 pub use contact_changes::{drop_contact, put_contact};
-pub use contacts::{contact, contact_of, has_contact};
+pub use contacts::{contact, contact_of, has_contact, last_transfer};
 pub use host_changes::{drop_host, put_host};
 pub use host_names::rename_row;
 pub use host_sponsors::set_sponsor_below;

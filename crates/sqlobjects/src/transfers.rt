@@ -2,7 +2,7 @@
 ghost use Rattle.std.specs.Prelude.{◌≡◌, true, false, [], filter, Some, IfOk, IfSome};
 ghost use Rattle.std.specs.Option.{option_map_or};
 ghost use Rattle.sqlite_keyed.specs.Lists.{delete_where};
-ghost use Rattle.sqlcolumns.specs.Transfers.{IsTransfer};
+ghost use Rattle.sqlcolumns.specs.Transfers.{IsStorableTransfer};
 ghost use Rattle.states.specs.States.{Finds, FindsSome, Makes};
 ghost use Rattle.sqlrows.specs.Meanings.{Changes};
 ghost use Rattle.sqltables.specs.inner.Content.{transfers_to};
@@ -191,7 +191,7 @@ fn maybe_row(
     transfer: &Option<Transfer>,
 ) -> Result<Option<TransferRow>, BookFault>
     ensures row { IfOk result (λ row. row ≡ spec.maybe_row object transfer.now) }
-    ensures is { IfOk result (λ row. IfSome transfer.now IsTransfer) }
+    ensures is { IfOk result (λ row. IfSome transfer.now IsStorableTransfer) }
 {
     let Some(transfer) = transfer else {
         return Ok(None);

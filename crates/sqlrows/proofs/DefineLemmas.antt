@@ -4,19 +4,19 @@ use Rattle.sqlite_schema.specs.declared.schema.Schema.{Schema}
 use Rattle.sqlite.specs.Listing.{understood}
 use Rattle.sqlite.specs.State.{State, HasCleanDisk, Survives, Executes}
 use Rattle.sqlrows.specs.inner.Layouts.{command_of, writes_tables}
-use Rattle.sqlrows.specs.inner.Calls.{Stays, StaysOrUndoes, LeavesOnly}
+use Rattle.sqlrows.specs.inner.Calls.{StaysOpen, StaysOrUndoes, LeavesOnly}
 use Rattle.sqlrows.specs.inner.Definitions.{DefinesAll, IsBlank, IsUndone}
 use Rattle.sqlrows.proofs.CreateLemmas.{blank_then, definition_writes}
 
-module _ (a b c : State) (first : Stays a b) where
-  pub stays_then : Stays b c → Stays a c
+module _ (a b c : State) (first : StaysOpen a b) where
+  pub stays_then : StaysOpen b c → StaysOpen a c
   stays_then second = record {
     shown = record { was_open = first.shown.was_open; is_open = second.shown.is_open; now_is = refl; committed_is = second.shown.committed_is ∙ first.shown.committed_is; mode = second.shown.mode };
     marks = second.marks ∙ first.marks;
   }
 
   -- an error in a later text
-  pub stands_then : StaysOrUndoes b c → Stays a c ⊎ IsUndone a c
+  pub stands_then : StaysOrUndoes b c → StaysOpen a c ⊎ IsUndone a c
   stands_then (inl same) = inl (record {
     shown = record { was_open = first.shown.was_open; is_open = same.0.is_open; now_is = refl; committed_is = same.0.committed_is ∙ first.shown.committed_is; mode = same.0.mode ∙ first.shown.mode };
     marks = same.2 ∙ first.marks;

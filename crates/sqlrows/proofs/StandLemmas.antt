@@ -13,7 +13,7 @@ use Rattle.sqlite.specs.State.{State, IsUnchanged, Survives, Executes, ExecutesI
 use Rattle.sqlite.proofs.StateLemmas.{survives_weaker}
 use Rattle.sqlite.proofs.Callers.{never_commits}
 use Rattle.sqlrows.specs.inner.Layouts.{command_of, writes_tables}
-use Rattle.sqlrows.specs.inner.Calls.{StaysOrUndoes, Stays}
+use Rattle.sqlrows.specs.inner.Calls.{StaysOrUndoes, StaysOpen}
 
 pub not_run : (old new : State) (sql : List ℕ) (params : Row) (e : Error) → IsNotRun old new sql params e → StaysOrUndoes old new
 unfolding IsNotRun
@@ -68,7 +68,7 @@ on_err_always (Ok x) h = tt
 on_err_always (Err e) h = h
 
 stays_by : (old new : State) (returning : Option Returning) (command : Command) (text : List ℕ) (params : Row) (count : ℕ) → writes_tables command ≡ true → old.in_transaction ≡ true
-    → Runs old new returning command text params count → Stays old new
+    → Runs old new returning command text params count → StaysOpen old new
 stays_by old new returning (Insert at from) text params count kind inside w = record { shown = subst (λ b. Shows old new new.now (cond b old.committed new.now) b) inside w.shown; marks = w.marks }
 stays_by old new returning (InsertOr at way from clauses) text params count kind inside w = record { shown = subst (λ b. Shows old new new.now (cond b old.committed new.now) b) inside w.shown; marks = w.marks }
 stays_by old new returning (Update at q) text params count kind inside w = record { shown = subst (λ b. Shows old new new.now (cond b old.committed new.now) b) inside w.shown; marks = w.marks }
@@ -82,7 +82,7 @@ ran_alone A B true none it = absurd (none it)
 ran_alone A B false none it = it
 
 pub stays_if_executed : (sql : List ℕ) (params : Row) (old new : State) (count : ℕ) → writes_tables (command_of (understood old.now.schema sql)) ≡ true → old.in_transaction ≡ true
-    → Executes sql params old new (Ok count) → Stays old new
+    → Executes sql params old new (Ok count) → StaysOpen old new
 unfolding ExecutesIn
 stays_if_executed sql params old new count writes inside it =
     let c : Compiled = it.0 in

@@ -4,6 +4,7 @@ use Rattle.states.specs.declared.fault.BookFault.{BookFault}
 use Rattle.std.specs.Result.{IsErr}
 use Rattle.states.specs.States.{Finds, FindsSome, Reads, StateOf, Stays, Writes}
 use Rattle.states.proofs.LeavingLemmas.{leaves-on, leaves-refl}
+pub use Rattle.states.proofs.CallLemmas.{finds-on, reads-on}
 use Rattle.sqlrows.specs.Meanings.{HasChanged}
 use Rattle.sqlrows.specs.Read.{rows_of}
 use Rattle.sqlrows.proofs.RowLemmas.{find_one}
@@ -14,21 +15,6 @@ reads-same s = record { clean = λ e. e; before = λ e. refl; opened = refl; con
 -- what is read and then refused
 pub stays-on : {X : Type 0} (s m t : StateOf X) → Reads s m → Stays m t → Stays s t
 stays-on s m t a b = record { clean = λ e. a.clean (b.clean e); before = λ e. b.before e ∙ a.before (b.clean e); leaves = leaves-on s m t a.leaves b.leaves }
-
-pub reads-on : {X : Type 0} (s m t : StateOf X) → Reads s m → Reads m t → Reads s t
-reads-on s m t a b = record {
-  clean = λ e. a.clean (b.clean e);
-  before = λ e. b.before e ∙ a.before (b.clean e);
-  opened = b.opened ∙ a.opened;
-  content = λ e. b.content e ∙ a.content (b.clean e);
-  answers = λ was. b.answers (a.answers was);
-  leaves = leaves-on s m t a.leaves b.leaves;
-}
-
--- a question behind another
-pub finds-on : {A X : Type 0} (r : Result A BookFault) (s m t : StateOf X) (g h : A) → Reads s m → (m.is_clean ≡ true → g ≡ h) → Finds r g m t → Finds r h s t
-finds-on (Ok it) s m t g h read same found = (reads-on s m t read found.0, λ e. found.1 e ∙ same (found.0.clean e))
-finds-on (Err fault) s m t g h read same found = record { clean = λ e. read.clean (found.clean e); before = λ e. found.before e ∙ read.before (found.clean e); leaves = leaves-on s m t read.leaves found.leaves }
 
 -- one row is taken of those that were asked for
 pub one-asked : {A X : Type 0} (r : Result (Option A) BookFault) (rows : List A) (p : A → Bool) (all : List A) (old new : StateOf X)

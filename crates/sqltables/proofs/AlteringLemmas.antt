@@ -29,7 +29,7 @@ use Rattle.sqltables.specs.declared.form.Form.TheVariants.{Unused, Making, Made,
 use Rattle.states.specs.States.{Remains, Writes}
 use Rattle.sqltables.specs.inner.Answers.{AreRight, Recalls}
 use Rattle.sqltables.specs.inner.Statements.{Alters, Appends, AreOthersSame}
-use Rattle.sqltables.specs.inner.Stored.{Agrees, Bears, Fits, HoldsRows, has_rows, rows_in, store_state, undone}
+use Rattle.sqltables.specs.inner.Stored.{AgreesWithForm, Bears, Fits, HoldsRows, has_rows, rows_in, store_state, undone}
 use Rattle.sqltables.proofs.AskingLemmas.{holds-now, rows-are}
 use Rattle.sqltables.proofs.DecodingLemmas.{decoded}
 use Rattle.sqltables.proofs.StandingLemmas.{answered-open, clean-of, honest, leaves-no-more, leaves-same, was-honest}
@@ -53,7 +53,7 @@ bears-written Other was now committed after is it h same = absurd (true≢false 
 
 module _ (tree : ℕ) (sql : List ℕ) (params : Row) (form : Form) (old new : State) (P : Trees → Type 0) (survives : Survives old new P) (fits : Fits form true old) (rows : has_rows form ≡ true) (f : Content → Content) (alters : Alters tree sql params f) where
   -- after an error
-  pub left-by-write : (e : Error) → (HasCleanDisk new → Executes sql params old new (Err e)) → HasCleanDisk new → IsTrue new.is_open → StaysOrUndoes old new × Agrees form true old
+  pub left-by-write : (e : Error) → (HasCleanDisk new → Executes sql params old new (Err e)) → HasCleanDisk new → IsTrue new.is_open → StaysOrUndoes old new × AgreesWithForm form true old
   left-by-write e ran clean opened = (stands_if_not_executed sql params old new e (ran clean), fits (was-honest old new P survives clean) (executed_open sql params old new (Err e) (ran clean) opened))
 
   -- a statement that writes rows commits nothing inside a transaction
@@ -64,19 +64,19 @@ module _ (tree : ℕ) (sql : List ℕ) (params : Row) (form : Form) (old new : S
       leaves-no-more old new (commits_later sql params old new (subst (λ (s : Schema). writes_tables (command_of (understood s sql)) ≡ true) (sym h.schema) alters.writes) it.mode runs) clean
 
   -- after an error, where the connection was open
-  pub left-open : (e : Error) → (HasCleanDisk new → Executes sql params old new (Err e)) → (HasCleanDisk new → IsTrue old.is_open) → HasCleanDisk new → StaysOrUndoes old new × Agrees form true old
+  pub left-open : (e : Error) → (HasCleanDisk new → Executes sql params old new (Err e)) → (HasCleanDisk new → IsTrue old.is_open) → HasCleanDisk new → StaysOrUndoes old new × AgreesWithForm form true old
   left-open e ran opened clean = (stands_if_not_executed sql params old new e (ran clean), fits (was-honest old new P survives clean) (opened clean))
 
   module _ (count : ℕ) (ran : HasCleanDisk new → Executes sql params old new (Ok count)) where
-    agreed : HasCleanDisk new → IsTrue new.is_open → Agrees form true old
+    agreed : HasCleanDisk new → IsTrue new.is_open → AgreesWithForm form true old
     agreed clean opened = fits (was-honest old new P survives clean) (executed_open sql params old new (Ok count) (ran clean) opened)
 
-    was-content : Agrees form true old → IsContent (contents old.now.trees) (record { schema = registry; trees = old.now.trees })
+    was-content : AgreesWithForm form true old → IsContent (contents old.now.trees) (record { schema = registry; trees = old.now.trees })
     was-content it =
         let h = holds-now form old.now old.committed rows it.bears in
         subst (λ (s : Schema). IsContent (contents old.now.trees) (record { schema = s; trees = old.now.trees })) h.schema h
 
-    led : HasCleanDisk new → Agrees form true old → (tally : Tally) × Leads registry sql params old.step_limit (statement_of sql (understood registry sql)) old.now.trees tally new.now × (new.last_rowid ≡ unwrap_or tally.last old.last_rowid)
+    led : HasCleanDisk new → AgreesWithForm form true old → (tally : Tally) × Leads registry sql params old.step_limit (statement_of sql (understood registry sql)) old.now.trees tally new.now × (new.last_rowid ≡ unwrap_or tally.last old.last_rowid)
     led clean it =
         let h = holds-now form old.now old.committed rows it.bears in
         let command = command_of (understood registry sql) in
@@ -85,7 +85,7 @@ module _ (tree : ℕ) (sql : List ℕ) (params : Row) (form : Form) (old new : S
         let did = changed-by old new command text params count alters.writes runs in
         (did.0, subst (λ (s : Schema). Does old.step_limit (mode_of old) params (record { schema = s; trees = old.now.trees }) text None command (Ok (did.0, new.now))) h.schema did.1, did.2)
 
-    made : HasCleanDisk new → Agrees form true old → IsContent (f (contents old.now.trees)) new.now
+    made : HasCleanDisk new → AgreesWithForm form true old → IsContent (f (contents old.now.trees)) new.now
     made clean it =
         let led = led clean it in
         alters.means old.step_limit _ old.now.trees led.0 new.now (contents old.now.trees) (was-content it) led.1
@@ -106,7 +106,7 @@ module _ (tree : ℕ) (sql : List ℕ) (params : Row) (form : Form) (old new : S
         led.2 ∙ ap (λ (o : Option ℤ). unwrap_or o old.last_rowid) (appends.last old.step_limit _ old.now.trees led.0 new.now (contents old.now.trees) (was-content it) led.1)
         ∙ ap number (sym (rows-are form old.now.trees rows))
 
-    stayed : HasCleanDisk new → Agrees form true old → calls.Stays old new
+    stayed : HasCleanDisk new → AgreesWithForm form true old → calls.StaysOpen old new
     stayed clean it =
         let h = holds-now form old.now old.committed rows it.bears in
         stays_if_executed sql params old new count (subst (λ (s : Schema). writes_tables (command_of (understood s sql)) ≡ true) (sym h.schema) alters.writes) it.mode (ran clean)

@@ -21,7 +21,7 @@ use Rattle.sqlite_sql.specs.Term.{Env}
 use Rattle.sqlite_sql.specs.Program.{overlay}
 use Rattle.sqlrows.proofs.SelectLemmas.{overlay_none}
 use Rattle.sqlite.specs.State.{State}
-use Rattle.sqltables.specs.inner.Answers.{AreFew, AreRight, IsAnswered, IsOf, IsPutIn, IsQueryOf, IsRight, Recalls, beside}
+use Rattle.sqltables.specs.inner.Answers.{AreFew, AreRight, IsAnsweredByRows, IsOf, IsPutIn, IsQueryOf, IsRight, Recalls, beside}
 use Rattle.sqltables.specs.Content.{Content}
 use Rattle.sqltables.specs.inner.Content.{IsContent}
 use Rattle.sqltables.specs.Decoding.{contents}
@@ -43,7 +43,7 @@ same_bound values given is = ap (map bound_value) is ∙ map-map bound_value own
 pub shown-by : {R : Type 0} (tree : ℕ) (shown : R → Row) (sql : List ℕ) (params : Row) (f : Content → List R) → Asks tree shown sql params f → (db : Trees) (xs : Content) → IsContent xs (record { schema = registry; trees = db }) → (it : Answer) → IsOf it sql params → IsRight db it
     → it.rows.items ≡ map shown (f xs)
 shown-by tree shown sql params f asks db xs is it of right =
-    shows tree shown sql params f asks db xs is it.rows.items (subst₂ (λ (text : List ℕ) (given : Row). IsAnswered db text given it.rows.items) of.0 of.1 right.0)
+    shows tree shown sql params f asks db xs is it.rows.items (subst₂ (λ (text : List ℕ) (given : Row). IsAnsweredByRows db text given it.rows.items) of.0 of.1 right.0)
 
 -- a call that does nothing
 reads-itself : (s : StateOf Content) → Reads s s
@@ -117,9 +117,9 @@ rights-after written old new others items left is right =
     not_true false e = refl
 
 -- the answer to a question, as it is kept
-pub right-as : (db : Trees) (it : Answer) (tree : ℕ) (sql : List ℕ) (params : Row) (rows : List Row) → IsOf it sql params → it.tree ≡ tree → it.rows.items ≡ rows → IsAnswered db sql params rows → IsQueryOf tree sql → IsRight db it
+pub right-as : (db : Trees) (it : Answer) (tree : ℕ) (sql : List ℕ) (params : Row) (rows : List Row) → IsOf it sql params → it.tree ≡ tree → it.rows.items ≡ rows → IsAnsweredByRows db sql params rows → IsQueryOf tree sql → IsRight db it
 right-as db it tree sql params rows of at has answered asks = (
-  subst (IsAnswered db it.sql.items (map bound_value it.params)) (sym has) (subst₂ (λ (text : List ℕ) (given : Row). IsAnswered db text given rows) (sym of.0) (sym of.1) answered),
+  subst (IsAnsweredByRows db it.sql.items (map bound_value it.params)) (sym has) (subst₂ (λ (text : List ℕ) (given : Row). IsAnsweredByRows db text given rows) (sym of.0) (sym of.1) answered),
   subst₂ IsQueryOf (sym at) (sym of.0) asks,
 )
 

@@ -16,7 +16,7 @@ use Rattle.sqlrows.specs.inner.Calls.{StaysOrUndoes}
 use Rattle.sqlrows.proofs.SelectLemmas.{same_command}
 use Rattle.sqlrows.proofs.SoundLemmas.{not_queried_open, queried_open}
 use Rattle.sqlrows.proofs.StandLemmas.{commits_nothing, same_if_shown, stands_if_not_shown}
-use Rattle.sqltables.specs.inner.Answers.{AreRight, IsAnswered, Recalls}
+use Rattle.sqltables.specs.inner.Answers.{AreRight, IsAnsweredByRows, Recalls}
 use Rattle.sqltables.specs.Content.{Content}
 use Rattle.sqltables.specs.inner.Content.{IsContent}
 use Rattle.sqltables.specs.Decoding.{contents}
@@ -27,7 +27,7 @@ use Rattle.sqltables.specs.declared.form.Form.{Form}
 use Rattle.sqltables.specs.declared.form.Form.TheVariants.{Unused, Making, Made, Other}
 use Rattle.states.specs.States.{Finds, Reads, Remains, StateOf}
 use Rattle.sqltables.specs.inner.Statements.{Asks}
-use Rattle.sqltables.specs.inner.Stored.{Agrees, Bears, Fits, HoldsRows, has_rows, rows_in, store_state}
+use Rattle.sqltables.specs.inner.Stored.{AgreesWithForm, Bears, Fits, HoldsRows, has_rows, rows_in, store_state}
 use Rattle.sqltables.proofs.StandingLemmas.{agrees-unchanged, honest, leaves-no-more, reads-same, was-honest}
 
 -- ---- where the tables are
@@ -45,7 +45,7 @@ module _ (sql : List ℕ) (params : Row) (form : Form) (begun : Bool) (old new :
   plain-in : HoldsRows old.now → IsPlain (understood old.now.schema sql)
   plain-in h = subst (λ (s : Schema). IsPlain (understood s sql)) (sym h.schema) plain
 
-  pub agreed : (found : List Row) → HasCleanDisk new → Shown sql params old new found → Agrees form begun old
+  pub agreed : (found : List Row) → HasCleanDisk new → Shown sql params old new found → AgreesWithForm form begun old
   agreed found clean seen = fits (was-honest old new P survives clean) (queried_open sql params old new found seen)
 
   pub held : (found : List Row) → HasCleanDisk new → Shown sql params old new found → HoldsRows old.now
@@ -59,7 +59,7 @@ module _ (sql : List ℕ) (params : Row) (form : Form) (begun : Bool) (old new :
   fits-shown found seen clean opened = agrees-unchanged form begun old new (same-if found clean (seen clean)) (agreed found clean (seen clean))
 
   -- after an error
-  pub left-by-query : (e : Error) → (HasCleanDisk new → FailsToQuery sql params old new e) → HasCleanDisk new → IsTrue new.is_open → StaysOrUndoes old new × Agrees form begun old
+  pub left-by-query : (e : Error) → (HasCleanDisk new → FailsToQuery sql params old new e) → HasCleanDisk new → IsTrue new.is_open → StaysOrUndoes old new × AgreesWithForm form begun old
   left-by-query e fails clean opened =
       let it = fits (was-honest old new P survives clean) (not_queried_open sql params old new e (fails clean) opened) in
       (stands_if_not_shown sql params old new e (plain-in (holds-now form old.now old.committed rows it.bears)) (fails clean), it)
@@ -71,18 +71,18 @@ module _ (sql : List ℕ) (params : Row) (form : Form) (begun : Bool) (old new :
       leaves-no-more old new (commits_nothing sql params old new (plain-in (holds-now form old.now old.committed rows it.bears)) shows) clean
 
   -- what it left, where the connection was open
-  pub left-open : (e : Error) → (HasCleanDisk new → FailsToQuery sql params old new e) → (HasCleanDisk new → IsTrue old.is_open) → HasCleanDisk new → StaysOrUndoes old new × Agrees form begun old
+  pub left-open : (e : Error) → (HasCleanDisk new → FailsToQuery sql params old new e) → (HasCleanDisk new → IsTrue old.is_open) → HasCleanDisk new → StaysOrUndoes old new × AgreesWithForm form begun old
   left-open e fails opened clean =
       let it = fits (was-honest old new P survives clean) (opened clean) in
       (stands_if_not_shown sql params old new e (plain-in (holds-now form old.now old.committed rows it.bears)) (fails clean), it)
 
 -- what was answered is what the trees give
-pub right : (sql : List ℕ) (params : Row) (old new : State) → HoldsRows old.now → (found : List Row) → Shown sql params old new found → IsAnswered old.now.trees sql params found
+pub right : (sql : List ℕ) (params : Row) (old new : State) → HoldsRows old.now → (found : List Row) → Shown sql params old new found → IsAnsweredByRows old.now.trees sql params found
 right sql params old new h found seen query is =
     (reads_as sql params old new registry h.schema (Select (record { lets = []; body = query }) is.names) (same_command (understood registry sql) ∙ is.command) is.plain is.unlisted found seen).answer Null
 
 -- the records that an answer shows
-pub shows : {R : Type 0} (tree : ℕ) (shown : R → Row) (sql : List ℕ) (params : Row) (f : Content → List R) → Asks tree shown sql params f → (db : Trees) (xs : Content) → IsContent xs (record { schema = registry; trees = db }) → (found : List Row) → IsAnswered db sql params found
+pub shows : {R : Type 0} (tree : ℕ) (shown : R → Row) (sql : List ℕ) (params : Row) (f : Content → List R) → Asks tree shown sql params f → (db : Trees) (xs : Content) → IsContent xs (record { schema = registry; trees = db }) → (found : List Row) → IsAnsweredByRows db sql params found
     → found ≡ map shown (f xs)
 shows tree shown sql params f a db xs is found answer = a.means db xs found is (answer a.query a.is)
 
@@ -113,7 +113,7 @@ asked tree shown sql params form begun old new P leaves survives fits rows f ask
 -- what was kept is still right, and so is what was answered
 pub recalls-shown : (sql : List ℕ) (params : Row) (form : Form) (begun : Bool) (old new : State) (P : Trees → Type 0) → Survives old new P → Fits form begun old → has_rows form ≡ true → IsPlain (understood registry sql)
     → (found : List Row) → (HasCleanDisk new → Shown sql params old new found) → (kept more : List Answer) → Recalls old kept
-    → ((db : Trees) → AreRight db kept → IsAnswered db sql params found → AreRight db more) → Recalls new more
+    → ((db : Trees) → AreRight db kept → IsAnsweredByRows db sql params found → AreRight db more) → Recalls new more
 recalls-shown sql params form begun old new P survives fits rows plain found seen kept more was adds clean opened =
     let h = held sql params form begun old new P survives fits rows plain found clean (seen clean) in
     let there = was (was-honest old new P survives clean) (queried_open sql params old new found (seen clean)) in

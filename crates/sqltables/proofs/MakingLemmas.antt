@@ -10,7 +10,7 @@ use Rattle.sqltables.specs.Content.{Content, no_content}
 use Rattle.sqltables.specs.inner.Content.{IsContent}
 use Rattle.sqltables.specs.declared.form.Form.TheVariants.{Unused, Making}
 use Rattle.states.specs.States.{Remains, Stays, Writes}
-use Rattle.sqltables.specs.inner.Stored.{Agrees, Fits, Guards, store_state}
+use Rattle.sqltables.specs.inner.Stored.{AgreesWithForm, Fits, Guards, store_state}
 use Rattle.sqltables.proofs.DecodingLemmas.{decoded}
 use Rattle.sqltables.proofs.StandingLemmas.{answered-open, clean-of, guards-on, honest, leaves-same, was-honest}
 
@@ -18,11 +18,11 @@ both-clean : (old new : State) (P : Trees → Type 0) → Survives old new P →
 both-clean old new P survives clean opened = ap (λ (b : Bool). b && old.is_open) (clean-of old (was-honest old new P survives clean)) ∙ opened
 
 module _ (old mid : State) (P : Trees → Type 0) (survives : Survives old mid P) (fits : Fits Unused true old) (opens : HasCleanDisk mid → IsTrue mid.is_open → IsTrue old.is_open) (leaves : List (Remains Content)) where
-  pub agreed : HasCleanDisk mid → IsTrue mid.is_open → Agrees Unused true old
+  pub agreed : HasCleanDisk mid → IsTrue mid.is_open → AgreesWithForm Unused true old
   agreed clean opened = fits (was-honest old mid P survives clean) (opens clean opened)
 
   -- the tables were made
-  module _ (made : HasCleanDisk mid → IsTrue old.is_open → Agrees Unused true old → IsContent no_content mid.now × calls.Stays old mid) where
+  module _ (made : HasCleanDisk mid → IsTrue old.is_open → AgreesWithForm Unused true old → IsContent no_content mid.now × calls.StaysOpen old mid) where
     pub fits-made : Fits Making true mid
     fits-made clean opened =
         let it = agreed clean opened in
@@ -47,14 +47,14 @@ module _ (old mid : State) (P : Trees → Type 0) (survives : Survives old mid P
       leaves = leaves-same Unused Making true true old mid P leaves survives refl;
     }
 
-    pub guards-made : (HasCleanDisk mid → IsTrue old.is_open → Agrees Unused true old → (db : Trees) → mid.may_leave db → old.may_leave db ⊎ ⊥) → Guards true old leaves → Guards true mid leaves
+    pub guards-made : (HasCleanDisk mid → IsTrue old.is_open → AgreesWithForm Unused true old → (db : Trees) → mid.may_leave db → old.may_leave db ⊎ ⊥) → Guards true old leaves → Guards true mid leaves
     guards-made crash guards =
         guards-on true true old mid P leaves survives guards
         (λ clean _. let was = guards.opened (was-honest old mid P survives clean) refl in (made clean was (fits (was-honest old mid P survives clean) was)).1.shown.is_open)
         (λ clean db may. let was = guards.opened (was-honest old mid P survives clean) refl in elim (crash clean was (fits (was-honest old mid P survives clean) was) db may) [ inl before ↦ before | inr none ↦ absurd none ])
 
   -- they weren't, and what was begun is undone
-  module _ (failed : HasCleanDisk mid → IsTrue old.is_open → Agrees Unused true old → calls.Stays old mid ⊎ IsUndone old mid) (new : State) (Q : Trees → Type 0) (later : Survives mid new Q)
+  module _ (failed : HasCleanDisk mid → IsTrue old.is_open → AgreesWithForm Unused true old → calls.StaysOpen old mid ⊎ IsUndone old mid) (new : State) (Q : Trees → Type 0) (later : Survives mid new Q)
       (does : HasCleanDisk new → IsTrue new.is_open → IsTrue mid.is_open × (((new.now ≡ mid.committed) × (new.committed ≡ mid.committed) × (new.in_transaction ≡ false)) ⊎ ((new.now ≡ mid.now) × (new.committed ≡ mid.committed) × (new.in_transaction ≡ false) × (mid.in_transaction ≡ false)))) where
     last-commit : (HasCleanDisk mid) → IsTrue mid.is_open → mid.committed ≡ old.committed
     last-commit clean opened = elim (failed clean (opens clean opened) (agreed clean opened)) [ inl on ↦ on.shown.committed_is | inr off ↦ (off.undone opened).1 ]
@@ -98,7 +98,7 @@ module _ (old mid : State) (P : Trees → Type 0) (survives : Survives old mid P
       };
     }
 
-    pub guards-unmade : (HasCleanDisk mid → IsTrue old.is_open → Agrees Unused true old → (db : Trees) → mid.may_leave db → old.may_leave db ⊎ ⊥) → ((db : Trees) → Q db → ⊥) → Guards true old leaves → Guards false new leaves
+    pub guards-unmade : (HasCleanDisk mid → IsTrue old.is_open → AgreesWithForm Unused true old → (db : Trees) → mid.may_leave db → old.may_leave db ⊎ ⊥) → ((db : Trees) → Q db → ⊥) → Guards true old leaves → Guards false new leaves
     guards-unmade crash none guards = record {
       opened = λ clean e. absurd (true≢false (sym e));
       covers = λ clean db may.

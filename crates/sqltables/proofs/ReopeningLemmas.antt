@@ -8,12 +8,12 @@ use Rattle.states.specs.States.{Remains, StateOf}
 use Rattle.sqltables.specs.Adoption.{IsAdopted, IsTakenAs}
 use Rattle.sqltables.specs.Content.{Content}
 use Rattle.sqltables.specs.Readiness.{IsKnownAs, is_numbered}
-use Rattle.sqltables.specs.inner.Reopening.{IsFoundAgain, IsReopened}
+use Rattle.sqltables.specs.inner.Reopening.{IsContentFoundAgain, AreRowsReopened}
 use Rattle.sqltables.specs.Stored.{Covers, IsLeftAs}
 use Rattle.sqltables.specs.Tables.{registry}
 use Rattle.sqltables.proofs.AdoptedLemmas.{schema_once, some-tables}
 
-again : (was now : Ready) (db : Trees) (left x : Content) → IsLeftAs was db left → IsTakenAs now db x → IsKnownAs now db → IsFoundAgain was left now x
+again : (was now : Ready) (db : Trees) (left x : Content) → IsLeftAs was db left → IsTakenAs now db x → IsKnownAs now db → IsContentFoundAgain was left now x
 again Empty Empty db left x it taken known = (refl, taken ∙ sym it.1)
 again Empty Used db left x it taken known = absurd (some-tables (schema_once db registry no_schema known.0 it.0))
 again Empty Other db left x it taken known = absurd (known.0 it.0)
@@ -22,7 +22,7 @@ again Used Used db left x it taken known = λ numbered. (refl, taken.0 ∙ sym i
 again Used Other db left x it taken known = λ numbered. absurd (true≢false (sym numbered ∙ ap (λ (y : Content). is_numbered y.metas) it.1 ∙ known.1 it.0))
 again Other now db left x it taken known = tt
 
-pub reopened : (leaves : List (Remains Content)) (may_leave : Trees → Type 0) (db : Trees) (s : StateOf Content) → Covers leaves may_leave → may_leave db → IsAdopted db s → s.is_clean ≡ true → IsReopened leaves s
+pub reopened : (leaves : List (Remains Content)) (may_leave : Trees → Type 0) (db : Trees) (s : StateOf Content) → Covers leaves may_leave → may_leave db → IsAdopted db s → s.is_clean ≡ true → AreRowsReopened leaves s
 reopened leaves may_leave db s covers may adopted clean =
     let it = covers db may in
     (it.0, it.1, again it.0.readiness s.readiness db it.0.content s.content it.2 (adopted.content clean) (adopted.known clean))

@@ -14,7 +14,7 @@ use Rattle.sqltables.specs.declared.form.Form.{Form}
 use Rattle.sqltables.specs.declared.form.Form.TheVariants.{Unused, Making, Made, Other}
 use Rattle.states.specs.States.{LeavesSame, Reads, Remains, Stays}
 use Rattle.sqltables.specs.Content.{Content}
-use Rattle.sqltables.specs.inner.Stored.{Agrees, Bears, Fits, Guards, readiness_of, rows_in, store_state, undone}
+use Rattle.sqltables.specs.inner.Stored.{AgreesWithForm, Bears, Fits, Guards, readiness_of, rows_in, store_state, undone}
 
 -- ---- clean and open
 
@@ -74,7 +74,7 @@ undone-twice Making = refl
 undone-twice Made = refl
 undone-twice Other = refl
 
-pub agrees-unchanged : (form : Form) (begun : Bool) (old new : State) → IsUnchanged old new → Agrees form begun old → Agrees form begun new
+pub agrees-unchanged : (form : Form) (begun : Bool) (old new : State) → IsUnchanged old new → AgreesWithForm form begun old → AgreesWithForm form begun new
 agrees-unchanged form begun old new same it =
     let was = same.0 in
     record {
@@ -84,7 +84,7 @@ agrees-unchanged form begun old new same it =
       making = it.making;
     }
 
-pub agrees-back : (form : Form) (begun : Bool) (old new : State) → IsRolledBack old new → IsTrue new.is_open → Agrees form begun old → Agrees (undone form) false new
+pub agrees-back : (form : Form) (begun : Bool) (old new : State) → IsRolledBack old new → IsTrue new.is_open → AgreesWithForm form begun old → AgreesWithForm (undone form) false new
 agrees-back form begun old new back opened it =
     let gone = back.undone opened in
     record {
@@ -95,11 +95,11 @@ agrees-back form begun old new back opened it =
     }
 
 -- where no transaction is open
-agrees-idle : (form : Form) (s : State) → Agrees form false s → Agrees (undone form) false s
-agrees-idle form s it = subst (λ (f : Form). Agrees f false s) (sym (it.making refl)) it
+agrees-idle : (form : Form) (s : State) → AgreesWithForm form false s → AgreesWithForm (undone form) false s
+agrees-idle form s it = subst (λ (f : Form). AgreesWithForm f false s) (sym (it.making refl)) it
 
 -- where going back leads
-pub home : (form : Form) (begun : Bool) (s : State) (leaves : List (Remains Content)) → Agrees form begun s → (store_state form begun s leaves).before ≡ rows_in (undone form) s.committed.trees
+pub home : (form : Form) (begun : Bool) (s : State) (leaves : List (Remains Content)) → AgreesWithForm form begun s → (store_state form begun s leaves).before ≡ rows_in (undone form) s.committed.trees
 home form true s leaves it = refl
 home form false s leaves it = ap (λ (f : Form). rows_in f s.now.trees) (sym (it.making refl)) ∙ ap (λ (db : Database). rows_in (undone form) db.trees) (it.settled refl)
 
@@ -114,15 +114,15 @@ held-if b false e is = absurd (true≢false (sym e ∙ is))
 -- what a call that failed left, while the disk is clean and the connection open: all is as it was, or undone
 module _ (form : Form) (begun : Bool) (old new : State) (auto : Bool) (tells : auto ≡ not new.in_transaction) where
   abbrev pub Left : Type 0
-  Left = HasCleanDisk new → IsTrue new.is_open → StaysOrUndoes old new × Agrees form begun old
+  Left = HasCleanDisk new → IsTrue new.is_open → StaysOrUndoes old new × AgreesWithForm form begun old
 
-  idle-after : StaysOrUndoes old new → IsTrue new.is_open → Agrees form begun old → auto ≡ true → Agrees (undone form) false new
+  idle-after : StaysOrUndoes old new → IsTrue new.is_open → AgreesWithForm form begun old → auto ≡ true → AgreesWithForm (undone form) false new
   idle-after (inl same) opened it is =
       let none : begun ≡ false = sym it.mode ∙ sym same.0.mode ∙ idle-if auto new.in_transaction tells is in
-      agrees-idle form new (subst (λ (b : Bool). Agrees form b new) none (agrees-unchanged form begun old new same it))
+      agrees-idle form new (subst (λ (b : Bool). AgreesWithForm form b new) none (agrees-unchanged form begun old new same it))
   idle-after (inr back) opened it is = agrees-back form begun old new back opened it
 
-  held-after : StaysOrUndoes old new → Agrees form begun old → auto ≡ false → IsUnchanged old new
+  held-after : StaysOrUndoes old new → AgreesWithForm form begun old → auto ≡ false → IsUnchanged old new
   held-after (inl same) it is = same
   held-after (inr back) it is = absurd (true≢false (sym (held-if auto new.in_transaction tells is) ∙ back.autocommit))
 
@@ -133,11 +133,11 @@ module _ (form : Form) (begun : Bool) (old new : State) (auto : Bool) (tells : a
   fits-held left is clean opened = let it = left clean opened in agrees-unchanged form begun old new (held-after it.0 it.1 is) it.1
 
   -- a transaction that goes on tells that the connection is open
-  pub opened-held : (HasCleanDisk new → StaysOrUndoes old new × Agrees form begun old) → auto ≡ false → HasCleanDisk new → IsTrue new.is_open
+  pub opened-held : (HasCleanDisk new → StaysOrUndoes old new × AgreesWithForm form begun old) → auto ≡ false → HasCleanDisk new → IsTrue new.is_open
   opened-held left is clean = let it = left clean in (held-after it.0 it.1 is).0.is_open
 
   -- going back leads where it led
-  idle-home : (leaves : List (Remains Content)) → StaysOrUndoes old new → IsTrue new.is_open → Agrees form begun old → auto ≡ true → (store_state (undone form) false new leaves).before ≡ (store_state form begun old leaves).before
+  idle-home : (leaves : List (Remains Content)) → StaysOrUndoes old new → IsTrue new.is_open → AgreesWithForm form begun old → auto ≡ true → (store_state (undone form) false new leaves).before ≡ (store_state form begun old leaves).before
   idle-home leaves (inl same) opened it is =
       let none : begun ≡ false = sym it.mode ∙ sym same.0.mode ∙ idle-if auto new.in_transaction tells is in
       ap (λ (db : Database). rows_in (undone form) db.trees) (same.0.now_is ∙ it.settled none) ∙ sym (home form begun old leaves it)
@@ -188,14 +188,14 @@ reads-same form begun old new P leaves survives same = record {
 -- ---- a call that changed nothing, or ended what there was, where no transaction is open
 
 module _ (form : Form) (old new : State) (P : Trees → Type 0) (survives : Survives old new P) (fits : Fits form false old) (stood : HasCleanDisk new → StaysOrUndoes old new) where
-  was-idle : HasCleanDisk new → IsTrue new.is_open → IsTrue old.is_open × Agrees form false old
+  was-idle : HasCleanDisk new → IsTrue new.is_open → IsTrue old.is_open × AgreesWithForm form false old
   was-idle clean opened = let was = was_open old new (stood clean) opened in (was, fits (was-honest old new P survives clean) was)
 
-  still-idle : StaysOrUndoes old new → IsTrue new.is_open → Agrees form false old → Agrees form false new
+  still-idle : StaysOrUndoes old new → IsTrue new.is_open → AgreesWithForm form false old → AgreesWithForm form false new
   still-idle (inl same) opened it = agrees-unchanged form false old new same it
-  still-idle (inr back) opened it = subst (λ (f : Form). Agrees f false new) (it.making refl) (agrees-back form false old new back opened it)
+  still-idle (inr back) opened it = subst (λ (f : Form). AgreesWithForm f false new) (it.making refl) (agrees-back form false old new back opened it)
 
-  still-there : StaysOrUndoes old new → IsTrue new.is_open → Agrees form false old → new.now ≡ old.now
+  still-there : StaysOrUndoes old new → IsTrue new.is_open → AgreesWithForm form false old → new.now ≡ old.now
   still-there (inl same) opened it = same.0.now_is
   still-there (inr back) opened it = (back.undone opened).0 ∙ sym (it.settled refl)
 

@@ -20,7 +20,7 @@ use Rattle.sqltables.specs.declared.form.Form.TheVariants.{Unused, Making, Made,
 use Rattle.states.proofs.LeavingLemmas.{has-alone, has-either, has-front, has-last}
 use Rattle.states.specs.States.{Closes, Fails, Keeps, Remains, Starts, Stays, holding}
 use Rattle.sqltables.specs.Content.{Content}
-use Rattle.sqltables.specs.inner.Stored.{Agrees, Bears, Fits, Guards, committed, has_rows, leaves_of, left_in, readiness_of, rows_in, store_state, undone}
+use Rattle.sqltables.specs.inner.Stored.{AgreesWithForm, Bears, Fits, Guards, committed, has_rows, leaves_of, left_in, readiness_of, rows_in, store_state, undone}
 use Rattle.sqltables.specs.Stored.{IsLeftAs}
 use Rattle.sqltables.proofs.StandingLemmas.{agrees-back, clean-of, guards-on, home, honest, leaves-same, undone-ready, was-honest}
 
@@ -93,10 +93,10 @@ module _ (form : Form) (old new : State) (P : Trees → Type 0) (survives : Surv
       opened-before : HasCleanDisk new → IsTrue new.is_open → IsTrue old.is_open
       opened-before clean opened = executed_open begin_text [] old new (Ok count) (ran clean) opened
 
-      agreed : HasCleanDisk new → IsTrue new.is_open → Agrees form false old
+      agreed : HasCleanDisk new → IsTrue new.is_open → AgreesWithForm form false old
       agreed clean opened = fits (was-honest old new P survives clean) (opened-before clean opened)
 
-      shows : HasCleanDisk new → Agrees form false old → Shows old new old.now old.committed true
+      shows : HasCleanDisk new → AgreesWithForm form false old → Shows old new old.now old.committed true
       shows clean it = began old new (Ok count) it.mode (ran clean)
 
       pub fits-begun : Fits form true new
@@ -126,16 +126,16 @@ module _ (form : Form) (old new : State) (P : Trees → Type 0) (survives : Surv
       }
 
     module _ (e : Error) (ran : HasCleanDisk new → Executes begin_text [] old new (Err e)) where
-      was-agreed : HasCleanDisk new → IsTrue new.is_open → Agrees form false old
+      was-agreed : HasCleanDisk new → IsTrue new.is_open → AgreesWithForm form false old
       was-agreed clean opened = fits (was-honest old new P survives clean) (executed_open begin_text [] old new (Err e) (ran clean) opened)
 
-      gone : HasCleanDisk new → Agrees form false old → IsRolledBack old new
+      gone : HasCleanDisk new → AgreesWithForm form false old → IsRolledBack old new
       gone clean it = began old new (Err e) it.mode (ran clean)
 
       pub fits-not-begun : Fits form false new
       fits-not-begun clean opened =
           let it = was-agreed clean opened in
-          subst (λ (f : Form). Agrees f false new) (it.making refl) (agrees-back form false old new (gone clean it) opened it)
+          subst (λ (f : Form). AgreesWithForm f false new) (it.making refl) (agrees-back form false old new (gone clean it) opened it)
 
       pub stays-not-begun : Stays (store_state form false old leaves) (store_state form false new leaves)
       stays-not-begun = record {
@@ -153,10 +153,10 @@ module _ (form : Form) (old new : State) (P : Trees → Type 0) (survives : Surv
       open-before : HasCleanDisk new → IsTrue new.is_open → IsTrue old.is_open
       open-before clean opened = executed_open commit_text [] old new (Ok count) (ran clean) opened
 
-      agreed-inside : HasCleanDisk new → IsTrue new.is_open → Agrees form true old
+      agreed-inside : HasCleanDisk new → IsTrue new.is_open → AgreesWithForm form true old
       agreed-inside clean opened = fits (was-honest old new P survives clean) (open-before clean opened)
 
-      kept : HasCleanDisk new → Agrees form true old → Shows old new old.now old.now false
+      kept : HasCleanDisk new → AgreesWithForm form true old → Shows old new old.now old.now false
       kept clean it = ended old new (Ok count) it.mode (ran clean)
 
       pub fits-committed : Fits (committed form) false new
@@ -194,10 +194,10 @@ module _ (form : Form) (old new : State) (P : Trees → Type 0) (survives : Surv
       }
 
     module _ (e : Error) (ran : HasCleanDisk new → Executes commit_text [] old new (Err e)) where
-      was-inside : HasCleanDisk new → IsTrue new.is_open → Agrees form true old
+      was-inside : HasCleanDisk new → IsTrue new.is_open → AgreesWithForm form true old
       was-inside clean opened = fits (was-honest old new P survives clean) (executed_open commit_text [] old new (Err e) (ran clean) opened)
 
-      undone-by : HasCleanDisk new → Agrees form true old → IsRolledBack old new
+      undone-by : HasCleanDisk new → AgreesWithForm form true old → IsRolledBack old new
       undone-by clean it = ended old new (Err e) it.mode (ran clean)
 
       pub fits-not-committed : Fits (undone form) false new
@@ -231,13 +231,13 @@ module _ (form : Form) (old new : State) (P : Trees → Type 0) (survives : Surv
 module _ {C : Type 0} (state-of : C → State) (form : Form) (begun : Bool) (old new : C) (P : Trees → Type 0) (survives : Survives (state-of old) (state-of new) P) (fits : Fits form begun (state-of old))
     (does : HasCleanDisk (state-of new) → IsRolledBack (state-of old) (state-of new) ⊎ ((new ≡ old) × ((state-of old).in_transaction ≡ false))) (leaves : List (Remains Content)) where
   abbrev Back : C → Type 0
-  Back c = Agrees (undone form) false (state-of c) × (rows_in (undone form) (state-of c).now.trees ≡ (store_state form begun (state-of old) leaves).before)
+  Back c = AgreesWithForm (undone form) false (state-of c) × (rows_in (undone form) (state-of c).now.trees ≡ (store_state form begun (state-of old) leaves).before)
 
-  idle-back : (state-of old).in_transaction ≡ false → Agrees form begun (state-of old) → Back old
+  idle-back : (state-of old).in_transaction ≡ false → AgreesWithForm form begun (state-of old) → Back old
   idle-back none it =
       let idle : begun ≡ false = sym it.mode ∙ none in
       let kept : undone form ≡ form = it.making idle in
-      (subst₂ (λ (f : Form) (b : Bool). Agrees f b (state-of old)) (sym kept) idle it, ap (λ (db : Database). rows_in (undone form) db.trees) (it.settled idle) ∙ sym (home form begun (state-of old) leaves it))
+      (subst₂ (λ (f : Form) (b : Bool). AgreesWithForm f b (state-of old)) (sym kept) idle it, ap (λ (db : Database). rows_in (undone form) db.trees) (it.settled idle) ∙ sym (home form begun (state-of old) leaves it))
 
   turned : HasCleanDisk (state-of new) → IsTrue (state-of new).is_open → IsTrue (state-of old).is_open × Back new
   turned clean opened = elim (does clean) [

@@ -3,7 +3,7 @@ ghost use Rattle.std.specs.Prelude.{◌≡◌, ◌⊎◌, ◌≤◌, true, map, 
 ghost use Rattle.sqlite_trees.specs.Tree.{Trees};
 ghost use Rattle.sqlite_value.specs.Value.{owned};
 ghost use Rattle.sqlite.specs.Values.{bound};
-ghost use Rattle.sqltables.specs.inner.Answers.{AreRight, IsAnswered, IsOf, IsPutIn, IsRight, IsQueryOf};
+ghost use Rattle.sqltables.specs.inner.Answers.{AreRight, IsAnsweredByRows, IsOf, IsPutIn, IsQueryOf};
 ghost use Rattle.sqltables.specs.Content.{Content};
 ghost use Rattle.sqltables.specs.inner.Content.{IsContent};
 ghost use Rattle.sqltables.specs.inner.Statements.{AreOthersSame, Asks};
@@ -148,7 +148,7 @@ impl Answers {
     pub fn keep(&mut self, tree: u64, sql: &str, params: &[ValueRef<'_>], rows: Vec<Row>)
         requires { IsQueryOf tree sql.now }
         ensures right { (db : Trees) → AreRight db self.old
-            → IsAnswered db sql.now (bound params.now) rows.items → AreRight db self.new }
+            → IsAnsweredByRows db sql.now (bound params.now) rows.items → AreRight db self.new }
         ensures kept { (self.new ≡ self.old) ⊎ ((it : Answer) × IsPutIn it self.old self.new) }
     {
         if rows.len() > MOST_ROWS {

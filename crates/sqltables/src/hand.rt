@@ -1,5 +1,5 @@
 //! Rows that are kept at hand.
-ghost use Rattle.std.specs.Prelude.{◌≡◌, true, ◌∷◌, [], Some, None, IfOk};
+ghost use Rattle.std.specs.Prelude.{◌≡◌, true, Some, None, IfOk};
 ghost use Rattle.sqltables.specs.inner.Hand.{IsSameMeta, IsSameRow, KeepsAccount, KeepsDays, KeepsMeta, RenewsMeta, after, has_number, no_row, rows_at};
 
 use crate::account::AccountRow;

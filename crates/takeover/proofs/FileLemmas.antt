@@ -21,7 +21,7 @@ use Rattle.sqltables.specs.Content.{Content}
 use Rattle.sqltables.specs.declared.meta.MetaRow.{MetaRow}
 use Rattle.sqltables.specs.Readiness.{is_numbered, may_be_numbered}
 use Rattle.sqltables.specs.Stored as stored
-use Rattle.sqltables.specs.inner.Reopening.{IsFoundAgain, IsReopened}
+use Rattle.sqltables.specs.inner.Reopening.{IsContentFoundAgain, AreRowsReopened}
 use Rattle.sqltables.proofs.ReopeningLemmas.{reopened}
 use Rattle.sqlbook.specs.Files.{IsFoundIn}
 use Rattle.sqlbook.specs.Meaning.{are_right, stored_of}
@@ -40,7 +40,7 @@ module _ {D : Type 0} {g : Ghosts D} (it : FileStore D g) (numbered : IsTrue (vi
   pub old-found : (leaves : List (Remains Content)) → CoversOld leaves (recovers it) → ∥ ((left : Remains Content) × Has leaves left × IsLeftAsOld left trees) ∥₁
   old-found leaves covers = ∥∥₁_map (opens_again it numbered sound image may) (λ db. covers trees (subst (recovers it) (sym (found db.0 db.2)) db.1))
 
-  pub new-found : (leaves : List (Remains Content)) → stored.Covers leaves (recovers it) → (again : StateOf Content) → IsAdopted trees again → again.is_clean ≡ true → ∥ IsReopened leaves again ∥₁
+  pub new-found : (leaves : List (Remains Content)) → stored.Covers leaves (recovers it) → (again : StateOf Content) → IsAdopted trees again → again.is_clean ≡ true → ∥ AreRowsReopened leaves again ∥₁
   new-found leaves covers again taken clean =
       ∥∥₁_map (opens_again it numbered sound image may) (λ db. reopened leaves (recovers it) trees again covers (subst (recovers it) (sym (found db.0 db.2)) db.1) taken clean)
 
@@ -58,22 +58,22 @@ numbered-if xs terms (meta ∷ more) is e some = e
 
 module _ (p : PolicyRules) (from : OldState) (to again : StateOf Content) (right : are_right (numbered_anew from.content) ≡ true) (terms : Terms) (some : (stored_of from.content).terms ≡ Some terms) where
   -- what is found where all was left
-  consistent : (left : Remains Content) → IsAll p from.content left → IsFoundAgain left.readiness left.content again.readiness again.content → IsFoundComplete p from again
+  consistent : (left : Remains Content) → IsAll p from.content left → IsContentFoundAgain left.readiness left.content again.readiness again.content → IsFoundComplete p from again
   consistent left all found =
       let there : (stored_of left.content).terms ≡ Some (record terms { days = p.days }) =
       ap (λ (s : Stored). s.terms) all.1.0 ∙ ap (with_days p) some in
       let number = numbered-if left.content (record terms { days = p.days }) left.content.metas refl (and_parts (may_be_numbered left.content.metas) _ (all.1.1 ∙ right)).0 there in
-      let same = subst (λ (r : Ready). IsFoundAgain r left.content again.readiness again.content) all.0 found number in
+      let same = subst (λ (r : Ready). IsContentFoundAgain r left.content again.readiness again.content) all.0 found number in
       (same.0, ap stored_of same.1 ∙ all.1.0)
 
   -- what is found where what was there before was left
-  as-before : (place : Trees) → IsAdopted place to → to.is_clean ≡ true → (left : Remains Content) → Has to.crash_leaves left → IsFoundAgain left.readiness left.content again.readiness again.content → IsAsBefore to again
+  as-before : (place : Trees) → IsAdopted place to → to.is_clean ≡ true → (left : Remains Content) → Has to.crash_leaves left → IsContentFoundAgain left.readiness left.content again.readiness again.content → IsAsBefore to again
   as-before place taken clean left h found =
       let it : Remains Content = record { readiness = to.readiness; content = to.content } in
       let is : left ≡ it = has-alone it left (subst (λ (l : List (Remains Content)). Has l left) (taken.leaves clean) h) in
-      subst (λ (l : Remains Content). IsFoundAgain l.readiness l.content again.readiness again.content) is found
+      subst (λ (l : Remains Content). IsContentFoundAgain l.readiness l.content again.readiness again.content) is found
 
-  module _ (read : OldState) (written : StateOf Content) (answers : old.Answers from) (honest : read.is_honest ≡ true) (place : Trees) (taken : IsAdopted place to) (sure : written.is_honest ≡ true) (it : IsReopened written.crash_leaves again) where
+  module _ (read : OldState) (written : StateOf Content) (answers : old.Answers from) (honest : read.is_honest ≡ true) (place : Trees) (taken : IsAdopted place to) (sure : written.is_honest ≡ true) (it : AreRowsReopened written.crash_leaves again) where
     unchanged : written.crash_leaves ≡ to.crash_leaves → to.is_honest ≡ true → IsAsBefore to again
     unchanged same was = as-before place taken (taken.answers was) it.0 (subst (λ (l : List (Remains Content)). Has l it.0) same it.1) it.2
 

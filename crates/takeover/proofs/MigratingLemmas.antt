@@ -33,7 +33,7 @@ use Rattle.states.specs.declared.fault.BookFault.TheVariants as faults
 use Rattle.states.specs.declared.readiness.Ready.TheVariants.{Used}
 use Rattle.states.specs.States.{Closes, Has, Keeps, LeavesSame, Reads, Remains, Starts, StateOf, Stays, holding}
 use Rattle.states.proofs.LeavingLemmas.{leaves-on}
-use Rattle.oldrows.specs.inner.Copies.{Copies, IsCopied, IsLeft, put_of_all}
+use Rattle.oldrows.specs.inner.Copies.{Copies, IsCopied, IsCopyLeft, put_of_all}
 use Rattle.oldrows.specs.Copies.{renumbered}
 use Rattle.oldrows.specs.inner.Stored.{IsOldContent}
 use Rattle.oldrows.specs.Stored.{IsRead, OldState}
@@ -181,7 +181,7 @@ copied-then one two from read more to mid wrote a b = record {
 
 -- after a copy that failed behind one that didn't
 left-then : (one : Content → Content → Content) (from read more : OldState) (to mid wrote : StateOf Content)
-    → IsCopied one from read to mid → IsLeft read more mid wrote → IsLeft from more to wrote
+    → IsCopied one from read to mid → IsCopyLeft read more mid wrote → IsCopyLeft from more to wrote
 left-then one from read more to mid wrote a b = record {
   source = read-on from read more a.asked.reads b.source;
   target = stays-then to mid wrote (stays-copied one from read to mid a) b.target;
@@ -346,7 +346,7 @@ module _ (p : PolicyRules) (from read : OldState) (a b c d e : StateOf Content) 
     ];
   }
 
-  undone-all : IsLeft from read c d → Closes d.before d e → IsTried p from read a e
+  undone-all : IsCopyLeft from read c d → Closes d.before d e → IsTried p from read a e
   undone-all left back = tried-nothing p from read a e (asked.source refl) left.source (closed-back left.target back)
 
   unsuited : IsRefused p from read c d → Closes d.before d e → IsUnsuited p from read a e

@@ -1,6 +1,6 @@
 -- How the program ends where a registry of the schema before this one is taken over, and where it isn't.
 use Rattle.std.specs.Prelude.{◌≡◌, ◌⊎◌, Result, Ok, Err, ⊤}
-use Rattle.oldrows.specs.inner.Adoption.{IsAdopted as IsOldAdopted}
+use Rattle.oldrows.specs.inner.Adoption.{IsOldAdopted}
 use Rattle.oldrows.specs.Stored.{OldState}
 use Rattle.policy.specs.Rules.{PolicyRules}
 use Rattle.registry.specs.declared.fault.OpenFault.TheVariants as opening

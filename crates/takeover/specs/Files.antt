@@ -13,7 +13,7 @@ use Rattle.oldrows.specs.inner.Adoption as adopted
 use Rattle.oldrows.specs.inner.Stored.{IsLeftAsOld, IsSameOld}
 use Rattle.sqltables.specs.Adoption.{IsAdopted}
 use Rattle.sqltables.specs.Content.{Content}
-use Rattle.sqltables.specs.inner.Reopening.{IsFoundAgain, IsReopened}
+use Rattle.sqltables.specs.inner.Reopening.{IsContentFoundAgain, AreRowsReopened}
 use Rattle.sqlbook.specs.Files.{IsFoundIn}
 use Rattle.sqlbook.specs.Meaning.{are_right, stored_of}
 use Rattle.states.specs.States.{Has, Remains, StateOf}
@@ -27,7 +27,7 @@ abbrev pub AreOver : {D : Type 0} → Ghosts D → Files D → StateOf Content �
 AreOver g files rows =
     (image : Image) → outcomes g files.log files.db image → (trees : Trees) → IsFoundIn image trees
     → (again : StateOf Content) → IsAdopted trees again → again.is_clean ≡ true
-    → ∥ IsReopened rows.crash_leaves again ∥₁
+    → ∥ AreRowsReopened rows.crash_leaves again ∥₁
 
 -- Files under rows of the schema before: what a crash leaves of them is, once it is opened, what was told.
 abbrev pub AreOverOld : {D : Type 0} → Ghosts D → Files D → OldState → Type 0
@@ -41,13 +41,13 @@ AreOverOld g files rows =
 abbrev pub OldFilesStay : {D : Type 0} → Ghosts D → Type 0
 OldFilesStay {D} g =
     (files : Files D) (found : Trees) (from read : OldState)
-    → adopted.IsAdopted found from → IsRead from read → read.is_honest ≡ true → AreOverOld g files read
+    → adopted.IsOldAdopted found from → IsRead from read → read.is_honest ≡ true → AreOverOld g files read
     → (image : Image) → outcomes g files.log files.db image → (trees : Trees) → IsFoundIn image trees
     → ∥ IsSameOld found trees ∥₁
 
 -- what was there before is found again
 abbrev pub IsAsBefore : StateOf Content → StateOf Content → Type 0
-IsAsBefore to again = IsFoundAgain to.readiness to.content again.readiness again.content
+IsAsBefore to again = IsContentFoundAgain to.readiness to.content again.readiness again.content
 
 -- the registry that was to be taken over is found, whole
 abbrev pub IsFoundComplete : PolicyRules → OldState → StateOf Content → Type 0

@@ -1,11 +1,10 @@
 //! A registry of the schema before this one, taken over.
 ghost use Rattle.std.specs.Prelude.{◌≡◌, true, false, IfOk, Ok};
 ghost use Rattle.oldrows.specs.inner.Copies.{Copies, put_of_all};
-ghost use Rattle.policy.specs.Terms.{terms_of};
 ghost use Rattle.sqltables.specs.Content.{no_content};
 ghost use Rattle.states.specs.States.{Finds};
 ghost use Rattle.sqlbook.specs.Meaning.{are_right, stored_of};
-ghost use Rattle.takeover.specs.inner.Migrating.{AreReady, EndsAs, IsBegun, IsKept, TakesOver, heads, others, put_lines};
+ghost use Rattle.takeover.specs.inner.Migrating.{AreReady, EndsAs, IsBegun, IsMigrationKept, TakesOver, heads, others, put_lines};
 ghost use Rattle.takeover.specs.Migrating.{Migrates, fault_of, redated, suits};
 ghost use Rattle.sqlbook.specs.AsBook.{MakesAs};
 
@@ -137,7 +136,7 @@ fn end<T: Alter>(to: &mut RowStore<T>, taken: Result<bool, BookFault>) -> Result
 /// Keeps what was taken over. If the commit fails, all is undone as far as this program sees.
 fn keep<T: Alter>(to: &mut RowStore<T>) -> Result<(), BookFault>
     requires { to.old.is_open ≡ true }
-    ensures { IsKept result to.old to.new }
+    ensures { IsMigrationKept result to.old to.new }
 {
     match to.commit() {
         Ok(()) => Ok(()),

@@ -1,5 +1,5 @@
 //! How often something was asked and answered so.
-ghost use Rattle.std.specs.Prelude.{◌<◌, IfSome, length, vec_len};
+ghost use Rattle.std.specs.Prelude.{◌<◌, IfSome, length};
 
 use std::alloc::{AllocError, Global};
 

@@ -11,7 +11,7 @@ use Rattle.streams.specs.Moves.{AppendsBeginning, AppendsLess}
 use Rattle.zonefile.specs.Lines.{soa_line}
 use Rattle.zonefile.specs.declared.fault.ZoneFault.{ZoneFault}
 use Rattle.zonefile.specs.declared.fault.ZoneFault.TheVariants as faults
-use Rattle.zonefile.specs.ZoneText.{Stops, delegation_text, glue_text, zone_text}
+use Rattle.zonefile.specs.ZoneText.{StopsWithin, delegation_text, glue_text, zone_text}
 
 -- what was written, and the rest of the text
 pub record Written (old now : Option (List ℕ)) (rest text : List ℕ) : Type 0 where
@@ -28,7 +28,7 @@ more_written old now new part rest text w more = record {
 }
 
 -- what was written, and what went out of the next part before a fault, went out of the text
-pub stopped_in : (fault : ZoneFault) (old now new : Option (List ℕ)) (part rest text : List ℕ) → Written old now (part ++ rest) text → Stops fault now new part → Stops fault old new text
+pub stopped_in : (fault : ZoneFault) (old now new : Option (List ℕ)) (part rest text : List ℕ) → Written old now (part ++ rest) text → StopsWithin fault now new part → StopsWithin fault old new text
 stopped_in faults.Memory old now new part rest text w (n, more) =
     let a = went_on old now new w.front part n w.wrote more in
     subst (AppendsBeginning old new) (append_assoc w.front part rest ∙ w.joins) (began old new (w.front ++ part) rest a.0 a.1)
@@ -48,7 +48,7 @@ module _ {X : Type 0} (f : X → List ℕ) (old now new : Option (List ℕ)) (it
   pub one_more : Appends now new (f item) → Written old new (flat_map f rest) text
   one_more more = more_written old now new (f item) (flat_map f rest) text before more
 
-  pub stopped_at : (fault : ZoneFault) → Stops fault now new (f item) → Stops fault old new text
+  pub stopped_at : (fault : ZoneFault) → StopsWithin fault now new (f item) → StopsWithin fault old new text
   stopped_at fault more = stopped_in fault old now new (f item) (flat_map f rest) text before more
 
 -- ---- the parts of a zone
@@ -73,18 +73,18 @@ module _ (p : PolicyRules) (serial : ℕ) (zone : ZoneData) where
   pub soa_written : (old new : Option (List ℕ)) → Appends old new (soa_line p.zone.label p.soa serial) → Written old new (delegations_part ++ (glue_part ++ [])) text
   soa_written old new wrote = more_written old old new (soa_line p.zone.label p.soa serial) _ text (nothing old) wrote
 
-  pub soa_begun : (fault : ZoneFault) (old new : Option (List ℕ)) → Stops fault old new (soa_line p.zone.label p.soa serial) → Stops fault old new text
+  pub soa_begun : (fault : ZoneFault) (old new : Option (List ℕ)) → StopsWithin fault old new (soa_line p.zone.label p.soa serial) → StopsWithin fault old new text
   soa_begun fault old new began = stopped_in fault old old new (soa_line p.zone.label p.soa serial) _ text (nothing old) began
 
   -- the start of authority, and then the name servers
   pub delegations_written : (old now new : Option (List ℕ)) → Appends old now (soa_line p.zone.label p.soa serial) → Appends now new delegations_part → Written old new (glue_part ++ []) text
   delegations_written old now new soa wrote = more_written old now new delegations_part _ text (soa_written old now soa) wrote
 
-  pub delegations_begun : (fault : ZoneFault) (old now new : Option (List ℕ)) → Appends old now (soa_line p.zone.label p.soa serial) → Stops fault now new delegations_part → Stops fault old new text
+  pub delegations_begun : (fault : ZoneFault) (old now new : Option (List ℕ)) → Appends old now (soa_line p.zone.label p.soa serial) → StopsWithin fault now new delegations_part → StopsWithin fault old new text
   delegations_begun fault old now new soa began = stopped_in fault old now new delegations_part _ text (soa_written old now soa) began
 
   pub all_written : (old now then new : Option (List ℕ)) → Appends old now (soa_line p.zone.label p.soa serial) → Appends now then delegations_part → Appends then new glue_part → Appends old new text
   all_written old now then new soa delegations wrote = finished old new text (more_written old then new glue_part [] text (delegations_written old now then soa delegations) wrote)
 
-  pub glue_begun : (fault : ZoneFault) (old now then new : Option (List ℕ)) → Appends old now (soa_line p.zone.label p.soa serial) → Appends now then delegations_part → Stops fault then new glue_part → Stops fault old new text
+  pub glue_begun : (fault : ZoneFault) (old now then new : Option (List ℕ)) → Appends old now (soa_line p.zone.label p.soa serial) → Appends now then delegations_part → StopsWithin fault then new glue_part → StopsWithin fault old new text
   glue_begun fault old now then new soa delegations began = stopped_in fault old then new glue_part [] text (delegations_written old now then soa delegations) began

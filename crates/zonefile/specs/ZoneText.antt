@@ -34,6 +34,6 @@ zone_text p serial zone = joined (
     )
 
 -- what went out of the text before a fault: a beginning, and not all of it where a write failed
-abbrev pub Stops : ZoneFault → Option (List ℕ) → Option (List ℕ) → List ℕ → Type 0
-Stops Memory old new text = AppendsBeginning old new text
-Stops Write old new text = AppendsLess old new text
+abbrev pub StopsWithin : ZoneFault → Option (List ℕ) → Option (List ℕ) → List ℕ → Type 0
+StopsWithin Memory old new text = AppendsBeginning old new text
+StopsWithin Write old new text = AppendsLess old new text

@@ -3,7 +3,7 @@ ghost use Rattle.std.specs.Prelude.{◌≡◌, IfErr, OnOk};
 ghost use Rattle.std.specs.Io.KnownBytes.{Appends};
 ghost use Rattle.std.specs.List.{flat_map};
 ghost use Rattle.zonefile.specs.Lines.{soa_line};
-ghost use Rattle.zonefile.specs.ZoneText.{Stops, zone_text};
+ghost use Rattle.zonefile.specs.ZoneText.{StopsWithin, zone_text};
 
 use crate::fault::ZoneFault;
 use crate::line::soa_line;
@@ -25,7 +25,7 @@ pub fn write_zone<W: Write>(
 ) -> Result<(), ZoneFault>
     ensures written { OnOk result (Appends (W.contents writer.old) (W.contents writer.new)
         (zone_text policy.now serial zone.now)) }
-    ensures begun { IfErr result (λ fault. Stops fault (W.contents writer.old) (W.contents writer.new)
+    ensures begun { IfErr result (λ fault. StopsWithin fault (W.contents writer.old) (W.contents writer.new)
         (zone_text policy.now serial zone.now)) }
 {
     let ttl = ttl_of(policy);
@@ -50,7 +50,7 @@ fn write_soa<W: Write>(
 ) -> Result<(), ZoneFault>
     ensures written { OnOk result (Appends (W.contents writer.old) (W.contents writer.new)
         (soa_line policy.now.zone.label policy.now.soa serial)) }
-    ensures begun { IfErr result (λ fault. Stops fault (W.contents writer.old) (W.contents writer.new)
+    ensures begun { IfErr result (λ fault. StopsWithin fault (W.contents writer.old) (W.contents writer.new)
         (soa_line policy.now.zone.label policy.now.soa serial)) }
 {
     let line = soa_line(alloc, policy, serial)?;
@@ -67,7 +67,7 @@ fn write_all<W: Write, T: Recorded>(
 ) -> Result<(), ZoneFault>
     ensures written { OnOk result (Appends (W.contents writer.old) (W.contents writer.new)
         (flat_map (T.text ttl) items.now)) }
-    ensures begun { IfErr result (λ fault. Stops fault (W.contents writer.old) (W.contents writer.new)
+    ensures begun { IfErr result (λ fault. StopsWithin fault (W.contents writer.old) (W.contents writer.new)
         (flat_map (T.text ttl) items.now)) }
 {
     for item in items {
@@ -85,7 +85,7 @@ fn write_records<W: Write, T: Recorded>(
 ) -> Result<(), ZoneFault>
     ensures written { OnOk result (Appends (W.contents writer.old) (W.contents writer.new)
         (T.text ttl item.now)) }
-    ensures begun { IfErr result (λ fault. Stops fault (W.contents writer.old) (W.contents writer.new)
+    ensures begun { IfErr result (λ fault. StopsWithin fault (W.contents writer.old) (W.contents writer.new)
         (T.text ttl item.now)) }
 {
     let text = item.lines(alloc, ttl)?;

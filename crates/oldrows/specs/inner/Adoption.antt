@@ -40,7 +40,7 @@ IsKnownAsOld Used trees = IsSound first_registry trees × (is_first (old_content
 IsKnownAsOld Empty trees = ⊥
 IsKnownAsOld Other trees = IsSound first_registry trees → is_first (old_contents trees).metas ≡ false
 
-pub record IsAdopted (trees : Trees) (s : OldState) : Type 0 where
+pub record IsOldAdopted (trees : Trees) (s : OldState) : Type 0 where
   pub content : s.is_clean ≡ true → IsTakenAsOld s.readiness trees s.content
   pub known : s.is_clean ≡ true → IsKnownAsOld s.readiness trees
   pub answers : Answers s

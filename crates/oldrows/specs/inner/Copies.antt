@@ -47,11 +47,11 @@ abbrev pub IsCopied : (Content → Content → Content) → OldState → OldStat
     → StateOf Content → Type 0
 IsCopied put from read to written = IsOnItsWay put (λ source target. target) from read to written
 
-pub record IsLeft (from read : OldState) (to written : StateOf Content) : Type 0 where
+pub record IsCopyLeft (from read : OldState) (to written : StateOf Content) : Type 0 where
   pub source : IsRead from read
   pub target : Stays to written
 
 abbrev pub Copies : {A : Type 0} → Result A BookFault → (Content → Content → Content) → OldState
     → OldState → StateOf Content → StateOf Content → Type 0
 Copies (Ok done) put from read to written = IsCopied put from read to written
-Copies (Err fault) put from read to written = IsLeft from read to written
+Copies (Err fault) put from read to written = IsCopyLeft from read to written

@@ -120,15 +120,15 @@ FindsOld (Ok it) value old new = IsAsked old new × (new.is_clean ≡ true → i
 FindsOld (Err fault) value old new = IsRead old new
 
 -- no transaction is open, and each row is a record's
-pub record Agrees (s : State) : Type 0 where
+pub record AgreesAsOld (s : State) : Type 0 where
   pub mode : s.in_transaction ≡ false
   pub holds : IsOld (old_contents s.now.trees) s.now
   pub settled : s.now ≡ s.committed
 
 -- while the disk is clean and the connection open
 abbrev pub FitsOld : Bool → State → Type 0
-FitsOld is_there s = HasCleanDisk s → IsTrue s.is_open → is_there ≡ true → Agrees s
+FitsOld is_there s = HasCleanDisk s → IsTrue s.is_open → is_there ≡ true → AgreesAsOld s
 
 -- while the disk is clean, nothing but these may be left
-abbrev pub Guards : State → List (Remains Content) → Type 0
-Guards s leaves = HasCleanDisk s → CoversOld leaves s.may_leave
+abbrev pub GuardsOld : State → List (Remains Content) → Type 0
+GuardsOld s leaves = HasCleanDisk s → CoversOld leaves s.may_leave

@@ -14,7 +14,7 @@ use Rattle.registry.specs.Execution.{SameTerms}
 use Rattle.registry.specs.Opening.{HasOtherTerms, IsOurs, Opens, Refuses, goes_on, opened}
 use Rattle.registry.specs.declared.fault.OpenFault.{OpenFault}
 use Rattle.registry.specs.declared.fault.OpenFault.TheVariants as refusals
-use Rattle.books.specs.Book.{BookReads, BookState, BookStays, BookWrites, Follows, GivesUp, LeavesItself, LeavesOldOrMade, LeavesSame, NoRefusal, WentBack}
+use Rattle.books.specs.Book.{BookReads, BookState, BookStays, BookWrites, Follows, GivesUp, LeavesItself, LeavesOldOrMade, BookLeavesSame, NoRefusal, WentBack}
 use Rattle.states.specs.declared.fault.BookFault.{BookFault}
 
 -- the transaction is still open, and can go back as before; the terms are the same
@@ -72,28 +72,28 @@ pub record HasMoved (moment : ℕ) (before after : Registry) (clock : ℕ) : Typ
   pub left : after ≡ at (max moment before.clock) before
 
 -- These changes are made, and this is the answer.
-pub record IsMade {A : Type 0} (p : PolicyRules) (changes : List Change) (answer : A)
+pub record AreChangesMade {A : Type 0} (p : PolicyRules) (changes : List Change) (answer : A)
     (before after : Registry) (it : A) : Type 0 where
   pub answer_is : it ≡ answer
   pub left : after ≡ changed_all p changes before
 
 -- a decision on an order is carried out
-abbrev pub IsCarriedOut : PolicyRules → OrderDecision → Registry → Registry → Code → Type 0
-IsCarriedOut p decision before after code = IsMade p decision.changes decision.code before after
+abbrev pub IsOrderCarriedOut : PolicyRules → OrderDecision → Registry → Registry → Code → Type 0
+IsOrderCarriedOut p decision before after code = AreChangesMade p decision.changes decision.code before after
     code
 
 -- ---- an opening
 
 -- in the open transaction the accounts are there, and the terms put down
-pub record IsTakenUp (p : PolicyRules) (old new : BookState) : Type 0 where
+pub record IsOpeningTakenUp (p : PolicyRules) (old new : BookState) : Type 0 where
   pub moves : BookWrites old new (opened p old.content)
   pub stays : BookStays old new
   pub fits : new.is_clean ≡ true → goes_on (terms_of p) old.content ≡ true
 
 -- the book was taken up, or it went back
 abbrev pub TakesUp : Result Bool BookFault → PolicyRules → BookState → BookState → Type 0
-TakesUp (Ok true) p old new = IsTakenUp p old new
-TakesUp (Ok false) p old new = HasOtherTerms p old new × (Follows old new × LeavesSame old new)
+TakesUp (Ok true) p old new = IsOpeningTakenUp p old new
+TakesUp (Ok false) p old new = HasOtherTerms p old new × (Follows old new × BookLeavesSame old new)
 TakesUp (Err fault) p old new = WentBack fault old new
 
 -- A book that is known to be ours is opened, and a crash leaves what is held; or it was refused.

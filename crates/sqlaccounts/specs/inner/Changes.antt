@@ -66,7 +66,7 @@ pub record IsOpened (r : ℕ) (old new : Content) : Type 0 where
 -- ---- one row of account put for another
 
 -- the balance alone is another, by so many cents
-pub record IsPaid (cents : ℤ) (row changed : AccountRow) : Type 0 where
+pub record IsBalanceChanged (cents : ℤ) (row changed : AccountRow) : Type 0 where
   pub rest : changed ≡ record row { balance = changed.balance }
   pub sum : balance_in changed.balance ≡ balance_in row.balance +ℤ cents
 
@@ -78,7 +78,7 @@ abbrev pub counters_in : Option AccountRow → Counters
 counters_in row = option_map_or counted_in row (record { commands = 0; messages = 0; serial = 0 })
 
 -- the counters alone are others
-pub record IsCounted (x : Counters) (row changed : AccountRow) : Type 0 where
+pub record HasNewCounters (x : Counters) (row changed : AccountRow) : Type 0 where
   pub rest : changed ≡ record row { commands = counter_column x.commands; messages = counter_column x.messages; serial = counter_column x.serial }
   pub back : counted_in changed ≡ x
 

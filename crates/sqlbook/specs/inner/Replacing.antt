@@ -14,8 +14,8 @@ use Rattle.sqlobjects.specs.Sponsors.{IsSponsorSetBelow}
 use Rattle.sqlterms.specs.Terms.{days_of_rows}
 
 -- no other days were put down
-abbrev pub IsUnder : Schedule → Content → Type 0
-IsUnder days xs = IfSome (days_of_rows xs) (λ d. d ≡ days)
+abbrev pub IsUnderDays : Schedule → Content → Type 0
+IsUnderDays days xs = IfSome (days_of_rows xs) (λ d. d ≡ days)
 
 -- this domain, or none, is under a name, and its row is right
 pub record IsCheckedDomain (name : List ℕ) (right : Content → DomainRow → Bool) (xs : Content) (domain : Option Domain) : Type 0 where

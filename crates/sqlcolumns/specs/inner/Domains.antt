@@ -16,14 +16,14 @@ use Rattle.sqlcolumns.specs.Texts.{statuses_column}
 abbrev pub domain_registration : Domain → Registration
 domain_registration d = record { roid = d.roid; sponsor = d.sponsor; created = d.created; transferred = d.transferred; updated = d.updated }
 
-pub record IsDeletion (d : Deletion) : Type 0 where
+pub record IsStorableDeletion (d : Deletion) : Type 0 where
   pub deleted : IsMoment d.deleted
   pub restore_requested : IfSome d.restore_requested IsMoment
 
 pub record IsDomain (d : Domain) : Type 0 where
   pub registration : IsRegistration (domain_registration d)
   pub years : d.years < 2 ^ 32
-  pub deletion : IfSome d.deletion IsDeletion
+  pub deletion : IfSome d.deletion IsStorableDeletion
 
 -- ---- written
 

@@ -14,7 +14,7 @@ use Rattle.sqlcolumns.specs.Steps.{◌>>=◌}
 
 -- ---- which values there are
 
-pub record IsLine (line : Line) : Type 0 where
+pub record IsStorableLine (line : Line) : Type 0 where
   pub roid : IfSome line.roid IsRoid
   pub recorded : IsMoment line.recorded
   pub years : line.years < 2 ^ 32

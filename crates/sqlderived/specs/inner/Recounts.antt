@@ -7,26 +7,26 @@ use Rattle.sqltables.specs.declared.account.AccountRow.{AccountRow}
 use Rattle.sqltables.specs.Content.{Content}
 
 -- a row has all columns that it had, but for how many domains are held
-abbrev pub IsAlike : AccountRow → AccountRow → Type 0
-IsAlike old new = new ≡ record old { held = new.held }
+abbrev pub IsAlikeButHeld : AccountRow → AccountRow → Type 0
+IsAlikeButHeld old new = new ≡ record old { held = new.held }
 
 -- there is a row like the one that there was, or none as there was none
 abbrev pub AreAlike : Option AccountRow → Option AccountRow → Type 0
 AreAlike None None = ⊤
 AreAlike None (Some new) = ⊥
 AreAlike (Some old) None = ⊥
-AreAlike (Some old) (Some new) = IsAlike old new
+AreAlike (Some old) (Some new) = IsAlikeButHeld old new
 
 -- and of the domains that are held so many are less, and so many more
-pub record IsCounted (less more : ℕ) (old new : AccountRow) : Type 0 where
-  pub rest : IsAlike old new
+pub record IsHeldCounted (less more : ℕ) (old new : AccountRow) : Type 0 where
+  pub rest : IsAlikeButHeld old new
   pub held : new.held +ℤ pos less ≡ old.held +ℤ pos more
 
 abbrev pub AreCounted : ℕ → ℕ → Option AccountRow → Option AccountRow → Type 0
 AreCounted less more None None = ⊤
 AreCounted less more None (Some new) = ⊥
 AreCounted less more (Some old) None = ⊥
-AreCounted less more (Some old) (Some new) = IsCounted less more old new
+AreCounted less more (Some old) (Some new) = IsHeldCounted less more old new
 
 -- For each registrar so many domains are less, and so many more. No other column and no other table is
 -- changed, so the accounts are the same, and their other sums are as right as they were.

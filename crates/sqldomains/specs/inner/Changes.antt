@@ -9,7 +9,7 @@ use Rattle.sqltables.specs.declared.domain.DomainRow.{DomainRow}
 use Rattle.sqltables.specs.inner.Consistent.{IsConsistent}
 use Rattle.sqlobjects.specs.inner.Changes.{with_named}
 use Rattle.sqlobjects.specs.Objects.{contacts_of, hosts_of}
-use Rattle.sqlobjects.specs.inner.Stages.{AreOthersKept}
+use Rattle.sqlobjects.specs.inner.Stages.{AreOtherNamesKept}
 use Rattle.sqldomains.specs.Domains.{domain_read, domains_of}
 
 -- who sponsors a domain, if there is one
@@ -31,7 +31,7 @@ pub record IsDomainPut (name : List ℕ) (value : Option Domain) (due : Option �
   pub addresses : new.addresses ≡ old.addresses
   pub lines : new.lines ≡ old.lines
   pub messages : new.messages ≡ old.messages
-  pub others : AreOthersKept (λ (r : DomainRow). r.name) name old.domains new.domains
+  pub others : AreOtherNamesKept (λ (r : DomainRow). r.name) name old.domains new.domains
   pub readings : (row : DomainRow) → Has old.domains row → Has new.domains row
       → bytes_eq row.name name ≡ false → domain_read new row ≡ domain_read old row
   pub due_is : (row : DomainRow) → Has new.domains row → row.name ≡ name

@@ -49,5 +49,5 @@ IsUseOfHost xs id None = filter (link_with_host id) xs.links ≡ []
 IsUseOfHost xs id (Some row) = Has xs.domains row
 
 -- the domain of a row passes
-abbrev pub Passes : Content → (Domain → Bool) → DomainRow → Type 0
-Passes xs test row = (d : Domain) × (domain_read xs row ≡ Some d) × (test d ≡ true)
+abbrev pub PassesTest : Content → (Domain → Bool) → DomainRow → Type 0
+PassesTest xs test row = (d : Domain) × (domain_read xs row ≡ Some d) × (test d ≡ true)

@@ -13,7 +13,7 @@ use Rattle.sqltables.specs.Transfer.{transfer_with_domain}
 use Rattle.sqltables.specs.inner.Consistent.{IsConsistent}
 use Rattle.sqlobjects.specs.Objects.{contacts_of, hosts_of}
 use Rattle.sqlobjects.specs.Sponsors.{is_sponsor_right, sponsors_are_right}
-use Rattle.sqlobjects.specs.inner.Stages.{AreOthersKept}
+use Rattle.sqlobjects.specs.inner.Stages.{AreOtherNamesKept}
 use Rattle.sqlobjects.specs.Changes.{contact_name_by_number, host_name_by_number}
 
 -- under a name is this, or nothing
@@ -56,7 +56,7 @@ pub record IsHostPut (name : List ℕ) (value : Option Host) (old new : Content)
   pub lines : new.lines ≡ old.lines
   pub messages : new.messages ≡ old.messages
   pub transfers : new.transfers ≡ old.transfers
-  pub others : AreOthersKept (λ (r : HostRow). r.name) name old.hosts new.hosts
+  pub others : AreOtherNamesKept (λ (r : HostRow). r.name) name old.hosts new.hosts
   pub sponsor_was : (row : HostRow) → Has old.hosts row → row.name ≡ name
       → is_sponsor_right old row ≡ true
   pub sponsor_is : (row : HostRow) → Has new.hosts row → row.name ≡ name

@@ -36,8 +36,8 @@ ChangesGiving (Ok it) way old new = HasChanged (way it) old new
 ChangesGiving (Err fault) way old new = Stays old new
 
 -- rows of other names than this are as they were
-abbrev pub AreOthersKept : {P : Type 0} → (P → List ℕ) → List ℕ → List P → List P → Type 0
-AreOthersKept name n old new =
+abbrev pub AreOtherNamesKept : {P : Type 0} → (P → List ℕ) → List ℕ → List P → List P → Type 0
+AreOtherNamesKept name n old new =
     (q : List ℕ) → bytes_eq q n ≡ false
     → filter (λ r. bytes_eq (name r) q) new ≡ filter (λ r. bytes_eq (name r) q) old
 
@@ -45,7 +45,7 @@ AreOthersKept name n old new =
 pub record IsPlaced {P : Type 0} (name : P → List ℕ) (n : List ℕ) (row : P) (old new : List P) : Type 0 where
   pub named : name row ≡ n
   pub there : Has new row
-  pub others : AreOthersKept name n old new
+  pub others : AreOtherNamesKept name n old new
 
 -- ---- rows that have names
 

@@ -11,14 +11,14 @@ abbrev pub StaysOrUndoes : State → State → Type 0
 StaysOrUndoes old new = IsUnchanged old new ⊎ IsRolledBack old new
 
 -- the transaction goes on, and nothing is committed
-pub record Stays (old new : State) : Type 0 where
+pub record StaysOpen (old new : State) : Type 0 where
   pub shown : Shows old new new.now old.committed true
   pub marks : new.marks ≡ old.marks
 
 -- the text writes rows, or makes a table or an index, inside a transaction
 pub record Writes (sql : List ℕ) (params : Row) (old new : State) (result : Result (Unit {0}) Error) : Type 0 where
   pub ran : HasCleanDisk new → OnOk result ((count : ℕ) × Executes sql params old new (Ok count))
-  pub stays : HasCleanDisk new → OnOk result (Stays old new)
+  pub stays : HasCleanDisk new → OnOk result (StaysOpen old new)
   pub err : HasCleanDisk new → OnErr result (StaysOrUndoes old new)
   pub crash : Survives old new (λ _. ⊥)
 

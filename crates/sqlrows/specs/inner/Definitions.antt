@@ -16,7 +16,7 @@ use Rattle.sqlite.specs.Given.{IsPlain}
 use Rattle.sqlite.specs.Listing.{understood}
 use Rattle.sqlite.specs.State.{State}
 use Rattle.sqlrows.specs.inner.Layouts.{command_of}
-use Rattle.sqlrows.specs.inner.Calls.{Stays, LeavesOnly}
+use Rattle.sqlrows.specs.inner.Calls.{StaysOpen, LeavesOnly}
 
 -- the statement alone, as the schema keeps it
 abbrev pub statement_of : List ℕ → Result Compiled CompileError → List ℕ
@@ -63,6 +63,6 @@ pub record IsUndone (old new : State) : Type 0 where
 
 -- the tables of the schema are there, with no row, and the transaction goes on; after an error it goes on with some of them, or is undone
 pub record Makes (schema : Schema) (old new : State) (result : Result (Unit {0}) Error) : Type 0 where
-  pub made : OnOk result (IsBlank schema new.now × Stays old new)
-  pub err : OnErr result (Stays old new ⊎ IsUndone old new)
+  pub made : OnOk result (IsBlank schema new.now × StaysOpen old new)
+  pub err : OnErr result (StaysOpen old new ⊎ IsUndone old new)
   pub crash : LeavesOnly old new (λ _. ⊥)

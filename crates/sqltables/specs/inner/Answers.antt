@@ -13,8 +13,8 @@ use Rattle.sqltables.specs.inner.Statements.{IsOfTable}
 use Rattle.sqltables.specs.declared.answers.Answer.{Answer}
 
 -- these rows answer the question that the text is, of the trees
-abbrev pub IsAnswered : Trees → List ℕ → Row → List Row → Type 0
-IsAnswered db sql params rows =
+abbrev pub IsAnsweredByRows : Trees → List ℕ → Row → List Row → Type 0
+IsAnsweredByRows db sql params rows =
     (query : Query) → IsSelect registry sql query → IsAnswer query (overlay db []) params rows
 
 -- the text is a query of the table in this tree alone
@@ -27,7 +27,7 @@ IsOf it sql params = (it.sql.items ≡ sql) × (map bound_value it.params ≡ pa
 
 -- its rows answer its question, which is of the table in its tree alone
 abbrev pub IsRight : Trees → Answer → Type 0
-IsRight db it = IsAnswered db it.sql.items (map bound_value it.params) it.rows.items
+IsRight db it = IsAnsweredByRows db it.sql.items (map bound_value it.params) it.rows.items
     × IsQueryOf it.tree it.sql.items
 
 -- each one does, of the trees

@@ -7,13 +7,13 @@ use Rattle.sqltables.specs.Content.{Content}
 use Rattle.sqltables.specs.Readiness.{is_numbered}
 
 -- what was left is what is found, if it was nothing, or rows with the number of this schema
-abbrev pub IsFoundAgain : Ready → Content → Ready → Content → Type 0
-IsFoundAgain Empty left now content = (now ≡ Empty) × (content ≡ left)
-IsFoundAgain Used left now content = is_numbered left.metas ≡ true → (now ≡ Used) × (content ≡ left)
-IsFoundAgain Other left now content = ⊤
+abbrev pub IsContentFoundAgain : Ready → Content → Ready → Content → Type 0
+IsContentFoundAgain Empty left now content = (now ≡ Empty) × (content ≡ left)
+IsContentFoundAgain Used left now content = is_numbered left.metas ≡ true → (now ≡ Used) × (content ≡ left)
+IsContentFoundAgain Other left now content = ⊤
 
 -- one of these is found
-abbrev pub IsReopened : List (Remains Content) → StateOf Content → Type 0
-IsReopened leaves s =
+abbrev pub AreRowsReopened : List (Remains Content) → StateOf Content → Type 0
+AreRowsReopened leaves s =
     (left : Remains Content) × Has leaves left
-    × IsFoundAgain left.readiness left.content s.readiness s.content
+    × IsContentFoundAgain left.readiness left.content s.readiness s.content

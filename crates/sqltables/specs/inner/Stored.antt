@@ -76,7 +76,7 @@ Bears Made now committed = HoldsRows now × HoldsRows committed
 Bears Other now committed = ⊤
 
 -- Without a transaction nothing waits for a commit, and no table is being made.
-pub record Agrees (form : Form) (begun : Bool) (s : State) : Type 0 where
+pub record AgreesWithForm (form : Form) (begun : Bool) (s : State) : Type 0 where
   pub mode : s.in_transaction ≡ begun
   pub bears : Bears form s.now s.committed
   pub settled : begun ≡ false → s.now ≡ s.committed
@@ -84,7 +84,7 @@ pub record Agrees (form : Form) (begun : Bool) (s : State) : Type 0 where
 
 -- while the disk is clean and the connection open
 abbrev pub Fits : Form → Bool → State → Type 0
-Fits form begun s = HasCleanDisk s → IsTrue s.is_open → Agrees form begun s
+Fits form begun s = HasCleanDisk s → IsTrue s.is_open → AgreesWithForm form begun s
 
 -- While the disk is clean, the connection is open as long as a transaction is, and nothing but these may be left.
 pub record Guards (begun : Bool) (s : State) (leaves : List (Remains Content)) : Type 0 where

@@ -2,7 +2,7 @@
 use Rattle.std.specs.Prelude.{◌≡◌, ◌⊎◌, Bool, true, false, List, [], ◌∷◌, map, Result, Ok, Err}
 use Rattle.oldrows.specs.declared.copying.TableName.{TableName}
 use Rattle.oldrows.specs.declared.copying.TableName.TheVariants.{Metas, Accounts, Contacts, Domains, Hosts, Addresses, Links, Messages, Transfers}
-use Rattle.oldrows.specs.inner.Copies.{IsLeft, put_rows}
+use Rattle.oldrows.specs.inner.Copies.{IsCopyLeft, put_rows}
 use Rattle.oldrows.specs.Copies.{renumbered}
 use Rattle.oldrows.specs.Stored.{IsAsked, OldState}
 use Rattle.policy.specs.declared.schedule.Schedule.{Schedule}
@@ -58,7 +58,7 @@ abbrev pub TakesOver : Result Bool BookFault → PolicyRules → OldState → Ol
     → StateOf Content → Type 0
 TakesOver (Ok true) p from read to written = IsTakenOver p from read to written
 TakesOver (Ok false) p from read to written = IsRefused p from read to written
-TakesOver (Err fault) p from read to written = IsLeft from read to written
+TakesOver (Err fault) p from read to written = IsCopyLeft from read to written
 
 -- ---- how the transaction ends
 
@@ -73,9 +73,9 @@ pub record IsUnkept {X : Type 0} (old new : StateOf X) : Type 0 where
   pub ready : new.readiness ≡ old.readiness
 
 -- It is kept, or not.
-abbrev pub IsKept : {A X : Type 0} → Result A BookFault → StateOf X → StateOf X → Type 0
-IsKept (Ok done) old new = Keeps old new
-IsKept (Err fault) old new = IsUnkept old new
+abbrev pub IsMigrationKept : {A X : Type 0} → Result A BookFault → StateOf X → StateOf X → Type 0
+IsMigrationKept (Ok done) old new = Keeps old new
+IsMigrationKept (Err fault) old new = IsUnkept old new
 
 -- What was taken over is kept, or a commit of it failed; else all is undone.
 abbrev pub EndsAs : {A : Type 0} → Result A MigrateFault → Result Bool BookFault → StateOf Content

@@ -1,4 +1,4 @@
-use Rattle.std.proofs.Common.{◌≡◌, ℕ, Option, Result, Err, ap, refl, sym, subst, ◌∙◌}
+use Rattle.std.proofs.Common.{ℕ, Option, Result, Err, ap, refl, sym, subst, ◌∙◌}
 use Rattle.std.specs.Prelude.{⊤}
 use Rattle.std.proofs.lemmas.Result.{err_from_is_err_and}
 use Rattle.policy.specs.Rules.{PolicyRules}

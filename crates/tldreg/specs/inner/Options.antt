@@ -150,6 +150,6 @@ abbrev pub HasWrong : List (List ℕ) → Type 0
 HasWrong words = (it : Taking) × AreTaken words it × IsWrong it
 
 -- what words are split into, unless memory ran out. Where they aren't, it is a wrong command line.
-abbrev pub Splits : List (List ℕ) → Result Split Exit → Type 0
-Splits words (Ok split) = AreTaken words (taking [] split)
-Splits words (Err exit) = (exit ≡ exits.Memory) ⊎ ((exit ≡ exits.Usage) × HasWrong words)
+abbrev pub SplitsWords : List (List ℕ) → Result Split Exit → Type 0
+SplitsWords words (Ok split) = AreTaken words (taking [] split)
+SplitsWords words (Err exit) = (exit ≡ exits.Memory) ⊎ ((exit ≡ exits.Usage) × HasWrong words)

@@ -2,7 +2,7 @@ use Rattle.std.proofs.Common.{Option, option_map, ap, ◌∙◌, List, ℕ}
 use Rattle.std.specs.FinMap.{get}
 use Rattle.facts.specs.Facts.{domain_facts_of, lookups}
 use Rattle.model.specs.View.{domain_sight}
-use Rattle.books.proofs.RecordsLemmas.{finds-on}
+use Rattle.states.proofs.CallLemmas.{finds-on}
 use Rattle.books.proofs.finding.domain_facts.Goals as goal
 
 pub returns : goal.returns

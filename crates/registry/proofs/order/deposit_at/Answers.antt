@@ -4,7 +4,7 @@ use Rattle.std.proofs.lemmas.Int.{ints}
 use Rattle.decisions.specs.Orders.{deposit_decision}
 use Rattle.protocol.specs.declared.order.Order.TheVariants as orders
 use Rattle.registry.specs.Execution.{IsOrderStep}
-use Rattle.registry.specs.inner.Steps.{IsCarriedOut, Works}
+use Rattle.registry.specs.inner.Steps.{IsOrderCarriedOut, Works}
 use Rattle.registry.proofs.PassingSteps.{deposited}
 use Rattle.registry.proofs.StepLemmas.{works-then}
 use Rattle.registry.proofs.order.deposit_at.Goals as goal
@@ -18,10 +18,10 @@ returns g c =
     let mid = g.B.Book.state c.pass.new.book in
     let new = g.B.Book.state c.deposit.new.book in
     let paid : to_z w64 (of_z w64 c.args.cents) ≡ c.args.cents = omega (arith, ints) in
-    works-then c.deposit.result (IsCarriedOut p (deposit_decision p now id c.args.cents))
+    works-then c.deposit.result (IsOrderCarriedOut p (deposit_decision p now id c.args.cents))
     (IsOrderStep p (orders.Deposit id c.args.cents) c.args.moment) old mid new
     c.requires c.in_ok-now.ensures.0
     (λ clean after code. deposited p id c.args.cents c.args.moment now old.content.registry
     mid.content.registry after code (c.in_ok-now.ensures.1 clean))
-    (subst (λ (cents : ℤ). Works c.deposit.result (IsCarriedOut p (deposit_decision p now id cents))
+    (subst (λ (cents : ℤ). Works c.deposit.result (IsOrderCarriedOut p (deposit_decision p now id cents))
     mid new) paid c.deposit.ensures)

@@ -4,7 +4,7 @@ use Rattle.protocol.specs.declared.order.Order.TheVariants as orders
 use Rattle.protocol.specs.Orders.{name_ordered}
 use Rattle.registry.specs.Execution.{IsOrderStep}
 use Rattle.registry.specs.inner.Passing.{IsPassed, about_named, status_at}
-use Rattle.registry.specs.inner.Steps.{IsCarriedOut, IsWithin}
+use Rattle.registry.specs.inner.Steps.{IsOrderCarriedOut, IsWithin}
 use Rattle.registry.proofs.PassingSteps.{ordered}
 use Rattle.registry.proofs.StepLemmas.{works-then}
 use Rattle.books.specs.Book.{BookState}
@@ -27,7 +27,7 @@ returns g c =
     (ap (λ b. g.B.Book.state b) {x = c.or_rollback.new.book} c.in_ok-name.ensures.1)
     c.in_ok-pass.ensures in
     works-then c.set_statuses.result
-    (λ before after code. IsCarriedOut p (status_at o name before) before after code)
+    (λ before after code. IsOrderCarriedOut p (status_at o name before) before after code)
     (IsOrderStep p (orders.Status o) c.args.moment) old mid
     (g.B.Book.state c.set_statuses.new.book)
     c.requires passed.0 (λ clean after code. ordered p o c.args.moment c.in_ok-pass.field-0 name

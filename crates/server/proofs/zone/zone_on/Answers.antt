@@ -9,7 +9,7 @@ use Rattle.policy.specs.Rules.{PolicyRules}
 use Rattle.registry.specs.Faces.{LooksUp}
 use Rattle.server.specs.ZoneExport.{zone_at, zone_data_text}
 use Rattle.books.specs.Book.{BookState}
-use Rattle.zonefile.specs.ZoneText.{Stops}
+use Rattle.zonefile.specs.ZoneText.{StopsWithin}
 use Rattle.server.proofs.PassingLemmas.{passes_by}
 use Rattle.server.proofs.zone.zone_on.Goals as goal
 
@@ -37,7 +37,7 @@ returns-in_err-write_data-clause-begun g c =
     let p : PolicyRules = c.args.registry.now.policy in
     let old : BookState = g.B.Book.state c.args.registry.now.book in
     let new : BookState = g.B.Book.state c.zone_data.new.self.book in
-    subst (Stops _ _ _) (text_is _ p c.policy.result.now c.args.moment c.in_ok-zone.zone old new (c.policy.ensures ∙ c.zone_data.ensures.keeps.policy) c.in_ok-zone.ensures.step clean) c.in_err-write_data.ensures.begun)
+    subst (StopsWithin _ _ _) (text_is _ p c.policy.result.now c.args.moment c.in_ok-zone.zone old new (c.policy.ensures ∙ c.zone_data.ensures.keeps.policy) c.in_ok-zone.ensures.step clean) c.in_err-write_data.ensures.begun)
 
 pub returns-in_err-write_data-clause-passes : goal.returns-in_err-write_data-clause-passes
 returns-in_err-write_data-clause-passes g c =

@@ -35,5 +35,5 @@ returns g c =
     let both = reads-on c.args.store.now c.number_of_contact.new.store c.use_of_contact.new.store first.0 second.0 in (
       reads-on c.args.store.now c.use_of_contact.new.store c.naming_contact.new.store both third.0,
       λ clean. let e = third.0.clean clean in sym (contact-used xs name (c.show_consistent.ensures (both.clean e)) c.in-Some-2.row (use-of-contact _ _ _ _ _ _ (first.0.content (second.0.clean e)) (to_z-of_z fits) c.in-Some-2.is (second.1 e))
-          (subst (λ ys. spec.Passes ys (λ d. names_contact name d.links) c.in-Some-2.row) (both.content e) (third.1 clean))),
+          (subst (λ ys. spec.PassesTest ys (λ d. names_contact name d.links) c.in-Some-2.row) (both.content e) (third.1 clean))),
     )

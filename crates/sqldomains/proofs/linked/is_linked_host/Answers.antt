@@ -35,5 +35,5 @@ returns g c =
     let both = reads-on c.args.store.now c.number_of_host.new.store c.use_of_host.new.store first.0 second.0 in (
       reads-on c.args.store.now c.use_of_host.new.store c.naming_host.new.store both third.0,
       λ clean. let e = third.0.clean clean in sym (host-used xs name (c.show_consistent.ensures (both.clean e)) c.in-Some-2.row (use-of-host _ _ _ _ _ _ (first.0.content (second.0.clean e)) (to_z-of_z fits) c.in-Some-2.is (second.1 e))
-          (subst (λ ys. spec.Passes ys (λ d. names_host name d.links) c.in-Some-2.row) (both.content e) (third.1 clean))),
+          (subst (λ ys. spec.PassesTest ys (λ d. names_host name d.links) c.in-Some-2.row) (both.content e) (third.1 clean))),
     )

@@ -2,7 +2,7 @@ use Rattle.std.proofs.Common.{◌≡◌, true, map, drop, IsTrue}
 use Rattle.sqlite_schema.specs.declared.schema.Schema.{Schema}
 use Rattle.sqlite.specs.Held.{state}
 use Rattle.sqlite.specs.State.{HasCleanDisk}
-use Rattle.sqlrows.specs.inner.Calls.{ForgetsNoFault, Stays, LeavesOnly}
+use Rattle.sqlrows.specs.inner.Calls.{ForgetsNoFault, StaysOpen, LeavesOnly}
 use Rattle.sqlrows.specs.inner.Definitions.{DefinesAll, IsBlank}
 use Rattle.sqlrows.proofs.definition.define.Given as goal
 
@@ -12,4 +12,4 @@ invariant-texts g l =
     let old = state g.S.Store l.fn.conn in
     let now = state g.S.Store l.conn in
     ForgetsNoFault old now × (HasCleanDisk now → IsTrue now.is_open → IsTrue old.is_open) × ((from to : Schema) → DefinesAll from (map (λ t. t.now) l.texts) to → IsBlank from old.now → IsTrue old.is_open → old.in_transaction ≡ true → HasCleanDisk now
-    → ((next : Schema) × DefinesAll next (map (λ t. t.now) (drop l.text-index l.texts)) to × IsBlank next now.now) × Stays old now × LeavesOnly old now (λ _. ⊥))
+    → ((next : Schema) × DefinesAll next (map (λ t. t.now) (drop l.text-index l.texts)) to × IsBlank next now.now) × StaysOpen old now × LeavesOnly old now (λ _. ⊥))

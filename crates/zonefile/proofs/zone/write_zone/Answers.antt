@@ -2,7 +2,7 @@ use Rattle.std.proofs.Common.{subst}
 use Rattle.std.proofs.lemmas.Result.{IfErr-weaker, err_from_is_err_and, on_ok_weaker}
 use Rattle.std.specs.Io.KnownBytes.{Appends}
 use Rattle.std.specs.List.{flat_map}
-use Rattle.zonefile.specs.ZoneText.{Stops, delegation_text, glue_text}
+use Rattle.zonefile.specs.ZoneText.{StopsWithin, delegation_text, glue_text}
 use Rattle.zonefile.proofs.WriteLemmas.{all_written, delegations_begun, glue_begun, soa_begun}
 use Rattle.zonefile.proofs.zone.write_zone.Goals as goal
 
@@ -15,7 +15,7 @@ pub returns-in_err-write_all-clause-begun : goal.returns-in_err-write_all-clause
 returns-in_err-write_all-clause-begun g c =
     let p = err_from_is_err_and c.from_residual-in_err-write_all.result c.from_residual-in_err-write_all.ensures.1 in
     rw (p.1, p.2) (delegations_begun c.args.policy.now c.args.serial c.args.zone.now _ _ _ _ c.in_ok-write_soa.ensures.written
-    (subst (Stops _ _ _) (λ i. flat_map (delegation_text (c.ttl_of-ttl.ensures i)) (c.as_slice.ensures i)) c.in_err-write_all.ensures.begun))
+    (subst (StopsWithin _ _ _) (λ i. flat_map (delegation_text (c.ttl_of-ttl.ensures i)) (c.as_slice.ensures i)) c.in_err-write_all.ensures.begun))
 
 pub returns-clause-written : goal.returns-clause-written
 returns-clause-written g c = on_ok_weaker c.write_all-2.result (λ wrote.
@@ -27,4 +27,4 @@ pub returns-clause-begun : goal.returns-clause-begun
 returns-clause-begun g c = IfErr-weaker c.write_all-2.result _ _ (λ fault begun.
     glue_begun c.args.policy.now c.args.serial c.args.zone.now fault _ _ _ _ c.in_ok-write_soa.ensures.written
     (subst (Appends _ _) (λ i. flat_map (delegation_text (c.ttl_of-ttl.ensures i)) (c.as_slice.ensures i)) c.in_ok-write_all.ensures.written)
-    (subst (Stops fault _ _) (λ i. flat_map (glue_text (c.ttl_of-ttl.ensures i)) (c.as_slice-2.ensures i)) begun)) c.write_all-2.ensures.begun
+    (subst (StopsWithin fault _ _) (λ i. flat_map (glue_text (c.ttl_of-ttl.ensures i)) (c.as_slice-2.ensures i)) begun)) c.write_all-2.ensures.begun

@@ -1,6 +1,6 @@
 use Rattle.std.proofs.Common.{◌∙◌, Some, None, ap}
 use Rattle.books.specs.Tables.{host_moved, host_set}
-use Rattle.books.proofs.RecordsLemmas.{makes-on}
+use Rattle.states.proofs.CallLemmas.{makes-on}
 use Rattle.states.proofs.LeavingLemmas.{leaves-on}
 use Rattle.mapbook.specs.declared.edit.Edit.TheVariants as edit
 use Rattle.mapbook.specs.Edits.{edited}

@@ -5,7 +5,7 @@ use Rattle.sqlite.specs.State.{HasCleanDisk}
 use Rattle.sqltables.specs.Content.{Content}
 use Rattle.states.specs.States.{Remains}
 use Rattle.oldrows.specs.inner.Adoption.{IsSeen}
-use Rattle.oldrows.specs.inner.Stored.{Guards, as_found}
+use Rattle.oldrows.specs.inner.Stored.{GuardsOld, as_found}
 use Rattle.oldrows.proofs.AdoptedLemmas.{fits_found, guards_found, seen-alone, shown}
 use Rattle.oldrows.proofs.reading.OldRows.over.Goals as goal
 
@@ -14,7 +14,7 @@ invariant_of-result g c =
     let s = state g.S.Store c.args.conn in
     let alone = seen-alone (state g.S.Store) c.new.result.items c.and-seen.result.items c.args.conn c.in-Ok.said c.new.ensures c.and-seen.ensures in (
       fits_found s c.requires c.in-Ok.said (λ e. sym c.schema.ensures.value ∙ c.in-Ok.ensures.same e),
-      subst (Guards s) (sym alone)
+      subst (GuardsOld s) (sym alone)
           (guards_found s c.requires c.in-Ok.said (λ e. sym c.schema.ensures.value ∙ c.in-Ok.ensures.same e) (λ e is. c.in-Ok.ensures.other e (c.schema.ensures.value ∙ is)) (λ db opened may. g.met.S.Store.settled c.args.conn.store db opened may)),
     )
 

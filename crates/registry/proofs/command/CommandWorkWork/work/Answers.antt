@@ -1,6 +1,6 @@
 use Rattle.std.proofs.Common.{ap}
 use Rattle.registry.specs.Execution.{IsStep}
-use Rattle.registry.specs.inner.Steps.{IsMade}
+use Rattle.registry.specs.inner.Steps.{AreChangesMade}
 use Rattle.registry.proofs.PassingSteps.{executed}
 use Rattle.registry.proofs.StepLemmas.{only-read, within-on, works-then}
 use Rattle.books.specs.Book.{Stored}
@@ -16,7 +16,7 @@ returns g c =
     let passed = c.in_ok-now.ensures in
     let found = c.in_ok-prepared.ensures in
     let prepared = c.in_ok-prepared.prepared in
-    works-then c.make_prepared.result (IsMade p prepared.changes prepared.reply)
+    works-then c.make_prepared.result (AreChangesMade p prepared.changes prepared.reply)
     (IsStep p it.caller it.command.now it.moment) old looked
     (g.B.Book.state c.make_prepared.new.book) c.requires
     (within-on old mid looked passed.0 (only-read mid looked passed.0.opened found.0 found.1.0))

@@ -7,7 +7,7 @@ use Rattle.sqlrows.specs.inner.Definitions.{IsUndone}
 use Rattle.sqltables.specs.Content.{Content, no_content}
 use Rattle.sqltables.specs.inner.Content.{IsContent}
 use Rattle.states.specs.States.{Stays, StateOf, Writes}
-use Rattle.sqltables.specs.inner.Stored.{Agrees, Fits, Guards, leaves_of, store_state}
+use Rattle.sqltables.specs.inner.Stored.{AgreesWithForm, Fits, Guards, leaves_of, store_state}
 use Rattle.sqltables.specs.declared.form.Form.{Form}
 use Rattle.sqltables.specs.declared.form.Form.TheVariants.{Unused, Making}
 use Rattle.sqltables.proofs.MakingLemmas.{back-or-same, fits-made, fits-unmade, guards-made, guards-unmade, makes-made, stays-unmade}
@@ -20,10 +20,10 @@ invariant_of-self g c =
     let leaves = leaves_of (state g.S.Store) c.self.inside.left.items in
     let begun = ap (λ (s : StateOf Content). s.is_open) c.self.view_is ∙ c.requires in
     let fits = subst₂ (λ (f : Form) (b : Bool). Fits f b old) c.in-Unused.is begun c.self.invariant.0 in
-    let made : (HasCleanDisk mid → IsTrue old.is_open → Agrees Unused true old → IsContent no_content mid.now × calls.Stays old mid) =
+    let made : (HasCleanDisk mid → IsTrue old.is_open → AgreesWithForm Unused true old → IsContent no_content mid.now × calls.StaysOpen old mid) =
     λ clean opened it. (c.in-Ok.ensures.empty it.bears.0 opened it.mode clean, (c.in-Ok.ensures.makes it.bears.0 opened it.mode clean).made.1) in
     let guards = subst (λ (b : Bool). Guards b old leaves) begun c.self.invariant.1 in
-    let crash : (HasCleanDisk mid → IsTrue old.is_open → Agrees Unused true old → (db : Trees) → mid.may_leave db → old.may_leave db ⊎ ⊥) =
+    let crash : (HasCleanDisk mid → IsTrue old.is_open → AgreesWithForm Unused true old → (db : Trees) → mid.may_leave db → old.may_leave db ⊎ ⊥) =
     λ clean opened it. (c.in-Ok.ensures.makes it.bears.0 opened it.mode clean).crash in (
       subst (λ (b : Bool). Fits Making b mid) (sym begun) (fits-made old mid _ c.create.ensures.steady fits c.create.ensures.opened leaves made),
       subst (λ (b : Bool). Guards b mid leaves) (sym begun) (guards-made old mid _ c.create.ensures.steady fits c.create.ensures.opened leaves made crash guards),
@@ -38,10 +38,10 @@ invariant_of-self-in-Err g c =
     let leaves = leaves_of (state g.S.Store) c.self.inside.left.items in
     let begun = ap (λ (s : StateOf Content). s.is_open) c.self.view_is ∙ c.requires in
     let fits = subst₂ (λ (f : Form) (b : Bool). Fits f b old) c.in-Unused.is begun c.self.invariant.0 in
-    let failed : (HasCleanDisk mid → IsTrue old.is_open → Agrees Unused true old → calls.Stays old mid ⊎ IsUndone old mid) =
+    let failed : (HasCleanDisk mid → IsTrue old.is_open → AgreesWithForm Unused true old → calls.StaysOpen old mid ⊎ IsUndone old mid) =
     λ clean opened it. (c.in-Err.ensures.makes it.bears.0 opened it.mode clean).err in
     let guards = subst (λ (b : Bool). Guards b old leaves) begun c.self.invariant.1 in
-    let crash : (HasCleanDisk mid → IsTrue old.is_open → Agrees Unused true old → (db : Trees) → mid.may_leave db → old.may_leave db ⊎ ⊥) =
+    let crash : (HasCleanDisk mid → IsTrue old.is_open → AgreesWithForm Unused true old → (db : Trees) → mid.may_leave db → old.may_leave db ⊎ ⊥) =
     λ clean opened it. (c.in-Err.ensures.makes it.bears.0 opened it.mode clean).crash in
     let does = back-or-same (state g.S.Store) c.create.new.conn c.rollback.new.conn c.rollback.ensures.does in (
       subst (λ (f : Form). Fits f false new) (sym c.in-Unused.is) (fits-unmade old mid _ c.create.ensures.steady fits c.create.ensures.opened leaves failed new _ c.rollback.ensures.crash does),
@@ -56,7 +56,7 @@ returns-in-Ok g c =
     let leaves = leaves_of (state g.S.Store) c.self.inside.left.items in
     let begun = ap (λ (s : StateOf Content). s.is_open) c.self.view_is ∙ c.requires in
     let fits = subst₂ (λ (f : Form) (b : Bool). Fits f b old) c.in-Unused.is begun c.self.invariant.0 in
-    let made : (HasCleanDisk mid → IsTrue old.is_open → Agrees Unused true old → IsContent no_content mid.now × calls.Stays old mid) =
+    let made : (HasCleanDisk mid → IsTrue old.is_open → AgreesWithForm Unused true old → IsContent no_content mid.now × calls.StaysOpen old mid) =
     λ clean opened it. (c.in-Ok.ensures.empty it.bears.0 opened it.mode clean, (c.in-Ok.ensures.makes it.bears.0 opened it.mode clean).made.1) in
     let was = ap (λ (f : Form). store_state f true old leaves) (sym c.in-Unused.is) ∙ ap (λ (b : Bool). store_state c.self.inside.form b old leaves) (sym begun) ∙ c.self.view_is in
     let it = makes-made old mid _ c.create.ensures.steady fits c.create.ensures.opened leaves made in
@@ -71,7 +71,7 @@ returns-in-Err g c =
     let leaves = leaves_of (state g.S.Store) c.self.inside.left.items in
     let begun = ap (λ (s : StateOf Content). s.is_open) c.self.view_is ∙ c.requires in
     let fits = subst₂ (λ (f : Form) (b : Bool). Fits f b old) c.in-Unused.is begun c.self.invariant.0 in
-    let failed : (HasCleanDisk mid → IsTrue old.is_open → Agrees Unused true old → calls.Stays old mid ⊎ IsUndone old mid) =
+    let failed : (HasCleanDisk mid → IsTrue old.is_open → AgreesWithForm Unused true old → calls.StaysOpen old mid ⊎ IsUndone old mid) =
     λ clean opened it. (c.in-Err.ensures.makes it.bears.0 opened it.mode clean).err in
     let was = ap (λ (f : Form). store_state f true old leaves) (sym c.in-Unused.is) ∙ ap (λ (b : Bool). store_state c.self.inside.form b old leaves) (sym begun) ∙ c.self.view_is in
     let it = stays-unmade old mid _ c.create.ensures.steady fits c.create.ensures.opened leaves failed new _ c.rollback.ensures.crash (back-or-same (state g.S.Store) c.create.new.conn c.rollback.new.conn c.rollback.ensures.does) in

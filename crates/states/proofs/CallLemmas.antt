@@ -1,4 +1,4 @@
--- One call on records after another.
+-- One call on a store after another.
 use Rattle.std.proofs.Common.{◌≡◌, true, Result, Ok, Err, ◌∙◌}
 use Rattle.states.specs.declared.fault.BookFault.{BookFault}
 use Rattle.states.specs.States.{Answers, Finds, LeavesSame, Makes, Reads, StateOf}
