@@ -11,7 +11,7 @@ use Rattle.sqlite_schema.specs.declared.schema.Column.{Column}
 use Rattle.sqlite_catalog.specs.Change.{created, indexed}
 use Rattle.sqlrows.specs.inner.Definitions.{IsTable, IsIndex, DefinesAll, IsBlank}
 use Rattle.sqlite.specs.Effect.{Database}
-use Rattle.sqltables.specs.Tables.{registry, meta, account, contact, domain, host, address, link, line, message, transfer, rows_of_days, with_meta, with_account, with_contact, with_domain, with_host, with_address, with_link, with_transfer_losing}
+use Rattle.sqltables.specs.Tables.{registry, meta, account, contact, domain, host, address, link, line, message, transfer, days, with_meta, with_account, with_contact, with_domain, with_host, with_address, with_link, with_transfer_losing}
 use Rattle.sqltables.specs.inner.Tables.{creation, meta_create, account_create, contact_create, domain_create, host_create, address_create, link_create, line_create, message_create, transfer_create, days_create}
 use Rattle.sqltables.specs.inner.FirstTables.{Indexing, indexed_by, indexings, line_with, with_transfer_behind}
 use Rattle.sqltables.specs.inner.Content.{IsContent}
@@ -180,13 +180,13 @@ line_is : IsTable with_link line_create line
 unfolding understood everything
 line_is = record { command = refl; as_written = refl; defined = refl; plain = (refl, refl); uncounted = refl }
 
-days_is : IsTable with_transfer_losing days_create rows_of_days
+days_is : IsTable with_transfer_losing days_create days
 unfolding understood everything
 days_is = record { command = refl; as_written = refl; defined = refl; plain = (refl, refl); uncounted = refl }
 
 pub creation_defines : DefinesAll no_schema creation registry
 creation_defines = all_defines line_create (nullable (codes "ends") Integer ∷ nullable (codes "refunded") Integer ∷ filled (codes "recorded") Integer ∷ []) (days_create ∷ []) registry line_is
-    (registry, inl (rows_of_days, days_is, refl), refl)
+    (registry, inl (days, days_is, refl), refl)
 
 pub blank_holds_nothing : (db : Database) → IsBlank registry db → IsContent no_content db
 blank_holds_nothing db blank = record {
@@ -201,7 +201,7 @@ blank_holds_nothing db blank = record {
   lines = record { rows = blank.empty.1.1.1.1.1.1.1.0; keyed = tt };
   messages = record { rows = blank.empty.1.1.1.1.1.1.1.1.0; keyed = tt };
   transfers = record { rows = blank.empty.1.1.1.1.1.1.1.1.1.0; keyed = tt };
-  rows_of_days = record { rows = blank.empty.1.1.1.1.1.1.1.1.1.1.0; keyed = tt };
+  days = record { rows = blank.empty.1.1.1.1.1.1.1.1.1.1.0; keyed = tt };
 }
 
 pub made_empty : (S : Type 0) (r : Result (Unit {0}) Error) (db : Database) → OnOk r (IsBlank registry db × S) → OnOk r (IsContent no_content db)

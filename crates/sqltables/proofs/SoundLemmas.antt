@@ -28,7 +28,7 @@ use Rattle.sqlite.specs.Effect.{Database, IsDatabase}
 use Rattle.sqlrows.specs.Columns.{id_column}
 use Rattle.sqlrows.specs.Layouts.{Layout}
 use Rattle.sqlrows.specs.inner.Layouts.{Holds}
-use Rattle.sqltables.specs.Tables.{registry, meta, account, contact, domain, host, address, link, line, message, transfer, rows_of_days}
+use Rattle.sqltables.specs.Tables.{registry, meta, account, contact, domain, host, address, link, line, message, transfer, days}
 use Rattle.sqltables.specs.Meta.{metas}
 use Rattle.sqltables.specs.Account.{accounts}
 use Rattle.sqltables.specs.Contact.{contacts}
@@ -251,5 +251,5 @@ content_of_sound db sound is in_order =
       lines = holds lines line_in (after_key line) d (λ r. refl) refl refl t.1.1.1.1.1.1.1.0 p.1.1.1.1.1.1.1.0 o.1.1.1.1.1.1.1.0;
       messages = holds messages message_in (after_key message) d (λ r. refl) refl refl t.1.1.1.1.1.1.1.1.0 p.1.1.1.1.1.1.1.1.0 o.1.1.1.1.1.1.1.1.0;
       transfers = holds transfers transfer_in (after_key transfer) d (λ r. refl) refl refl t.1.1.1.1.1.1.1.1.1.0 p.1.1.1.1.1.1.1.1.1.0 o.1.1.1.1.1.1.1.1.1.0;
-      rows_of_days = holds day_table.days day_in (after_key rows_of_days) d (λ r. refl) refl refl t.1.1.1.1.1.1.1.1.1.1.0 p.1.1.1.1.1.1.1.1.1.1.0 o.1.1.1.1.1.1.1.1.1.1.0;
+      days = holds day_table.days day_in (after_key days) d (λ r. refl) refl refl t.1.1.1.1.1.1.1.1.1.1.0 p.1.1.1.1.1.1.1.1.1.1.0 o.1.1.1.1.1.1.1.1.1.1.0;
     }

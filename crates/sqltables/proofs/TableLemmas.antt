@@ -172,11 +172,11 @@ transfer_listed = listed transfers 9 (record schema.transfer { tree = 13 }) refl
 abbrev pub transfer_part : Part TransferRow
 transfer_part = record { layout = transfers; at = 9; table = record schema.transfer { tree = 13 }; listed = transfer_listed; rows = λ c. c.transfers; to = transfers_to; is = refl; holds = λ xs db h. h.transfers; turned = λ f new xs h. (refl, refl, refl, refl, refl, refl, refl, refl, refl, h, refl) }
 
-pub day_listed : Listed days registry 10 (record schema.rows_of_days { tree = 34 })
-day_listed = listed days 10 (record schema.rows_of_days { tree = 34 }) refl refl refl refl (λ x. simp (cast_int, cast_null, cast_text, cast_maybe_int, cast_maybe_text))
+pub day_listed : Listed days registry 10 (record schema.days { tree = 34 })
+day_listed = listed days 10 (record schema.days { tree = 34 }) refl refl refl refl (λ x. simp (cast_int, cast_null, cast_text, cast_maybe_int, cast_maybe_text))
 
 abbrev pub day_part : Part DayRow
-day_part = record { layout = days; at = 10; table = record schema.rows_of_days { tree = 34 }; listed = day_listed; rows = λ c. c.days; to = days_to; is = refl; holds = λ xs db h. h.days; turned = λ f new xs h. (refl, refl, refl, refl, refl, refl, refl, refl, refl, refl, h) }
+day_part = record { layout = days; at = 10; table = record schema.days { tree = 34 }; listed = day_listed; rows = λ c. c.days; to = days_to; is = refl; holds = λ xs db h. h.days; turned = λ f new xs h. (refl, refl, refl, refl, refl, refl, refl, refl, refl, refl, h) }
 
 -- a query of one table
 abbrev Answers : {X : Type 0} → Layout X → (X → Row) → Query → Row → (List X → List X) → Type 0

@@ -57,10 +57,10 @@ message = keyed_table (codes "message") (filled (codes "account") Integer ∷ fi
 abbrev pub transfer : Table
 transfer = keyed_table (codes "transfer") (nullable (codes "contact") Integer ∷ nullable (codes "domain") Integer ∷ filled (codes "requester") Integer ∷ filled (codes "losing") Integer ∷ filled (codes "requested") Integer ∷ filled (codes "ac_date") Integer ∷ nullable (codes "due") Integer ∷ filled (codes "state") Integer ∷ []) ([]) (reference_to (codes "contact") 2 ∷ reference_to (codes "domain") 3 ∷ reference_to (codes "account") 4 ∷ reference_to (codes "account") 5 ∷ [])
 
--- ---- rows_of_days
+-- ---- days
 
-abbrev pub rows_of_days : Table
-rows_of_days = keyed_table (codes "rows_of_days") (filled (codes "starts") Integer ∷ filled (codes "days_add") Integer ∷ filled (codes "days_auto_renew") Integer ∷ filled (codes "days_renew") Integer ∷ filled (codes "days_transfer") Integer ∷ filled (codes "days_redemption") Integer ∷ filled (codes "days_restore") Integer ∷ filled (codes "days_pending_delete") Integer ∷ filled (codes "days_answer") Integer ∷ filled (codes "days_lock") Integer ∷ []) ([]) ([])
+abbrev pub days : Table
+days = keyed_table (codes "days") (filled (codes "starts") Integer ∷ filled (codes "days_add") Integer ∷ filled (codes "days_auto_renew") Integer ∷ filled (codes "days_renew") Integer ∷ filled (codes "days_transfer") Integer ∷ filled (codes "days_redemption") Integer ∷ filled (codes "days_restore") Integer ∷ filled (codes "days_pending_delete") Integer ∷ filled (codes "days_answer") Integer ∷ filled (codes "days_lock") Integer ∷ []) ([]) ([])
 
 -- ---- the schema
 
@@ -222,7 +222,7 @@ abbrev pub with_transfer_losing : Schema
 with_transfer_losing = indexed with_link_host_due (record transfer { tree = 13 }) transfer_losing
 
 abbrev pub registry : Schema
-registry = created with_transfer_losing rows_of_days
+registry = created with_transfer_losing days
 
 -- the number of this schema, which the table `meta` keeps
 abbrev pub schema_number : ℤ
