@@ -33,6 +33,9 @@ pub(crate) fn lapse_each<B: Book>(
     for it in due.into_vec() {
         lapse_one(book, alloc, &it, moment, policy, &mut posts)?;
     }
+    if posts.is_empty() {
+        return Ok(());
+    }
     book.apply(Seq::from_vec(posts), policy)
 }
 
