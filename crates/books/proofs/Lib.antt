@@ -3,5 +3,4 @@ pub mod FoundLemmas
 pub mod LinesOnLemmas
 pub mod RenameLemmas
 pub mod KeptLemmas
-pub mod PostingLemmas
 pub mod GroupingLemmas

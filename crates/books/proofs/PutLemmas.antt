@@ -7,7 +7,8 @@ use Rattle.std.specs.FinMap.{FinMap, IsAntisymmetric, get, insert, get-insert, g
 use Rattle.std.specs.Ordering.{eq_by_cmp, nat_cmp}
 use Rattle.accounts.specs.declared.account.Account.{Account}
 use Rattle.accounts.specs.Account.{empty_account}
-use Rattle.books.specs.Ledgers.{changed_if_there, entry_set, with_changed}
+use Rattle.basis.specs.Sweeps.{change_at}
+use Rattle.books.specs.Ledgers.{changed_if_there, entry_set}
 
 -- ---- maps
 
@@ -39,7 +40,7 @@ pub put-there : (r : ℕ) (m : FinMap nat_cmp Account) (a : Account) → get (in
 put-there r m a = get-insert nat_cmp_total m r a r ∙ ap (λ (b : Bool). cond b (Some a) (get m r)) ((eq_by_cmp_equiv nat_cmp_total).refl r)
 
 -- once it was put, it is changed where it stands
-pub changed-put : (r : ℕ) (m : FinMap nat_cmp Account) (a : Account) (f : Account → Account) → with_changed f (insert m r a) r ≡ insert m r (f a)
+pub changed-put : (r : ℕ) (m : FinMap nat_cmp Account) (a : Account) (f : Account → Account) → change_at empty_account r f (insert m r a) ≡ insert m r (f a)
 changed-put r m a f =
     ap (λ (o : Option Account). insert (insert m r a) r (f (unwrap_or o empty_account))) (put-there r m a) ∙ put-put nat_cmp nat_cmp_total nat_cmp-IsAntisymmetric m r (Some a) (Some (f a))
 
@@ -49,16 +50,5 @@ module _ (r : ℕ) (m : FinMap nat_cmp Account) (a : Account) (is : get m r ≡ 
       sym (put-put nat_cmp nat_cmp_total nat_cmp-IsAntisymmetric m r (Some a) (Some a)) ∙ ap (entry_set (insert m r a) r) (sym is)
       ∙ put-back nat_cmp nat_cmp_total nat_cmp-IsAntisymmetric m r (Some a)
 
-  pub changed-at : (f : Account → Account) → with_changed f m r ≡ insert m r (f a)
-  changed-at f = ap (λ (o : Option Account). insert m r (f (unwrap_or o empty_account))) is
-
   pub changed-if : (f : Account → Account) → changed_if_there f m r ≡ insert m r (f a)
   changed-if f = ap (λ (o : Option Account). entry_set m r (option_map f o)) is
-
-  -- one change of it after another
-  pub changed-twice : (f g : Account → Account) → with_changed f (changed_if_there g m r) r ≡ insert m r (f (g a))
-  changed-twice f g = ap (λ (n : FinMap nat_cmp Account). with_changed f n r) (changed-if g) ∙ changed-put r m (g a) f
-
-  -- what was taken out of it is put back
-  pub put-again : (f g : Account → Account) → f (g a) ≡ a → with_changed f (changed_if_there g m r) r ≡ m
-  put-again f g e = changed-twice f g ∙ ap (insert m r) e ∙ put-same

@@ -1,15 +1,11 @@
 -- The state of the records of a book, and what a call on them does.
 use Rattle.std.specs.Prelude.{◌≡◌, ℕ, List, filter, Option, Result}
-use Rattle.accounts.specs.Lines.{in_order, swapped_all}
-use Rattle.accounts.specs.declared.line.Line.{Line}
-use Rattle.accounts.specs.declared.line.LineSwap.{LineSwap}
-use Rattle.basis.specs.Bag.{remade}
 use Rattle.books.specs.Book.{Stored}
 use Rattle.concerns.specs.Concerns.{concerned}
 use Rattle.concerns.specs.DueFor.{due_for, is_picked}
 use Rattle.concerns.specs.declared.given.Names.{Names}
 use Rattle.lifecycle.specs.declared.due_object.Due.{Due}
-use Rattle.model.specs.Registry.{Registry, account_of}
+use Rattle.model.specs.Registry.{Registry}
 use Rattle.policy.specs.Rules.{PolicyRules}
 use Rattle.states.specs.States.{Finds, FindsSome, Makes, StateOf}
 use Rattle.states.specs.declared.fault.BookFault.{BookFault}
@@ -31,11 +27,6 @@ FindsSomeIn result is old new = FindsSome result (is old.content.registry) old n
 abbrev pub MakesOf : {A : Type 0} → Result A BookFault → (Stored → Stored) → RecordsState → RecordsState
     → Type 0
 MakesOf result made old new = Makes result (made old.content) old new
-
--- these swaps make of a registrar's lines what is made of each of them
-abbrev pub AreSwaps : ℕ → (Line → Line) → Registry → List LineSwap → Type 0
-AreSwaps r changed s swaps =
-    swapped_all swaps (account_of r s).lines ≡ remade in_order changed (account_of r s).lines
 
 -- among these is all that is due by a moment and concerns a registrar, if one is given, and some names
 abbrev pub IsDueNear : PolicyRules → Option ℕ → Names → ℕ → Registry → List Due → Type 0

@@ -1,21 +1,18 @@
 -- A stored registry with another value at one key.
-use Rattle.std.specs.Prelude.{ℕ, if◌then◌else◌, List, fold, Option, Some, None}
+use Rattle.std.specs.Prelude.{ℕ, if◌then◌else◌, List, Option, Some, None}
 use Rattle.std.specs.Cmp.Lexicographic.{slice_cmp}
 use Rattle.std.specs.FinMap.{FinMap}
 use Rattle.std.specs.Ordering.{nat_cmp}
-use Rattle.std.specs.Str.{bytes_eq}
 use Rattle.accounts.specs.declared.account.Account.{Account}
-use Rattle.accounts.specs.declared.line.Line.{Line}
-use Rattle.accounts.specs.declared.line.LineSwap.{LineSwap}
-use Rattle.accounts.specs.declared.message.Message.{Message}
-use Rattle.accounts.specs.Messages.{message_id}
+use Rattle.lifecycle.specs.Changes.{all_changed}
+use Rattle.policy.specs.Rules.{PolicyRules}
 use Rattle.objects.specs.declared.contact.Contact.{Contact}
 use Rattle.objects.specs.declared.domain.Domain.{Domain}
 use Rattle.objects.specs.declared.host.Host.{Host}
-use Rattle.decisions.specs.Changes.{host_renamed as registry_renamed, itself, may_rename, with_account}
-use Rattle.accounts.specs.declared.counters.Counters.{Counters}
+use Rattle.decisions.specs.Changes.{host_renamed as registry_renamed, may_rename, with_account}
 use Rattle.books.specs.Book.{Stored}
-use Rattle.books.specs.Ledgers.{entry_set, with_counted, with_line_added, with_notice, without_line, without_notice}
+use Rattle.books.specs.Ledgers.{entry_set}
+use Rattle.books.specs.declared.records.Posts.{Posts}
 use Rattle.model.specs.Lapse.{put_or_drop}
 
 abbrev pub clock_set : ℕ → Stored → Stored
@@ -30,33 +27,14 @@ with_accounts accounts s = record s { registry = record s.registry { accounts = 
 abbrev pub posted_to : ℕ → (Account → Account) → Stored → Stored
 posted_to r f s = record s { registry = with_account r f s.registry }
 
--- a registrar has an account
-abbrev pub account_opened : ℕ → Stored → Stored
-account_opened r s = posted_to r itself s
+-- a registrar's account after its posts; what was never opened is opened
+abbrev pub posted_all : PolicyRules → Posts → Stored → Stored
+posted_all p posts s = posted_to posts.registrar (all_changed p posts.changes.items) s
 
-abbrev pub counters_set : ℕ → Counters → Stored → Stored
-counters_set r x s = with_accounts (with_counted s.registry.accounts r x) s
-
-abbrev pub line_added : ℕ → Line → Stored → Stored
-line_added r line s = with_accounts (with_line_added s.registry.accounts r line) s
-
-abbrev pub line_taken : ℕ → Line → Stored → Stored
-line_taken r line s = with_accounts (without_line s.registry.accounts r line) s
-
-abbrev pub message_added : ℕ → Message → Stored → Stored
-message_added r m s = with_accounts (with_notice s.registry.accounts r m) s
-
-abbrev pub message_taken : ℕ → Message → Stored → Stored
-message_taken r m s = with_accounts (without_notice s.registry.accounts r m) s
-
--- one line for another, for each of these
-abbrev pub lines_swapped : ℕ → List LineSwap → Stored → Stored
-lines_swapped r swaps s = fold (λ s x. line_added r x.to (line_taken r x.from s)) s swaps
-
--- without the oldest message, where it has this identifier
-abbrev pub message_acked : ℕ → List ℕ → Option Message → Stored → Stored
-message_acked r id None s = s
-message_acked r id (Some oldest) s = if bytes_eq (message_id oldest) id then message_taken r oldest s else s
+-- the same where there are posts
+abbrev pub maybe_posted : PolicyRules → Option Posts → Stored → Stored
+maybe_posted p None s = s
+maybe_posted p (Some posts) s = posted_all p posts s
 
 -- ---- objects: the name has this one, or none
 

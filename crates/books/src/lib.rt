@@ -9,11 +9,10 @@ mod faces;
 mod finding;
 mod grouping;
 mod kept;
-mod posting;
 mod records;
 mod zone;
 
 pub use book::Book;
 pub use kept::Kept;
-pub use records::Records;
+pub use records::{Posts, Records};
 pub use states::{BookFault, Ready};

@@ -9,22 +9,29 @@ ghost use Rattle.books.specs.Book.{with_terms};
 ghost use Rattle.model.specs.Zone.{delegations, host_addresses_at};
 ghost use Rattle.accounts.specs.Counters.{counters_of};
 ghost use Rattle.books.specs.Lookups.{first_due, has_contact, has_host, superordinate_at};
-ghost use Rattle.books.specs.Records.{AreSwaps, FindsIn, FindsSomeIn, IsDueNear, MakesOf};
+ghost use Rattle.books.specs.Records.{FindsIn, FindsSomeIn, IsDueNear, MakesOf};
 ghost use Rattle.states.specs.States.{Begins, Closes, Ends, Finds};
 ghost use Rattle.books.specs.Tables as tables;
 
-use accounts::{Counters, Line, LineChange, LineSwap, Lines, Message};
+use accounts::{Counters, Lines, Message};
 use basis::list::Seq;
 use basis::registrar::RegistrarNo;
 use basis::text::Text;
 use calendar::Moment;
 use concerns::Names;
 use facts::{HOLDING_LIMIT, Superordinate};
-use lifecycle::Due;
+use lifecycle::{AccountChange, Due};
 use objects::{Contact, Delegation, Domain, Host, Roid};
 use policy::{Policy, Terms};
 use states::{BookFault, Ready};
 use std::alloc::Global;
+
+/// What is done to a registrar's account, in this order.
+#[derive(Drop)]
+pub struct Posts {
+    pub registrar: RegistrarNo,
+    pub changes: Vec<AccountChange>,
+}
 
 /// The records of a registry, by key: what a book is made of. A call that fails says nothing of the
 /// content but where `back` leads. Each question is answered by a key or an index, and each change is
@@ -80,16 +87,6 @@ pub trait Records {
     /// All lines of a registrar's account: none where it was never opened. Each line is gone through.
     fn lines(&mut self, registrar: RegistrarNo) -> Result<Lines, BookFault>
         ensures { FindsIn result (λ s. (account_of registrar s).lines)
-            (kept self.old) (kept self.new) };
-
-    /// What makes of a registrar's lines what a change makes of them, one line for another. It reads
-    /// those of the change's domain alone.
-    fn swaps<C: LineChange>(
-        &mut self,
-        registrar: RegistrarNo,
-        change: &C,
-    ) -> Result<Seq<LineSwap>, BookFault>
-        ensures { FindsSomeIn result (AreSwaps registrar (C.changed change.now))
             (kept self.old) (kept self.new) };
 
     /// The message that has waited longest for a registrar.
@@ -189,40 +186,11 @@ pub trait Records {
         requires { (kept self.old).is_open ≡ true }
         ensures { MakesOf result (with_terms terms) (kept self.old) (kept self.new) };
 
-    /// The registrar has an account. One that it has stays as it is.
-    fn open_account(&mut self, registrar: RegistrarNo) -> Result<(), BookFault>
+    /// Makes changes of an account, in their order. What was never opened is opened. Over rows the account's row
+    /// is read once and written once, however many changes there are.
+    fn post(&mut self, posts: Posts, policy: &Policy) -> Result<(), BookFault>
         requires { (kept self.old).is_open ≡ true }
-        ensures { MakesOf result (tables.account_opened registrar)
-            (kept self.old) (kept self.new) };
-
-    /// Gives a registrar's account other counters. What was never opened is opened.
-    fn set_counters(&mut self, registrar: RegistrarNo, counters: Counters) -> Result<(), BookFault>
-        requires { (kept self.old).is_open ≡ true }
-        ensures { MakesOf result (tables.counters_set registrar counters)
-            (kept self.old) (kept self.new) };
-
-    /// Adds a line to a registrar's account. What was never opened is opened.
-    fn add_line(&mut self, registrar: RegistrarNo, line: Line) -> Result<(), BookFault>
-        requires { (kept self.old).is_open ≡ true }
-        ensures { MakesOf result (tables.line_added registrar line)
-            (kept self.old) (kept self.new) };
-
-    /// Takes a line out of a registrar's account, if it is there.
-    fn take_line(&mut self, registrar: RegistrarNo, line: Line) -> Result<(), BookFault>
-        requires { (kept self.old).is_open ≡ true }
-        ensures { MakesOf result (tables.line_taken registrar line)
-            (kept self.old) (kept self.new) };
-
-    /// Puts a message into a registrar's queue. What was never opened is opened.
-    fn put_message(&mut self, registrar: RegistrarNo, message: Message) -> Result<(), BookFault>
-        requires { (kept self.old).is_open ≡ true }
-        ensures { MakesOf result (tables.message_added registrar message)
-            (kept self.old) (kept self.new) };
-
-    /// Takes a message out of a registrar's queue, if it is there.
-    fn take_message(&mut self, registrar: RegistrarNo, message: Message) -> Result<(), BookFault>
-        requires { (kept self.old).is_open ≡ true }
-        ensures { MakesOf result (tables.message_taken registrar message)
+        ensures { MakesOf result (tables.posted_all policy.now posts)
             (kept self.old) (kept self.new) };
 
     /// The contact is under this name.
@@ -235,16 +203,18 @@ pub trait Records {
         requires { (kept self.old).is_open ≡ true }
         ensures { MakesOf result (tables.contact_set name None) (kept self.old) (kept self.new) };
 
-    /// The domain is under this name.
-    fn put_domain(&mut self, name: Text, domain: Domain, policy: &Policy) -> Result<(), BookFault>
+    /// The domain is under this name, or none is. Changes of an account are made before it, if there are any. Over
+    /// rows the account's row, which counts the domains that it holds, is read once and written once for both.
+    fn set_domain(
+        &mut self,
+        posts: Option<Posts>,
+        name: Text,
+        domain: Option<Domain>,
+        policy: &Policy,
+    ) -> Result<(), BookFault>
         requires { (kept self.old).is_open ≡ true }
-        ensures { MakesOf result (tables.domain_set name (Some domain))
-            (kept self.old) (kept self.new) };
-
-    /// No domain is under this name.
-    fn drop_domain(&mut self, name: Text, policy: &Policy) -> Result<(), BookFault>
-        requires { (kept self.old).is_open ≡ true }
-        ensures { MakesOf result (tables.domain_set name None) (kept self.old) (kept self.new) };
+        ensures { MakesOf result (λ s. tables.domain_set name domain
+            (tables.maybe_posted policy.now posts s)) (kept self.old) (kept self.new) };
 
     /// The host is under its name.
     fn put_host(&mut self, host: Host) -> Result<(), BookFault>

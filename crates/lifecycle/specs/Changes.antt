@@ -1,5 +1,5 @@
 -- What commands, orders and time do to an account.
-use Rattle.std.specs.Prelude.{ℕ, List}
+use Rattle.std.specs.Prelude.{ℕ, List, fold}
 use Rattle.basis.specs.Bag.{add, remade}
 use Rattle.accounts.specs.declared.account.Account.{Account}
 use Rattle.accounts.specs.declared.line.Line.{Line}
@@ -47,3 +47,7 @@ changed p (Notify n) a = notified n a
 changed p (Ack id) a = with_acked id a
 changed p CountCommand a = with_command a
 changed p TakeSerial a = with_serial a
+
+-- the account after these changes, one after another
+abbrev pub all_changed : PolicyRules → List AccountChange → Account → Account
+all_changed p changes a = fold (λ a what. changed p what a) a changes

@@ -1,116 +1,53 @@
 -- To take an edit back is to go back.
-use Rattle.std.proofs.Common.{◌≡◌, ℕ, ◌+◌, ◌-◌, ◌<◌, length, length-append, take, get_or, arith, Bool, true, false, cond, not, List, [], ◌∷◌, ◌++◌, Option, Some, None, refl, sym, ap, ◌∙◌}
-use Rattle.std.specs.Prelude.{option_map, slice_get, unwrap_or}
+use Rattle.std.proofs.Common.{◌≡◌, ◌+◌, ◌-◌, ◌<◌, length, length-append, take, get_or, arith, List, [], ◌∷◌, ◌++◌, Option, Some, None, Result, Ok, Err, OnOk, OnErr, OnSome, refl, sym, ap, ◌∙◌}
+use Rattle.std.specs.Prelude.{option_map, slice_get}
 use Rattle.std.proofs.Math.Seq.{take-append_seam, take-length}
 use Rattle.std.proofs.lemmas.List.{take_more}
 use Rattle.std.proofs.lemmas.Option.{slice_get_within, slice_get-get_or}
-use Rattle.std.specs.Cmp.{eq_by_cmp_equiv, nat_cmp_total}
+use Rattle.std.specs.Cmp.{nat_cmp_total}
 use Rattle.std.specs.Cmp.Lexicographic.{slice_cmp, nat_list_cmp_total}
-use Rattle.std.specs.FinMap.{FinMap, get, insert, get-insert, nat_cmp-IsAntisymmetric}
+use Rattle.std.specs.FinMap.{get, nat_cmp-IsAntisymmetric}
 use Rattle.std.specs.Ordering.{nat_cmp}
-use Rattle.basis.specs.Bag.{add, taken}
-use Rattle.basis.proofs.BagLaws.{taken-add}
+use Rattle.std.specs.Result.{IfOk}
 use Rattle.basis.proofs.MapLemmas.{names_apart}
 use Rattle.mapbook.specs.declared.edit.Edit.{Edit}
 use Rattle.mapbook.specs.declared.edit.Edit.TheVariants as edit
 use Rattle.books.specs.Book.{Stored}
-use Rattle.accounts.specs.declared.account.Account.{Account}
-use Rattle.accounts.specs.Account.{empty_account}
-use Rattle.accounts.specs.Entries.{with_lines, with_queue}
-use Rattle.accounts.specs.Lines.{in_order}
-use Rattle.accounts.specs.Queue as queue
-use Rattle.accounts.specs.declared.line.Line.{Line}
-use Rattle.accounts.specs.declared.message.Message.{Message}
-use Rattle.accounts.proofs.LineLaws.{lines_in_order}
-use Rattle.accounts.proofs.QueueLaws.{dropped-put}
-use Rattle.accounts.specs.declared.counters.Counters.{Counters}
-use Rattle.books.specs.Ledgers.{changed_if_there, entry_set, with_changed, with_counted, with_line_added, with_notice}
-use Rattle.accounts.specs.Counters.{counters_of, with_counters}
-use Rattle.mapbook.specs.inner.Edits.{counters_back, inverse, line_back, notice_back}
-use Rattle.mapbook.specs.Edits.{edited, undone_all}
+use Rattle.mapbook.specs.inner.Edits.{inverse}
+use Rattle.mapbook.specs.Edits.{account_edited, edited, undone_all}
 use Rattle.books.proofs.PutLemmas.{put-back}
 
-with_accounts : Stored → FinMap nat_cmp Account → Stored
-with_accounts s n = record s { registry = record s.registry { accounts = n } }
+-- ---- what went well, and what didn't
 
--- ---- the counters of an account
+pub on-ok : {A E : Type 0} {P Q : Type 0} (r : Result A E) → (P → Q) → OnOk r P → OnOk r Q
+on-ok (Ok x) f p = f p
+on-ok (Err g) f p = tt
 
-module _ (r : ℕ) (x : Counters) (m : FinMap nat_cmp Account) where
-  -- what stands at a registrar's place once its counters were changed
-  counted-there : (a : Account) → get m r ≡ Some a → unwrap_or (get (with_counted m r x) r) empty_account ≡ with_counters x a
-  counted-there a e =
-      ap (λ (o : Option Account). unwrap_or o empty_account)
-      (get-insert nat_cmp_total m r (with_counters x (unwrap_or (get m r) empty_account)) r
-      ∙ ap (λ (b : Bool). cond b (Some (with_counters x (unwrap_or (get m r) empty_account))) (get m r)) ((eq_by_cmp_equiv nat_cmp_total).refl r))
-      ∙ ap (λ (o : Option Account). with_counters x (unwrap_or o empty_account)) e
+pub on-err : {A E : Type 0} {P Q : Type 0} (r : Result A E) → (P → Q) → OnErr r P → OnErr r Q
+on-err (Ok x) f p = tt
+on-err (Err g) f p = f p
 
-  counters-back : (s : Stored) (o : Option Account) → get m r ≡ o → edited (counters_back r (option_map counters_of o)) (with_accounts s (with_counted m r x)) ≡ with_accounts s m
-  unfolding with_accounts
-  counters-back s None e = ap (with_accounts s) (ap (entry_set (with_counted m r x) r) (sym e) ∙ put-back nat_cmp nat_cmp_total nat_cmp-IsAntisymmetric m r (Some (with_counters x (unwrap_or (get m r) empty_account))))
-  counters-back s (Some a) e =
-      ap (with_accounts s)
-      (ap (λ (b : Account). insert (with_counted m r x) r (with_counters (counters_of a) b)) (counted-there a e)
-      ∙ ap (entry_set (with_counted m r x) r) (sym e)
-      ∙ put-back nat_cmp nat_cmp_total nat_cmp-IsAntisymmetric m r (Some (with_counters x (unwrap_or (get m r) empty_account))))
+pub whichever : {A E : Type 0} {P Q R : Type 0} (r : Result A E) → (P → R) → (Q → R) → OnOk r P → OnErr r Q → R
+whichever (Ok x) f g p q = f p
+whichever (Err e) f g p q = g q
 
--- ---- a change of an account, taken back
+pub if-ok : {A E : Type 0} {P Q : A → Type 0} (r : Result A E) → ((x : A) → P x → Q x) → IfOk r P → IfOk r Q
+if-ok (Ok x) f p = f x p
+if-ok (Err g) f p = tt
 
-module _ (f : Account → Account) (r : ℕ) (m : FinMap nat_cmp Account) where
-  -- what stands at a registrar's place once its account was changed
-  changed : Option Account → Option Account
-  changed o = Some (f (unwrap_or o empty_account))
-
-  changed-there : get (with_changed f m r) r ≡ changed (get m r)
-  unfolding changed
-  changed-there =
-      get-insert nat_cmp_total m r (f (unwrap_or (get m r) empty_account)) r
-      ∙ ap (λ (b : Bool). cond b (Some (f (unwrap_or (get m r) empty_account))) (get m r)) ((eq_by_cmp_equiv nat_cmp_total).refl r)
-
-  -- by what stood there
-  as-it-was : (o : Option Account) → get m r ≡ o → entry_set (with_changed f m r) r o ≡ m
-  unfolding changed
-  as-it-was o e = ap (entry_set (with_changed f m r) r) (sym e) ∙ put-back nat_cmp nat_cmp_total nat_cmp-IsAntisymmetric m r (changed (get m r))
-
-  -- by the change's inverse
-  changed-back : (g : Account → Account) (a : Account) → get m r ≡ Some a → g (f a) ≡ a → changed_if_there g (with_changed f m r) r ≡ m
-  unfolding changed
-  changed-back g a e is =
-      ap (λ (o : Option Account). entry_set (with_changed f m r) r (option_map g o)) (changed-there ∙ ap changed e)
-      ∙ ap (λ (b : Account). entry_set (with_changed f m r) r (Some b)) is
-      ∙ as-it-was (Some a) e
-
-line-back : (r : ℕ) (line : Line) (m : FinMap nat_cmp Account) (s : Stored) (o : Option Account) → get m r ≡ o → edited (line_back r line o) (with_accounts s (with_line_added m r line)) ≡ with_accounts s m
-unfolding with_accounts
-line-back r line m s None e = ap (with_accounts s) (as-it-was (with_lines (add in_order line)) r m None e)
-line-back r line m s (Some a) e =
-    ap (with_accounts s)
-    (changed-back (with_lines (add in_order line)) r m (with_lines (taken in_order line)) a e (ap (λ (ls : List Line). record a { lines = ls }) (taken-add in_order lines_in_order line a.lines)))
-
-notice-back : (r : ℕ) (notice : Message) (m : FinMap nat_cmp Account) (s : Stored) (o : Option Account) → get m r ≡ o → edited (notice_back r notice o) (with_accounts s (with_notice m r notice)) ≡ with_accounts s m
-unfolding with_accounts
-notice-back r notice m s None e = ap (with_accounts s) (as-it-was (with_queue (queue.put notice)) r m None e)
-notice-back r notice m s (Some a) e = by (queue.has notice a.queue) refl
-  where
-    by : (b : Bool) → queue.has notice a.queue ≡ b → edited (cond (not b) (edit.RemoveMessage r notice) (edit.Account r (Some a))) (with_accounts s (with_notice m r notice)) ≡ with_accounts s m
-    by true t = ap (with_accounts s) (as-it-was (with_queue (queue.put notice)) r m (Some a) e)
-    by false t =
-        ap (with_accounts s)
-        (changed-back (with_queue (queue.put notice)) r m (with_queue (queue.dropped notice)) a e (ap (λ (ms : List Message). record a { queue = ms }) (dropped-put notice a.queue t)))
+pub where-found : {A : Type 0} {P : Type 0} (o : Option A) (x : A) → o ≡ Some x → OnSome o P → P
+where-found None x e h = cc
+where-found (Some y) x e h = h
 
 -- ---- one edit
 
 -- what takes an edit back goes back from where that leads
 pub edited-back : (e : Edit) (s : Stored) → edited (inverse e s) (edited e s) ≡ s
-unfolding with_accounts
 edited-back (edit.Clock t) s = refl
 edited-back (edit.Account r value) s = ap (λ m. record s { registry = record s.registry { accounts = m } }) (put-back nat_cmp nat_cmp_total nat_cmp-IsAntisymmetric s.registry.accounts r value)
-edited-back (edit.Counters r x) s = counters-back r x s.registry.accounts s (get s.registry.accounts r) refl
-edited-back (edit.Line r line) s = line-back r line s.registry.accounts s (get s.registry.accounts r) refl
-edited-back (edit.RemoveLine r line) s =
-    ap (with_accounts s) (put-back nat_cmp nat_cmp_total nat_cmp-IsAntisymmetric s.registry.accounts r (option_map (with_lines (taken in_order line)) (get s.registry.accounts r)))
-edited-back (edit.AddMessage r m) s = notice-back r m s.registry.accounts s (get s.registry.accounts r) refl
-edited-back (edit.RemoveMessage r m) s =
-    ap (with_accounts s) (put-back nat_cmp nat_cmp_total nat_cmp-IsAntisymmetric s.registry.accounts r (option_map (with_queue (queue.dropped m)) (get s.registry.accounts r)))
+edited-back (edit.Within r what) s =
+    ap (λ m. record s { registry = record s.registry { accounts = m } })
+    (put-back nat_cmp nat_cmp_total nat_cmp-IsAntisymmetric s.registry.accounts r (option_map (account_edited what) (get s.registry.accounts r)))
 edited-back (edit.Contact name value) s = ap (λ m. record s { registry = record s.registry { contacts = m } }) (put-back (slice_cmp nat_cmp) nat_list_cmp_total names_apart s.registry.contacts name value)
 edited-back (edit.Domain name value) s = ap (λ m. record s { registry = record s.registry { domains = m } }) (put-back (slice_cmp nat_cmp) nat_list_cmp_total names_apart s.registry.domains name value)
 edited-back (edit.Host name value) s = ap (λ m. record s { registry = record s.registry { hosts = m } }) (put-back (slice_cmp nat_cmp) nat_list_cmp_total names_apart s.registry.hosts name value)

@@ -1,5 +1,5 @@
 pub mod EditLemmas
-pub mod LedgerLemmas
+pub mod PostingLemmas
 pub mod QuietLemmas
 pub mod PlainLemmas
 pub mod HeldLemmas

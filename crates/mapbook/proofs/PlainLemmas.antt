@@ -7,8 +7,8 @@ use Rattle.mapbook.specs.Plain.{readiness_if_used}
 use Rattle.books.specs.Records.{RecordsState}
 use Rattle.states.specs.States.{Writes}
 use Rattle.states.proofs.LeavingLemmas.{leaves-refl}
-use Rattle.books.specs.Tables.{account_opened}
-use Rattle.books.proofs.PostingLemmas.{opened-same}
+use Rattle.mapbook.specs.inner.Posting.{account_opened}
+use Rattle.mapbook.proofs.PostingLemmas.{opened-same}
 
 -- in memory: what is in the maps, where going back leads, whether a transaction is open, and whether one was kept
 abbrev pub in_memory : Stored → Stored → Bool → Bool → RecordsState

@@ -117,15 +117,8 @@ quiet-edited known (edit.Contact k None) s is = λ until found p days.
 quiet-edited known (edit.Domain k (Some d)) s is = nothing-known (edited (edit.Domain k (Some d)) s)
 quiet-edited known (edit.Domain k None) s is = λ until found p days.
     let none = is until found p days in (none.0, λ name x there. none.1 name x (drop-cases s.registry.domains k name x there).1)
-quiet-edited known (edit.Host name value) s is = is
-quiet-edited known (edit.Clock t) s is = is
-quiet-edited known (edit.Account r value) s is = is
-quiet-edited known (edit.Counters r x) s is = is
-quiet-edited known (edit.Line r line) s is = is
-quiet-edited known (edit.RemoveLine r line) s is = is
-quiet-edited known (edit.AddMessage r m) s is = is
-quiet-edited known (edit.RemoveMessage r m) s is = is
 quiet-edited known (edit.Terms value) s is = nothing-known (edited (edit.Terms value) s)
+quiet-edited known _ s is = is
 
 -- what is known once a domain is put
 pub quiet-put : (r : PolicyRules) (known : Option ℕ) (until : ℕ) (s : Stored) (d : Domain) → IsQuiet known s → known ≡ Some until → HasDaysOf s.terms r

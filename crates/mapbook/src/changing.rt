@@ -1,88 +1,42 @@
 //! How a registry in ordered maps is edited, and each edit taken back.
-ghost use Rattle.std.specs.Prelude.{◌≡◌, option_map, IfOk, IfSome, OnOk, OnErr};
-ghost use Rattle.std.specs.FinMap as finmap;
+ghost use Rattle.std.specs.Prelude.{◌≡◌, IfOk, IfSome, IsSomeAnd, OnOk, OnErr};
+ghost use Rattle.std.specs.Option.{option_copied};
+ghost use Rattle.books.specs.Ledgers.{changed_if_there, entry_set};
 ghost use Rattle.mapbook.specs.Edits as spec;
-ghost use Rattle.mapbook.specs.inner.Edits as inner_spec;
 ghost use Rattle.mapbook.specs.Edits.{edited};
 ghost use Rattle.mapbook.specs.declared.edit.Edit.TheVariants as edits;
-ghost use Rattle.accounts.specs.Counters.{counters_of};
+ghost use Rattle.mapbook.specs.inner.Edits as inner_spec;
 ghost use Rattle.mapbook.specs.Plain.{content_of};
 
+use crate::account_edit::AccountEdit;
 use crate::content::Content;
-use crate::edit::{Edit, contact_put, domain_put, host_put, message_clone, put_named, terms_put};
-use accounts::{Line, Message};
+use crate::edit::{Edit, account_put, contact_put, domain_put, host_put, put_named, terms_put};
+use accounts::Account;
+use basis::maps::RegistrarMap;
 use basis::registrar::RegistrarNo;
 use std::alloc::AllocError;
 
 impl Content {
-    /// What takes a line back, or the account that is opened for it.
-    fn line_back(&self, registrar: RegistrarNo, line: Line) -> Edit
-        ensures { result ≡ inner_spec.line_back registrar line (finmap.get self.now.accounts registrar) }
-    {
-        if self.accounts.has(registrar) {
-            Edit::RemoveLine(registrar, line)
-        } else {
-            Edit::Account(registrar, None)
-        }
-    }
-
-    /// What takes a message back, or the account as it is.
-    fn notice_back(&self, registrar: RegistrarNo, message: &Message) -> Result<Edit, AllocError>
-        ensures { IfOk result (λ edit. edit ≡ inner_spec.notice_back registrar message.now
-            (finmap.get self.now.accounts registrar)) }
-    {
-        if self.accounts.lacks(registrar, message) {
-            return Ok(Edit::RemoveMessage(registrar, message_clone(message)?));
-        }
-        self.account_back(registrar)
-    }
-
-    /// What gives a registrar its account as it is.
-    fn account_back(&self, registrar: RegistrarNo) -> Result<Edit, AllocError>
-        ensures { IfOk result (λ it. it
-            ≡ edits.Account registrar (finmap.get self.now.accounts registrar)) }
-    {
-        Ok(Edit::Account(registrar, self.accounts.copy(registrar)?))
-    }
-
-    /// What gives a registrar's account its counters back.
-    fn counters_back(&self, registrar: RegistrarNo) -> Edit
-        ensures { result
-            ≡ inner_spec.counters_back registrar
-            (option_map counters_of (finmap.get self.now.accounts registrar)) }
-    {
-        match self.accounts.counters_there(registrar) {
-            None => Edit::Account(registrar, None),
-            Some(counters) => Edit::Counters(registrar, counters),
-        }
-    }
-
     /// What takes an edit back: once the edit is made, it leads back.
     pub fn inverse(&self, edit: &Edit) -> Result<Edit, AllocError>
         ensures { IfOk result (λ inverse. edited inverse (edited edit.now (content_of self.now))
             ≡ content_of self.now) }
     {
-        if let Some(back) = self.put_back(edit)? {
-            return Ok(back);
+        match edit {
+            Edit::Within(registrar, within) => self.inverse_within(*registrar, within),
+            _ => self.as_it_was(edit),
         }
-        self.as_it_was(edit)
     }
 
-    /// What puts a line or a message back that an edit takes out, where it is there.
-    fn put_back(&self, edit: &Edit) -> Result<Option<Edit>, AllocError>
-        ensures { IfOk result
-            (λ back. IfSome back (λ it. edited it (edited edit.now (content_of self.now))
-            ≡ content_of self.now)) }
+    /// What takes an edit of an account back: an edit of it, or the account as it is.
+    fn inverse_within(&self, registrar: RegistrarNo, edit: &AccountEdit) -> Result<Edit, AllocError>
+        ensures { IfOk result (λ inverse. edited inverse
+            (edited (edits.Within registrar edit.now) (content_of self.now)) ≡ content_of self.now) }
     {
-        match edit {
-            Edit::RemoveLine(registrar, line) if self.accounts.has_line(*registrar, line) => {
-                Ok(Some(Edit::Line(*registrar, *line)))
-            }
-            Edit::RemoveMessage(registrar, message)
-                if self.accounts.has_notice(*registrar, message) => {
-                Ok(Some(Edit::AddMessage(*registrar, message_clone(message)?)))
-            }
-            _ => Ok(None),
+        let account = self.accounts.get(registrar);
+        match inverse_there(account, edit)? {
+            None => account_put(registrar, account),
+            Some(back) => Ok(Edit::Within(registrar, back)),
         }
     }
 
@@ -92,12 +46,9 @@ impl Content {
     {
         match edit {
             Edit::Clock(_) => Ok(Edit::Clock(self.clock)),
-            Edit::Counters(registrar, _) => Ok(self.counters_back(*registrar)),
-            Edit::Line(registrar, line) => Ok(self.line_back(*registrar, *line)),
-            Edit::Account(registrar, _)
-            | Edit::RemoveLine(registrar, _)
-            | Edit::RemoveMessage(registrar, _) => self.account_back(*registrar),
-            Edit::AddMessage(registrar, message) => self.notice_back(*registrar, message),
+            Edit::Account(registrar, _) | Edit::Within(registrar, _) => {
+                account_put(*registrar, self.accounts.get(*registrar))
+            }
             Edit::Contact(name, _) => contact_put(name, self.contacts.get(name)),
             Edit::Domain(name, _) => domain_put(name, self.domains.get(name)),
             Edit::Host(name, _) => host_put(name, self.hosts.get(name)),
@@ -115,22 +66,8 @@ impl Content {
                 self.clock = moment;
                 Ok(())
             }
-            Edit::Account(registrar, value) => self.accounts.put(registrar, value),
-            Edit::Counters(registrar, counters) => {
-                self.accounts.count(self.alloc, registrar, counters)
-            }
-            Edit::Line(registrar, line) => self.accounts.add_line(self.alloc, registrar, line),
-            Edit::RemoveLine(registrar, line) => {
-                self.accounts.take_line(registrar, &line);
-                Ok(())
-            }
-            Edit::AddMessage(registrar, message) => {
-                self.accounts.put_notice(self.alloc, registrar, message)
-            }
-            Edit::RemoveMessage(registrar, message) => {
-                self.accounts.take_notice(registrar, &message);
-                Ok(())
-            }
+            Edit::Account(registrar, value) => put_at(&mut self.accounts, registrar, value),
+            Edit::Within(registrar, edit) => edit_at(&mut self.accounts, registrar, edit),
             Edit::Contact(name, value) => put_named(&mut self.contacts, name, value),
             Edit::Domain(name, value) => put_named(&mut self.domains, name, value),
             Edit::Host(name, value) => put_named(&mut self.hosts, name, value),
@@ -139,5 +76,53 @@ impl Content {
                 Ok(())
             }
         }
+    }
+}
+
+/// The edit that takes one back in an account, where the account is there and one does.
+fn inverse_there(
+    account: Option<&Account>,
+    edit: &AccountEdit,
+) -> Result<Option<AccountEdit>, AllocError>
+    ensures { IfOk result (λ back. IfSome back (λ it. IsSomeAnd (option_copied account.entry)
+        (λ a. spec.account_edited it (spec.account_edited edit.now a) ≡ a))) }
+{
+    match account {
+        None => Ok(None),
+        Some(account) => edit.inverse(account),
+    }
+}
+
+/// Puts a registrar's account, or takes away the one there.
+fn put_at(
+    accounts: &mut RegistrarMap<Account>,
+    registrar: RegistrarNo,
+    value: Option<Account>,
+) -> Result<(), AllocError>
+    ensures ok { OnOk result (accounts.new ≡ entry_set accounts.old registrar value) }
+    ensures err { OnErr result (accounts.new ≡ accounts.old) }
+{
+    match value {
+        None => {
+            accounts.remove(registrar);
+            Ok(())
+        }
+        Some(account) => accounts.insert(registrar, account),
+    }
+}
+
+/// Edits a registrar's account in its place, where there is one.
+fn edit_at(
+    accounts: &mut RegistrarMap<Account>,
+    registrar: RegistrarNo,
+    edit: AccountEdit,
+) -> Result<(), AllocError>
+    ensures ok { OnOk result (accounts.new
+        ≡ changed_if_there (spec.account_edited edit) accounts.old registrar) }
+    ensures err { OnErr result (accounts.new ≡ accounts.old) }
+{
+    match accounts.get_mut(registrar) {
+        None => Ok(()),
+        Some(account) => edit.make(account),
     }
 }

@@ -7,10 +7,10 @@ ghost use Rattle.model.specs.Zone as zone;
 ghost use Rattle.mapbook.specs.Plain.{registry_in};
 ghost use Rattle.mapbook.specs.Renaming.{domains_naming};
 
-use crate::ledgers::Ledgers;
 use crate::renamed::with_host_renamed;
+use accounts::Account;
 use basis::list::Seq;
-use basis::maps::NameMap;
+use basis::maps::{NameMap, RegistrarMap};
 use basis::registrar::RegistrarNo;
 use basis::text::Text;
 use calendar::Moment;
@@ -25,7 +25,8 @@ pub(crate) struct Content {
     pub contacts: NameMap<Contact>,
     pub hosts: NameMap<Host>,
     pub domains: NameMap<Domain>,
-    pub accounts: Ledgers,
+    /// Lines, messages and counters are changed in their place.
+    pub accounts: RegistrarMap<Account>,
     pub clock: Moment,
     pub terms: Option<Terms>,
 }

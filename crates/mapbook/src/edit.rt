@@ -4,9 +4,8 @@ ghost use Rattle.std.specs.Option.{option_copied};
 ghost use Rattle.books.specs.Ledgers.{entry_set};
 ghost use Rattle.mapbook.specs.declared.edit.Edit.TheVariants as edits;
 
-use accounts::{
-    Account as AccountRecord, Counters as AccountCounters, Line as AccountLine, Message,
-};
+use crate::account_edit::AccountEdit;
+use accounts::{Account as AccountRecord, Message};
 use basis::maps::NameMap;
 use basis::registrar::RegistrarNo;
 use basis::text::Text;
@@ -20,16 +19,8 @@ use std::alloc::AllocError;
 pub(crate) enum Edit {
     Clock(Moment),
     Account(RegistrarNo, Option<AccountRecord>),
-    /// What the account counts, and nothing else of it.
-    Counters(RegistrarNo, AccountCounters),
-    /// A line more.
-    Line(RegistrarNo, AccountLine),
-    /// A line less, which was added.
-    RemoveLine(RegistrarNo, AccountLine),
-    /// A message more that time brings.
-    AddMessage(RegistrarNo, Message),
-    /// A message less, which was put in.
-    RemoveMessage(RegistrarNo, Message),
+    /// An edit of the account, where there is one.
+    Within(RegistrarNo, AccountEdit),
     Contact(Text, Option<ContactRecord>),
     Domain(Text, Option<DomainRecord>),
     Host(Text, Option<HostRecord>),
@@ -44,11 +35,7 @@ impl Edit {
         match self {
             Edit::Clock(moment) => Ok(Edit::Clock(*moment)),
             Edit::Account(registrar, value) => account_put(*registrar, value.as_ref()),
-            Edit::Counters(registrar, counters) => Ok(Edit::Counters(*registrar, *counters)),
-            Edit::Line(registrar, line) => Ok(Edit::Line(*registrar, *line)),
-            Edit::RemoveLine(registrar, line) => Ok(Edit::RemoveLine(*registrar, *line)),
-            Edit::AddMessage(registrar, message) => notice(*registrar, message),
-            Edit::RemoveMessage(registrar, message) => unnotice(*registrar, message),
+            Edit::Within(registrar, edit) => Ok(Edit::Within(*registrar, edit.copy()?)),
             Edit::Contact(name, value) => contact_put(name, value.as_ref()),
             Edit::Domain(name, value) => domain_put(name, value.as_ref()),
             Edit::Host(name, value) => host_put(name, value.as_ref()),
@@ -60,22 +47,13 @@ impl Edit {
 // ---- edits with what they put, in memory of their own
 
 /// The registrar is to have this account, or none.
-fn account_put(registrar: RegistrarNo, value: Option<&AccountRecord>) -> Result<Edit, AllocError>
+pub(crate) fn account_put(
+    registrar: RegistrarNo,
+    value: Option<&AccountRecord>,
+) -> Result<Edit, AllocError>
     ensures { IfOk result (λ it. it ≡ edits.Account registrar (option_copied value.entry)) }
 {
     Ok(Edit::Account(registrar, copy_account(value)?))
-}
-
-fn notice(registrar: RegistrarNo, message: &Message) -> Result<Edit, AllocError>
-    ensures { IfOk result (λ it. it ≡ edits.AddMessage registrar message.now) }
-{
-    Ok(Edit::AddMessage(registrar, message_clone(message)?))
-}
-
-fn unnotice(registrar: RegistrarNo, message: &Message) -> Result<Edit, AllocError>
-    ensures { IfOk result (λ it. it ≡ edits.RemoveMessage registrar message.now) }
-{
-    Ok(Edit::RemoveMessage(registrar, message_clone(message)?))
 }
 
 /// The name is to have this contact, or none.
@@ -136,7 +114,7 @@ fn copy_account(account: Option<&AccountRecord>) -> Result<Option<AccountRecord>
     }
 }
 
-pub(crate) fn account_clone(account: &AccountRecord) -> Result<AccountRecord, AllocError>
+fn account_clone(account: &AccountRecord) -> Result<AccountRecord, AllocError>
     ensures { IfOk result (λ copy. copy ≡ account.now) }
 {
     account.clone()

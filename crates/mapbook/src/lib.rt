@@ -5,12 +5,14 @@
 //! another, and the hosts below a domain are found by a walk over a map.
 #![tactic(auto)]
 
+mod account_edit;
 mod changing;
 mod content;
 mod edit;
 mod lapsing;
 mod ledgers;
 mod plain;
+mod posting;
 mod quiet;
 mod records;
 mod renamed;

@@ -1,6 +1,5 @@
 //! Until when nothing is due in a book in ordered maps, so that a call doesn't look at each object.
 ghost use Rattle.std.specs.Prelude.{◌≡◌, ◌<◌, true};
-ghost use Rattle.mapbook.specs.Quiet as spec;
 ghost use Rattle.mapbook.specs.inner.Quiet as inner_spec;
 ghost use Rattle.mapbook.specs.Quiet.{HasDaysOf};
 

@@ -5,11 +5,11 @@ ghost use Rattle.mapbook.specs.Plain as spec;
 use crate::edit::{Edit, copy_contact, copy_domain, copy_host, copy_terms};
 use crate::lapsing::cut;
 use crate::plain::Plain;
-use accounts::{Account, Counters, Line, LineChange, LineSwap, Lines, Message};
+use accounts::{Counters, Lines, Message};
 use basis::list::Seq;
 use basis::registrar::RegistrarNo;
 use basis::text::Text;
-use books::Records;
+use books::{Posts, Records};
 use calendar::Moment;
 use concerns::Names;
 use facts::Superordinate;
@@ -62,45 +62,32 @@ impl Records for Plain {
 
     fn counters(&mut self, registrar: RegistrarNo) -> Result<Counters, BookFault> {
         self.settle()?;
-        Ok(self.content.accounts.counters(registrar))
+        Ok(self.content.counters(registrar))
     }
 
     fn balance(&mut self, registrar: RegistrarNo) -> Result<i128, BookFault> {
         self.settle()?;
-        Ok(self.content.accounts.balance(registrar))
+        Ok(self.content.balance(registrar))
     }
 
     fn lines_on(&mut self, registrar: RegistrarNo, roid: &Roid) -> Result<Lines, BookFault> {
         self.settle()?;
-        let alloc = self.content.alloc;
-        Ok(self.content.accounts.lines_on(alloc, registrar, roid)?)
+        Ok(self.content.lines_on(registrar, roid)?)
     }
 
     fn lines(&mut self, registrar: RegistrarNo) -> Result<Lines, BookFault> {
         self.settle()?;
-        let alloc = self.content.alloc;
-        Ok(self.content.accounts.lines(alloc, registrar)?)
-    }
-
-    fn swaps<C: LineChange>(
-        &mut self,
-        registrar: RegistrarNo,
-        change: &C,
-    ) -> Result<Seq<LineSwap>, BookFault> {
-        self.settle()?;
-        let alloc = self.content.alloc;
-        let swaps = self.content.accounts.swaps(alloc, registrar, change)?;
-        Ok(Seq::from_vec(swaps))
+        Ok(self.content.lines(registrar)?)
     }
 
     fn oldest(&mut self, registrar: RegistrarNo) -> Result<Option<Message>, BookFault> {
         self.settle()?;
-        Ok(self.content.accounts.oldest(registrar)?)
+        Ok(self.content.oldest(registrar)?)
     }
 
     fn waiting(&mut self, registrar: RegistrarNo) -> Result<u64, BookFault> {
         self.settle()?;
-        Ok(self.content.accounts.waiting(registrar))
+        Ok(self.content.waiting(registrar))
     }
 
     fn contact(&mut self, name: &Text) -> Result<Option<Contact>, BookFault> {
@@ -193,36 +180,9 @@ impl Records for Plain {
         self.set(Edit::Terms(Some(terms)))
     }
 
-    fn open_account(&mut self, registrar: RegistrarNo) -> Result<(), BookFault> {
-        if self.content.accounts.has(registrar) {
-            return Ok(());
-        }
-        let account = Account::empty(self.content.alloc);
-        self.set(Edit::Account(registrar, Some(account)))
-    }
-
-    fn set_counters(
-        &mut self,
-        registrar: RegistrarNo,
-        counters: Counters,
-    ) -> Result<(), BookFault> {
-        self.set(Edit::Counters(registrar, counters))
-    }
-
-    fn add_line(&mut self, registrar: RegistrarNo, line: Line) -> Result<(), BookFault> {
-        self.set(Edit::Line(registrar, line))
-    }
-
-    fn take_line(&mut self, registrar: RegistrarNo, line: Line) -> Result<(), BookFault> {
-        self.set(Edit::RemoveLine(registrar, line))
-    }
-
-    fn put_message(&mut self, registrar: RegistrarNo, message: Message) -> Result<(), BookFault> {
-        self.set(Edit::AddMessage(registrar, message))
-    }
-
-    fn take_message(&mut self, registrar: RegistrarNo, message: Message) -> Result<(), BookFault> {
-        self.set(Edit::RemoveMessage(registrar, message))
+    /// Each line and each message is put in or taken out in its place.
+    fn post(&mut self, posts: Posts, policy: &Policy) -> Result<(), BookFault> {
+        self.post_all(posts, policy)
     }
 
     fn put_contact(&mut self, name: Text, contact: Contact) -> Result<(), BookFault> {
@@ -233,12 +193,18 @@ impl Records for Plain {
         self.set(Edit::Contact(name, None))
     }
 
-    fn put_domain(&mut self, name: Text, domain: Domain, policy: &Policy) -> Result<(), BookFault> {
-        self.set_domain(name, domain, policy)
-    }
-
-    fn drop_domain(&mut self, name: Text, _policy: &Policy) -> Result<(), BookFault> {
-        self.set(Edit::Domain(name, None))
+    fn set_domain(
+        &mut self,
+        posts: Option<Posts>,
+        name: Text,
+        domain: Option<Domain>,
+        policy: &Policy,
+    ) -> Result<(), BookFault> {
+        self.post_if_any(posts, policy)?;
+        match domain {
+            None => self.set(Edit::Domain(name, None)),
+            Some(domain) => self.put_domain(name, domain, policy),
+        }
     }
 
     fn put_host(&mut self, host: Host) -> Result<(), BookFault> {

@@ -86,7 +86,7 @@ impl Plain {
         let name = domain.clone()?;
         match self.content.host_renamed_at(domain, from, to)? {
             None => Ok(()),
-            Some(renamed) => self.set_domain(name, renamed, policy),
+            Some(renamed) => self.put_domain(name, renamed, policy),
         }
     }
 }

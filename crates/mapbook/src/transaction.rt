@@ -13,11 +13,10 @@ ghost use Rattle.books.specs.Tables.{domain_set};
 use crate::content::Content;
 use crate::edit::Edit;
 use crate::lapsing::quiet_after;
-use crate::ledgers::Ledgers;
 use crate::plain::{Plain, PlainBook};
 use crate::quiet::{covers, has_days_of, sooner};
 use basis::list::Seq;
-use basis::maps::NameMap;
+use basis::maps::{NameMap, RegistrarMap};
 use basis::text::Text;
 use books::Kept;
 use calendar::Moment;
@@ -37,7 +36,7 @@ pub fn new_book(alloc: Global) -> PlainBook
             contacts: NameMap::new(alloc),
             hosts: NameMap::new(alloc),
             domains: NameMap::new(alloc),
-            accounts: Ledgers::new(alloc),
+            accounts: RegistrarMap::new(alloc),
             clock: Moment::first(),
             terms: None,
         },
@@ -171,7 +170,7 @@ impl Plain {
     }
 
     /// Puts a domain in the open transaction.
-    pub(crate) fn set_domain(
+    pub(crate) fn put_domain(
         &mut self,
         name: Text,
         domain: Domain,

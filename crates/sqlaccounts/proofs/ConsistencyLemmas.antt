@@ -1,10 +1,11 @@
 -- No row leads to an account that isn't there.
 use Rattle.std.proofs.Common.{◌≡◌, inl, inr, ℤ, Bool, true, false, cond, List, [], ◌∷◌, filter, Some, None, refl, sym, ap, ◌∙◌, int_eq}
-use Rattle.std.specs.List.{AllByRecursion, filter_map}
+use Rattle.std.specs.List.{filter_map}
 use Rattle.sqlite_keyed.specs.Keyed.{get_by}
 use Rattle.sqlite_keyed.proofs.KeyedLemmas.{same_int}
 use Rattle.sqlite_keyed.proofs.ListLemmas.{filter_none}
 use Rattle.sqlite_rules.specs.Lists.{Has}
+use Rattle.sqlite_rules.proofs.ListLemmas.{all_from}
 use Rattle.accounts.specs.Lines.{in_order}
 use Rattle.basis.specs.Bag.{bag_of}
 use Rattle.sqlcolumns.specs.Lines.{line_of_columns}
@@ -17,10 +18,6 @@ use Rattle.sqltables.specs.inner.Consistent.{IsConsistent, LeadsTo}
 use Rattle.sqlaccounts.specs.Accounts.{lines_under, put_all, queue_under, row_of}
 use Rattle.sqlaccounts.proofs.BagLemmas.{bag-nil}
 use Rattle.sqlaccounts.proofs.FindingLemmas.{equal}
-
-all_from : {X : Type 0} (P : X → Type 0) (xs : List X) → ((x : X) → Has xs x → P x) → AllByRecursion P xs
-all_from P [] each = tt
-all_from P (x ∷ xs) each = (each x (inl refl), all_from P xs (λ y h. each y (inr h)))
 
 module _ {X Y : Type 0} (key : Y → ℤ) (column : X → ℤ) where
   -- what is there is found

@@ -8,8 +8,11 @@ pub mod OpeningLemmas
 pub mod SwapLemmas
 pub mod TakingLemmas
 pub mod ConsistencyLemmas
-pub mod QueueCallLemmas
 pub mod ColumnLemmas
 pub mod MessageLemmas
 pub mod QueueLemmas
 pub mod SortLemmas
+pub mod PlaceLemmas
+pub mod PostingLemmas
+pub mod StepLemmas
+pub mod UnderwayLemmas

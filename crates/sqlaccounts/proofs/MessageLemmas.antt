@@ -1,24 +1,22 @@
 -- What rows of messages mean for an account, and what one row more or less does.
-use Rattle.std.proofs.Common.{◌≡◌, ◌⊎◌, ℕ, ◌+◌, ℤ, pos, negsuc, ◌+ℤ◌, ◌<ℤ◌, Bool, true, false, cond, not, ◌&&◌, length, List, [], ◌∷◌, ◌++◌, filter, Option, Some, None, inl, inr, refl, sym, ap, subst, ◌∙◌, int_eq, arith, true≢false}
+use Rattle.std.proofs.Common.{◌≡◌, ◌⊎◌, ℕ, ◌+◌, ℤ, pos, negsuc, ◌+ℤ◌, Bool, true, false, cond, not, ◌&&◌, length, List, [], ◌∷◌, ◌++◌, filter, Option, Some, None, inl, inr, refl, sym, ap, subst, ◌∙◌, int_eq, arith, true≢false}
 use Rattle.std.proofs.lemmas.Bool.Decides.{Decides-int_eq, nat_tests}
 use Rattle.std.proofs.lemmas.Int.{ints}
 use Rattle.std.proofs.lemmas.List.Elements.{filter-append, filter_map-append}
 use Rattle.std.proofs.lemmas.Map.Made.{length-remove_key}
 use Rattle.std.specs.Prelude.{slice_get, ◌==◌}
-use Rattle.std.specs.Cmp.{Equal-is, nat_cmp_total}
+use Rattle.std.specs.Cmp.{Equal-is}
 use Rattle.std.proofs.lemmas.List.{append-nil}
-use Rattle.std.specs.FinMap.{get, get-insert, same_map, nat_cmp-IsAntisymmetric}
+use Rattle.std.specs.FinMap.{get}
 use Rattle.std.specs.List.{cons_option, filter_map, list_any}
 use Rattle.std.specs.Option.{option_map, unwrap_or}
-use Rattle.std.specs.Ordering.{eq_by_cmp, nat_cmp}
-use Rattle.sqlite_keyed.specs.Keyed.{IsKeyedBy, get_by, insert_by, next_key}
+use Rattle.sqlite_keyed.specs.Keyed.{IsKeyedBy, insert_by, next_key}
 use Rattle.sqlite_keyed.specs.Lists.{delete_where}
 use Rattle.sqlite_keyed.proofs.KeyedLemmas.{key-get_by}
 use Rattle.sqlite_keyed.proofs.ListLemmas.{filter-filter}
 use Rattle.sqlite_rules.specs.Lists.{Has}
-use Rattle.sqlite_rules.proofs.ListLemmas.{all_has, has_filtered, has_kept, some_from, some_has}
+use Rattle.sqlite_rules.proofs.ListLemmas.{has_filtered, has_kept, some_from, some_has}
 use Rattle.sqlrows.specs.inner.Layouts.{appended}
-use Rattle.accounts.specs.declared.account.Account.{Account}
 use Rattle.accounts.specs.declared.message.Message.{Message}
 use Rattle.accounts.specs.Account.{empty_account}
 use Rattle.accounts.specs.Entries.{with_queue}
@@ -35,12 +33,14 @@ use Rattle.sqltables.specs.inner.Content.{accounts_to, messages_to}
 use Rattle.sqltables.specs.Message as table
 use Rattle.sqltables.specs.declared.message.MessageRow.{MessageRow}
 use Rattle.sqltables.specs.inner.Consistent.{IsConsistent}
+use Rattle.sqltables.proofs.RowLemmas.{same_by_key}
 use Rattle.sqlaccounts.specs.Accounts.{account_of_row, accounts_of, balance_in, ident_and_held, lines_under, put_all, queue_under, row_of}
 use Rattle.sqlaccounts.specs.inner.Changes.{IsChange}
-use Rattle.sqlaccounts.proofs.AccountLemmas.{changed, get-accounts_of, get-found}
+use Rattle.sqlaccounts.proofs.AccountLemmas.{changed, get-accounts_of, unchanged}
 use Rattle.sqlaccounts.specs.declared.queue.Found.{Found}
 use Rattle.sqlaccounts.specs.inner.QueueFound.{IsFound}
 use Rattle.sqlaccounts.specs.inner.QueueRows.{IsWaitingMore, IsWritten}
+use Rattle.sqlaccounts.proofs.ConsistencyLemmas.{queue-of-none}
 use Rattle.sqlaccounts.proofs.ColumnLemmas.{message_first, row_cmp, row_cmp_total, same_columns, same_read}
 use Rattle.sqlaccounts.proofs.QueueLemmas.{dropped-lacking, first-put_all, has-put_all, length-put, put-there, put_all-push, put_all-without, tie, tied, without}
 use Rattle.sqlaccounts.proofs.SortLemmas.{IsLeast, least-sort_by}
@@ -103,26 +103,6 @@ none_found xs id none =
     let empty : rows ≡ [] = subst (λ o. IsLeast row_cmp row_cmp_total o rows) none (least-sort_by row_cmp row_cmp_total rows) in
     ap (λ rows. slice_get (put_all (messages_in rows)) 0) empty
 
-has_no_row : (rows : List AccountRow) (a : AccountRow) (id : ℤ) → Has rows a → a.id ≡ id → get_by account_table.accounts.key rows id ≡ None → ⊥
-has_no_row [] a id has at none = has
-has_no_row (x ∷ xs) a id has at none = go (int_eq x.id id) refl has none (λ has none. has_no_row xs a id has at none)
-  where
-    go : (b : Bool) → int_eq x.id id ≡ b → (a ≡ x) ⊎ Has xs a → cond b (Some x) (get_by account_table.accounts.key xs id) ≡ None → (Has xs a → get_by account_table.accounts.key xs id ≡ None → ⊥) → ⊥
-    go true e has none rest = cc
-    go false e (inl is) none rest = true≢false (sym ((Decides-int_eq x.id id).1 (ap (λ (b : AccountRow). b.id) (sym is) ∙ at)) ∙ e)
-    go false e (inr has) none rest = rest has none
-
--- where there is no account there is no message for it
-no_messages : (xs : Content) (id : ℤ) → IsConsistent xs → row_of xs id ≡ None → slice_get (queue_under xs id) 0 ≡ None
-no_messages xs id consistent none = ap (λ rows. slice_get (put_all (messages_in rows)) 0) (go (of_account id xs.messages) (λ x has. has_filtered (table.message_with_account id) xs.messages x has))
-  where
-    go : (rows : List MessageRow) → ((x : MessageRow) → Has rows x → Has xs.messages x × (int_eq x.account id ≡ true)) → rows ≡ []
-    go [] each = refl
-    go (x ∷ rest) each =
-        let it = each x (inl refl) in
-        let parent = consistent.linked.message_account x it.0 x.account refl in
-        absurd (has_no_row xs.accounts parent.0 id parent.1 (parent.2 ∙ (Decides-int_eq x.account id).0 it.1) none)
-
 pub oldest-found : (xs : Content) (q : ℕ) (it : Option Message) → is_place q ≡ true → IsConsistent xs → slice_get (queue_under xs (pos q)) 0 ≡ it
     → it ≡ slice_get (unwrap_or (get (accounts_of xs) q) empty_account).queue 0
 oldest-found xs q it place consistent is =
@@ -131,30 +111,10 @@ oldest-found xs q it place consistent is =
     ∙ ap (λ a. slice_get (unwrap_or a empty_account).queue 0) (sym (get-accounts_of xs q))
   where
     go : (o : Option AccountRow) → row_of xs (pos q) ≡ o → it ≡ slice_get (unwrap_or (option_map (account_of_row xs) (row_of xs (pos q))) empty_account).queue 0
-    go None e = sym is ∙ no_messages xs (pos q) consistent e ∙ sym (ap (λ o. slice_get (unwrap_or (option_map (account_of_row xs) o) empty_account).queue 0) e)
+    go None e = sym is ∙ ap (λ queue. slice_get queue 0) (queue-of-none xs (pos q) consistent e) ∙ sym (ap (λ o. slice_get (unwrap_or (option_map (account_of_row xs) o) empty_account).queue 0) e)
     go (Some row) e =
         sym is ∙ ap (λ id. slice_get (queue_under xs id) 0) (sym (key-get_by account_table.accounts.key xs.accounts (pos q) row e))
         ∙ sym (ap (λ o. slice_get (unwrap_or (option_map (account_of_row xs) o) empty_account).queue 0) e)
-
--- ---- an account that stays as it is
-
-unchanged : (xs : Content) (r : ℕ) (f : Account → Account) (row : AccountRow) → is_place r ≡ true → Some row ≡ row_of xs (pos r) → f (account_of_row xs row) ≡ account_of_row xs row → IsChange r f xs xs
-unchanged xs r f row place found same =
-    let there : get (accounts_of xs) r ≡ Some (account_of_row xs row) = get-found xs r row place (sym found) in
-    record {
-      there = (account_of_row xs row, there);
-      accounts = same_map nat_cmp_total nat_cmp-IsAntisymmetric _ _ (λ q. go there q (eq_by_cmp nat_cmp q r) refl ∙ sym (get-insert nat_cmp_total (accounts_of xs) r (f (unwrap_or (get (accounts_of xs) r) empty_account)) q));
-      sums = refl;
-      idents_and_held = λ id. refl;
-      others = record { metas = refl; days = refl; contacts = refl; domains = refl; hosts = refl; addresses = refl; links = refl; transfers = refl };
-    }
-  where
-    go : get (accounts_of xs) r ≡ Some (account_of_row xs row) → (q : ℕ) (b : Bool) → eq_by_cmp nat_cmp q r ≡ b
-        → get (accounts_of xs) q ≡ cond b (Some (f (unwrap_or (get (accounts_of xs) r) empty_account))) (get (accounts_of xs) q)
-    go there q true e =
-        ap (get (accounts_of xs)) (nat_cmp-IsAntisymmetric q r ((Equal-is (nat_cmp q r)).0 e)) ∙ there ∙ ap Some (sym same)
-        ∙ sym (ap (λ a. Some (f (unwrap_or a empty_account))) there)
-    go there q false e = refl
 
 -- ---- another queue, and as many more wait
 
@@ -227,23 +187,23 @@ nil_or (x ∷ xs) false e = refl
 
 -- ---- a message is put
 
-module _ (xs : Content) (r : ℕ) (m : Message) (it : Found) (found : IsFound xs r m it) where
-  at : it.account.id ≡ pos r
-  at = key-get_by account_table.accounts.key xs.accounts (pos r) it.account (sym found.account)
+module _ (xs : Content) (r : ℕ) (m : Message) (it : Found) (found : IsFound xs r m it) (account : AccountRow) (place : is_place r ≡ true) (own : row_of xs (pos r) ≡ Some account) where
+  at : account.id ≡ pos r
+  at = key-get_by account_table.accounts.key xs.accounts (pos r) account own
 
   waits : (b : Bool) → b ≡ is_nil it.same → list_any (tie m) (messages_in (of_account (pos r) xs.messages)) ≡ not b
   waits b is = said it.row (pos r) m found.written xs.messages b (is ∙ ap is_nil found.same)
 
   pub put_again : (length it.same == 0) ≡ false → IsChange r (with_queue (put m)) xs xs
   put_again some =
-      unchanged xs r (with_queue (put m)) it.account found.place found.account
-      (λ i. record (account_of_row xs it.account) { queue = (ap (λ id. put m (queue_under xs id)) at ∙ put-there m (messages_in (of_account (pos r) xs.messages)) (waits false (nil_or it.same false some)) ∙ ap (queue_under xs) (sym at)) i })
+      unchanged xs r (with_queue (put m)) account place own
+      (λ i. record (account_of_row xs account) { queue = (ap (λ id. put m (queue_under xs id)) at ∙ put-there m (messages_in (of_account (pos r) xs.messages)) (waits false (nil_or it.same false some)) ∙ ap (queue_under xs) (sym at)) i })
 
   pub nothing_taken : it.same ≡ [] → IsChange r (with_queue (dropped m)) xs xs
   nothing_taken none =
       let lacks : has m (queue_under xs (pos r)) ≡ false = has-put_all m (messages_in (of_account (pos r) xs.messages)) ∙ waits true (sym (ap is_nil none)) in
-      unchanged xs r (with_queue (dropped m)) it.account found.place found.account
-      (λ i. record (account_of_row xs it.account) { queue = (ap (λ id. dropped m (queue_under xs id)) at ∙ dropped-lacking m (queue_under xs (pos r)) lacks ∙ ap (queue_under xs) (sym at)) i })
+      unchanged xs r (with_queue (dropped m)) account place own
+      (λ i. record (account_of_row xs account) { queue = (ap (λ id. dropped m (queue_under xs id)) at ∙ dropped-lacking m (queue_under xs (pos r)) lacks ∙ ap (queue_under xs) (sym at)) i })
 
   -- the rows with one more
   one : ℤ → MessageRow
@@ -260,14 +220,14 @@ module _ (xs : Content) (r : ℕ) (m : Message) (it : Found) (found : IsFound xs
   unfolding one
   here = ap (λ b. cond b (one key_now ∷ []) []) ((Decides-int_eq it.row.account (pos r)).1 found.written.account)
 
-  pub put_in : (new : AccountRow) → (length it.same == 0) ≡ true → IsWaitingMore (pos 1) it.account new
+  pub put_in : (new : AccountRow) → (length it.same == 0) ≡ true → IsWaitingMore (pos 1) account new
       → IsChange r (with_queue (put m)) xs (accounts_to (λ rows. insert_by account_table.accounts.key rows new) (messages_to (appended table.messages (λ id. record it.row { id = id })) xs))
   unfolding one key_now
   put_in new none more =
       let ms : List MessageRow = xs.messages ++ one key_now ∷ [] in
       let before : List Message = messages_in (of_account (pos r) xs.messages) in
       let lacks : has m (queue_under xs (pos r)) ≡ false = has-put_all m before ∙ waits true (nil_or it.same true none) in
-      requeued xs ms r (put m) it.account new (pos 1) found.place found.account more
+      requeued xs ms r (put m) account new (pos 1) place (sym own) more
       (λ id apart.
       ap (λ rows. put_all (messages_in rows)) (filter-append (table.message_with_account id) xs.messages (one key_now ∷ []) ∙ ap (λ rows. of_account id xs.messages ++ rows) (elsewhere id apart))
       ∙ ap (λ rows. put_all (messages_in rows)) (append-nil (of_account id xs.messages)))
@@ -277,20 +237,6 @@ module _ (xs : Content) (r : ℕ) (m : Message) (it : Found) (found : IsFound xs
       (ap pos (length-put m (queue_under xs (pos r)) lacks))
 
 -- ---- a message is taken
-
-not_below : (a b : ℤ) → a ≡ b → a <ℤ b → ⊥
-not_below a b e below = grind (arith, ints)
-
-one_key : (xs : List MessageRow) (y f : MessageRow) → IsKeyedBy table.messages.key xs → Has xs y → Has xs f → y.id ≡ f.id → y ≡ f
-one_key [] y f keyed has also same = absurd has
-one_key (x ∷ xs) y f keyed (inl e) (inl g) same = e ∙ sym g
-one_key (x ∷ xs) y f keyed (inl e) (inr also) same =
-    let below : x.id <ℤ f.id = all_has (λ (z : MessageRow). x.id <ℤ z.id) xs f keyed.0 also in
-    absurd (not_below y.id f.id same (subst (λ (z : MessageRow). z.id <ℤ f.id) (sym e) below))
-one_key (x ∷ xs) y f keyed (inr has) (inl g) same =
-    let below : x.id <ℤ y.id = all_has (λ (z : MessageRow). x.id <ℤ z.id) xs y keyed.0 has in
-    absurd (not_below f.id y.id (sym same) (subst (λ (z : MessageRow). z.id <ℤ y.id) (sym g) below))
-one_key (x ∷ xs) y f keyed (inr has) (inr also) same = one_key xs y f keyed.1 has also same
 
 filter_alike : {X : Type 0} (p q : X → Bool) (xs : List X) → ((x : X) → Has xs x → p x ≡ q x) → filter p xs ≡ filter q xs
 filter_alike p q [] alike = refl
@@ -304,7 +250,7 @@ one_test false false f g = refl
 one_test true false f g = sym (f refl)
 one_test false true f g = g refl
 
-module _ (xs : Content) (r : ℕ) (m : Message) (it : Found) (found : IsFound xs r m it) (consistent : IsConsistent xs) (f : MessageRow) (only_one : it.same ≡ f ∷ []) where
+module _ (xs : Content) (r : ℕ) (m : Message) (it : Found) (found : IsFound xs r m it) (keyed : IsKeyedBy table.messages.key xs.messages) (f : MessageRow) (only_one : it.same ≡ f ∷ []) where
   abbrev is_it : MessageRow → Bool
   is_it y = table.is_same_message it.row y
 
@@ -321,7 +267,7 @@ module _ (xs : Content) (r : ℕ) (m : Message) (it : Found) (found : IsFound xs
   -- the row with its number is the one with its columns
   same_removed : delete_where (table.message_with_id f.id) xs.messages ≡ delete_where is_it xs.messages
   same_removed = filter_alike (λ y. not (table.message_with_id f.id y)) (λ y. not (is_it y)) xs.messages (λ y has. ap not (one_test (table.message_with_id f.id y) (is_it y)
-      (λ e. ap is_it (one_key xs.messages y f consistent.keyed.messages has f_there.0 ((Decides-int_eq y.id f.id).0 e)) ∙ f_there.1)
+      (λ e. ap is_it (same_by_key table.messages.key xs.messages y f keyed has f_there.0 ((Decides-int_eq y.id f.id).0 e)) ∙ f_there.1)
       (λ e. (Decides-int_eq y.id f.id).1 (ap (λ (z : MessageRow). z.id) (only_f y (subst (λ rows. Has rows y) all_of_it (has_kept is_it xs.messages y has e)))))))
 
   apart : (id : ℤ) (y : MessageRow) → int_eq (pos r) id ≡ false → table.message_with_account id y ≡ true → not (is_it y) ≡ true
@@ -366,13 +312,13 @@ module _ (xs : Content) (r : ℕ) (m : Message) (it : Found) (found : IsFound xs
   fewer : (q : ℕ) (n : ℕ) → q + 1 ≡ n → pos q ≡ pos n +ℤ negsuc 0
   fewer q n e = omega (arith, ints, e)
 
-  pub taken : (new : AccountRow) → IsWaitingMore (negsuc 0) it.account new
+  pub taken : (account new : AccountRow) → is_place r ≡ true → row_of xs (pos r) ≡ Some account → IsWaitingMore (negsuc 0) account new
       → IsChange r (with_queue (dropped m)) xs (accounts_to (λ rows. insert_by account_table.accounts.key rows new) (messages_to (delete_where (table.message_with_id f.id)) xs))
-  taken new more =
+  taken account new place own more =
       let ms : List MessageRow = delete_where (table.message_with_id f.id) xs.messages in
       let before : List Message = messages_in (of_account (pos r) xs.messages) in
       let there : list_any (tie m) before ≡ true = said it.row (pos r) m found.written xs.messages false (sym (ap is_nil all_of_it)) in
-      requeued xs ms r (dropped m) it.account new (negsuc 0) found.place found.account more
+      requeued xs ms r (dropped m) account new (negsuc 0) place (sym own) more
       (λ id e. ap (λ rows. put_all (messages_in (of_account id rows))) same_removed ∙ ap (λ rows. put_all (messages_in rows)) (kept_elsewhere id e))
       (ap (λ rows. put_all (messages_in (of_account (pos r) rows))) same_removed ∙ ap put_all (left xs.messages) ∙ put_all-without m before)
       (fewer (length (dropped m (queue_under xs (pos r)))) (length (queue_under xs (pos r))) (length-remove_key (tie m) (queue_under xs (pos r)) (has-put_all m before ∙ there)))

@@ -2,7 +2,8 @@
 use Rattle.std.proofs.Common.{◌≡◌, ℕ, ℤ, pos, ◌-ℤ◌, true, List, filter, find, Option, Some, None, IfSome, refl, sym, ap, subst, ◌∙◌, int_eq}
 use Rattle.std.specs.List.{filter_map, list_any}
 use Rattle.std.specs.Option.{option_map}
-use Rattle.sqlite_keyed.specs.Keyed.{IsKeyedBy}
+use Rattle.sqlite_keyed.specs.Keyed.{IsKeyedBy, insert_by}
+use Rattle.sqlite_keyed.specs.Lists.{delete_where}
 use Rattle.sqlite_keyed.proofs.KeyedLemmas.{key-get_by}
 use Rattle.accounts.specs.declared.line.Line.{Line}
 use Rattle.accounts.specs.Entries.{with_lines}
@@ -15,16 +16,20 @@ use Rattle.sqlcolumns.specs.Numbers.{is_place}
 use Rattle.sqltables.specs.Account as account_table
 use Rattle.sqltables.specs.declared.account.AccountRow.{AccountRow}
 use Rattle.sqltables.specs.Content.{Content}
-use Rattle.sqltables.specs.Line.{line_with_account}
+use Rattle.sqltables.specs.inner.Content.{accounts_to, lines_to}
+use Rattle.sqltables.specs.Line.{line_with_account, line_with_id}
 use Rattle.sqltables.specs.declared.line.LineRow.{LineRow}
-use Rattle.sqltables.specs.inner.Consistent.{IsConsistent}
 use Rattle.sqlcolumns.proofs.ReadLemmas.{same_some}
 use Rattle.sqlaccounts.specs.Accounts.{account_of_row, balance_in, lines_under, row_of}
-use Rattle.sqlaccounts.specs.inner.Changes.{IsChange, IsBalanceChanged, without_line_row}
+use Rattle.sqlaccounts.specs.inner.Changes.{IsChange, IsBalanceChanged}
 use Rattle.sqlaccounts.specs.inner.Finding.{IsDomainRoid, is_row_about, reads_as}
 use Rattle.sqlaccounts.proofs.AccountLemmas.{unchanged}
 use Rattle.sqlaccounts.proofs.FindingLemmas.{equal, found, none-there, own-row, parts, reads}
 use Rattle.sqlaccounts.proofs.LineLemmas.{both-less, filter-without, lines-with, repaid}
+
+-- without the row of line that has this number, and with this row of account in its place
+abbrev without_line_row : ℤ → AccountRow → Content → Content
+without_line_row id account xs = accounts_to (λ rows. insert_by account_table.accounts.key rows account) (lines_to (delete_where (line_with_id id)) xs)
 
 -- a line that isn't there
 pub not-taken : (xs : Content) (r : ℕ) (line : Line) (row : AccountRow) → is_place r ≡ true → Some row ≡ row_of xs (pos r) → IfSome line.roid IsDomainRoid
@@ -57,16 +62,16 @@ removed xs r line row new it up place there paid finds =
     (record { metas = refl; days = refl; contacts = refl; domains = refl; hosts = refl; addresses = refl; links = refl; transfers = refl })
 
 -- by its number
-pub taken-out : (xs : Content) (r : ℕ) (line : Line) (row new : AccountRow) (rows : List LineRow) (id : ℤ) → IsConsistent xs → is_place r ≡ true → Some row ≡ row_of xs (pos r)
+pub taken-out : (xs : Content) (r : ℕ) (line : Line) (row new : AccountRow) (rows : List LineRow) (id : ℤ) → IsKeyedBy (λ (x : LineRow). x.id) xs.lines → is_place r ≡ true → Some row ≡ row_of xs (pos r)
     → IsBalanceChanged (pos 0 -ℤ amount line) row new → rows ≡ filter (is_row_about r line.roid) xs.lines → Some id ≡ option_map (λ (x : LineRow). x.id) (find (reads_as line) rows)
     → IsChange r (with_lines (taken in_order line)) xs (without_line_row id new xs)
-taken-out xs r line row new rows id consistent place there paid are finds =
+taken-out xs r line row new rows id keyed place there paid are finds =
     go (find (reads_as line) (filter (is_row_about r line.roid) xs.lines)) refl (finds ∙ ap (λ rs. option_map (λ (x : LineRow). x.id) (find (reads_as line) rs)) are)
   where
     go : (o : Option LineRow) → find (reads_as line) (filter (is_row_about r line.roid) xs.lines) ≡ o → Some id ≡ option_map (λ (x : LineRow). x.id) o
         → IsChange r (with_lines (taken in_order line)) xs (without_line_row id new xs)
     go None at e = cc
-    go (Some it) at e = subst (λ k. IsChange r (with_lines (taken in_order line)) xs (without_line_row k new xs)) (same_some it.id id (sym e)) (removed xs r line row new it consistent.keyed.lines place there paid at)
+    go (Some it) at e = subst (λ k. IsChange r (with_lines (taken in_order line)) xs (without_line_row k new xs)) (same_some it.id id (sym e)) (removed xs r line row new it keyed place there paid at)
 
 -- and not found
 pub left-there : (xs : Content) (r : ℕ) (line : Line) (row : AccountRow) (rows : List LineRow) → is_place r ≡ true → Some row ≡ row_of xs (pos r) → IfSome line.roid IsDomainRoid

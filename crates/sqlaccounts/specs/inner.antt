@@ -1,5 +1,6 @@
 -- Words for this crate's own functions, which no promise of the registry names.
 pub mod Changes
 pub mod Finding
+pub mod Posting
 pub mod QueueFound
 pub mod QueueRows

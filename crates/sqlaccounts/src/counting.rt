@@ -1,11 +1,11 @@
 //! What an account counts.
-ghost use Rattle.std.specs.Prelude.{◌≡◌, true};
+ghost use Rattle.std.specs.Prelude.{◌≡◌};
 ghost use Rattle.sqlaccounts.specs.Accounts.{account_of_rows, sums_are_right};
-ghost use Rattle.sqlaccounts.specs.inner.Changes.{IsChange, HasNewCounters, counters_in};
-ghost use Rattle.accounts.specs.Counters.{counters_of, with_counters};
-ghost use Rattle.sqlrows.specs.Meanings.{FindsIfRight, Changes};
+ghost use Rattle.sqlaccounts.specs.inner.Changes.{HasNewCounters, counted_in, counters_in};
+ghost use Rattle.accounts.specs.Counters.{counters_of, next_command, next_serial};
+ghost use Rattle.sqlrows.specs.Meanings.{FindsIfRight};
 
-use crate::account::{found_row, maybe_row};
+use crate::account::maybe_row;
 use accounts::Counters;
 use basis::registrar::RegistrarNo;
 use sqlcolumns::{counter_column, counter_of_column};
@@ -28,13 +28,16 @@ pub fn counts<S: Alter>(
 fn counted(row: Option<AccountRow>) -> Counters
     ensures { result ≡ counters_in row }
 {
-    let Some(row) = row else {
-        return Counters {
-            commands: 0,
-            messages: 0,
-            serial: 0,
-        };
-    };
+    match row {
+        None => Counters::none(),
+        Some(row) => counted_in(&row),
+    }
+}
+
+/// What a row counts.
+pub(crate) fn counted_in(row: &AccountRow) -> Counters
+    ensures { result ≡ counted_in row.now }
+{
     Counters {
         commands: counter_of_column(row.commands),
         messages: counter_of_column(row.messages),
@@ -42,22 +45,24 @@ fn counted(row: Option<AccountRow>) -> Counters
     }
 }
 
-/// Gives a registrar's account other counters.
-pub fn set_counters<S: Alter>(
-    store: &mut RowStore<S>,
-    registrar: RegistrarNo,
-    counters: Counters,
-) -> Result<(), BookFault>
-    requires { store.old.is_open ≡ true }
-    ensures { Changes result (IsChange registrar (with_counters counters)) store.old store.new }
+/// The row with one command more.
+pub(crate) fn with_command(row: AccountRow) -> AccountRow
+    ensures { HasNewCounters (next_command (counted_in row)) row result }
 {
-    let row = found_row(store, registrar)?;
-    let row = with_counters(row, counters);
-    store.put_account(&row)?;
-    Ok(())
+    let counters = counted_in(&row).next_command();
+    with_counters(row, counters)
 }
 
-fn with_counters(row: AccountRow, counters: Counters) -> AccountRow
+/// The row with one object more.
+pub(crate) fn with_serial(row: AccountRow) -> AccountRow
+    ensures { HasNewCounters (next_serial (counted_in row)) row result }
+{
+    let counters = counted_in(&row).next_serial();
+    with_counters(row, counters)
+}
+
+/// The row with other counters.
+pub(crate) fn with_counters(row: AccountRow, counters: Counters) -> AccountRow
     ensures { HasNewCounters counters row result }
 {
     let mut row = row;

@@ -5,27 +5,36 @@
 //! question is answered where these sums are right, and each change keeps them right. A registrar's
 //! queue has the order of its rows' columns.
 //!
+//! `posted` makes any changes of an account. It takes the account's row and gives it as they leave it:
+//! the caller reads that row once, and writes it once.
+//!
 //! Each call is a few statements by an index. The lines of a domain are found by its columns. Only two
 //! calls go over all lines of an account: the removal of a deposit, and the question for all lines.
 #![tactic(auto)]
 
 mod account;
+mod acknowledging;
 mod counting;
 mod finding;
+mod graces;
 mod line;
 mod opening;
 mod paying;
+mod posting;
 mod queue;
 mod queue_account;
 mod queue_length;
 mod queue_message;
 mod reading_lines;
+mod swapping;
 mod writing;
 
 pub use account::{found_row, maybe_row, number_of};
-pub use counting::{counts, set_counters};
-pub use line::{add_line, balance, take_line};
+pub use counting::counts;
+pub use graces::{grace_end, maybe_grace_end};
+pub use line::balance;
 pub use opening::open_account;
-pub use queue::{oldest, put_message, take_message};
+pub use posting::posted;
+pub use queue::oldest;
 pub use queue_length::waiting;
-pub use reading_lines::{lines, lines_on, swaps};
+pub use reading_lines::{lines, lines_on};

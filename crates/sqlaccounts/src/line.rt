@@ -7,21 +7,19 @@ ghost use Rattle.accounts.specs.Lines as lines;
 ghost use Rattle.accounts.specs.Lines.{in_order};
 ghost use Rattle.basis.specs.Bag.{add, taken};
 ghost use Rattle.sqlaccounts.specs.Accounts.{account_of_rows, balance_in, sums_are_right};
-ghost use Rattle.sqlaccounts.specs.inner.Changes.{AddsLine, IsChange, without_line_row};
-ghost use Rattle.sqlcolumns.specs.Numbers.{maybe_moment_column};
-ghost use Rattle.sqlrows.specs.Meanings.{FindsIfRight, Changes};
-ghost use Rattle.states.specs.States.{Makes};
+ghost use Rattle.sqlaccounts.specs.inner.Posting.{IsRowOf, PostsNoLine, PostsTo};
+ghost use Rattle.sqlrows.specs.Meanings.{FindsIfRight};
 
-use crate::account::{found_row, maybe_row};
+use crate::account::maybe_row;
 use crate::finding::{number_of_line, rows_about};
+use crate::graces::maybe_grace_end;
 use crate::paying::{paid, paid_back};
 use crate::writing::written;
 use accounts::Line;
 use basis::registrar::RegistrarNo;
-use calendar::Moment;
+use policy::Schedule;
 use sqlcolumns::maybe_moment_column;
 use sqlite::Alter;
-use sqlrows::Number;
 use sqltables::{AccountRow, RowStore};
 use states::BookFault;
 
@@ -43,63 +41,49 @@ fn cents_of(row: Option<AccountRow>) -> i128
     i128::from_be_bytes(row.balance)
 }
 
-/// Adds a line to a registrar's account, and what it is worth to the balance. Refused are an account
-/// that was never opened, and a line that no row can have: on another object than a domain, or of
-/// 2 ^ 63 cents or more. When the line's grace ends is written with it.
-pub fn add_line<S: Alter>(
+/// Adds a line to a registrar's account, and what it is worth to the balance. Refused is a line that no
+/// row can have: on another object than a domain, or of 2 ^ 63 cents or more. When the line's grace ends
+/// by these lengths of periods is written with it.
+pub(crate) fn add_line<S: Alter>(
     store: &mut RowStore<S>,
     registrar: RegistrarNo,
+    row: AccountRow,
     line: Line,
-    ends: Option<Moment>,
-) -> Result<(), BookFault>
-    requires { store.old.is_open ≡ true }
-    ensures { Changes result (AddsLine registrar line (maybe_moment_column ends)) store.old
+    days: &Option<Schedule>,
+) -> Result<AccountRow, BookFault>
+    requires begun { store.old.is_open ≡ true }
+    requires there { store.old.is_clean ≡ true → IsRowOf registrar row store.old.content }
+    ensures { PostsTo result days.now registrar (with_lines (add in_order line)) row store.old
         store.new }
 {
-    let row = found_row(store, registrar)?;
     let row = paid(row, line.amount())?;
-    let line = written(registrar, &line, maybe_moment_column(ends))?;
-    store.put_account(&row)?;
+    let ends = maybe_moment_column(maybe_grace_end(&line, days));
+    let line = written(registrar, &line, ends)?;
     store.append_line(&line)?;
-    Ok(())
+    Ok(row)
 }
 
-/// Takes a line out of a registrar's account, if it is there, and what it is worth off the balance. An
-/// account that was never opened is refused. It reads the lines on the line's domain alone, and of
-/// a deposit at all lines of the account.
-pub fn take_line<S: Alter>(
+/// Takes a line out of a registrar's account, if it is there, and what it is worth off the balance. It
+/// reads the lines on the line's domain alone, and of a deposit all lines of the account.
+pub(crate) fn take_line<S: Alter>(
     store: &mut RowStore<S>,
     registrar: RegistrarNo,
+    row: AccountRow,
     line: Line,
-) -> Result<(), BookFault>
-    requires { store.old.is_open ≡ true }
-    ensures { Changes result (IsChange registrar (with_lines (taken in_order line))) store.old
-        store.new }
+) -> Result<AccountRow, BookFault>
+    requires begun { store.old.is_open ≡ true }
+    requires there { store.old.is_clean ≡ true → IsRowOf registrar row store.old.content }
+    ensures { PostsNoLine result registrar
+        (with_lines (taken in_order line)) row store.old store.new }
 {
-    let row = found_row(store, registrar)?;
     let rows = rows_about(store, registrar, &line)?;
     let number = number_of_line(rows.as_slice(), &line);
     drop(rows);
     let Some(number) = number else {
-        drop(row);
-        return Ok(());
+        return Ok(row);
     };
     let row = paid_back(row, &line)?;
     store.show_consistent();
-    remove(store, number, &row)?;
-    Ok(())
-}
-
-/// Removes the row of a line, and puts its account's row.
-fn remove<S: Alter>(
-    store: &mut RowStore<S>,
-    number: Number,
-    account: &AccountRow,
-) -> Result<(), BookFault>
-    requires { store.old.is_open ≡ true }
-    ensures { Makes result (without_line_row number account.now store.old.content) store.old store.new }
-{
     store.remove_lines_by_id(number)?;
-    store.put_account(account)?;
-    Ok(())
+    Ok(row)
 }

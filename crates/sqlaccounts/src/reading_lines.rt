@@ -68,7 +68,7 @@ fn read(alloc: Global, rows: &[LineRow]) -> Result<Lines, BookFault>
 
 /// What makes of a registrar's lines what a change makes of them, one line for another. It reads
 /// those of the change's domain alone.
-pub fn swaps<C: LineChange, S: Alter>(
+pub(crate) fn swaps<C: LineChange, S: Alter>(
     store: &mut RowStore<S>,
     alloc: Global,
     registrar: RegistrarNo,

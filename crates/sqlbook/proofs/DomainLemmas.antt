@@ -2,6 +2,7 @@
 use Rattle.std.proofs.Common.{◌≡◌, ℕ, Bool, true, ◌==◌, cond, length, List, [], filter, Option, Some, None, refl, sym, ap, subst, ◌∙◌}
 use Rattle.std.specs.FinMap.{get}
 use Rattle.std.specs.List.{list_all}
+use Rattle.sqlite_keyed.specs.Keyed.{IsKeyedBy}
 use Rattle.sqlite_rules.specs.Lists.{Has}
 use Rattle.sqlite_typed.specs.Tests.{bytes_eq}
 use Rattle.objects.specs.declared.domain.Domain.{Domain}
@@ -11,7 +12,6 @@ use Rattle.sqltables.specs.declared.account.AccountRow.{AccountRow}
 use Rattle.sqltables.specs.Content.{Content}
 use Rattle.sqltables.specs.declared.domain.DomainRow.{DomainRow}
 use Rattle.sqltables.specs.declared.meta.MetaRow.{MetaRow}
-use Rattle.sqltables.specs.inner.Consistent.{IsConsistent}
 use Rattle.sqlaccounts.specs.Accounts.{accounts_of, row_of, sums_are_right}
 use Rattle.sqldomains.specs.inner.Changes.{IsDomainPut}
 use Rattle.sqldomains.specs.Domains.{domain_read, domains_of}
@@ -24,12 +24,12 @@ use Rattle.sqlterms.specs.Clock.{clock_of}
 use Rattle.sqlterms.specs.Meta.{meta_of}
 use Rattle.sqlterms.specs.Terms.{ids_in, prices_in, reserved_in, schedule_in, terms_in, terms_made, terms_of_rows}
 use Rattle.sqlbook.specs.Meaning.{stored_of}
-use Rattle.sqlbook.proofs.AccountLemmas.{ident_in, same-ids}
+use Rattle.sqlbook.proofs.AccountLemmas.{ident_in, key, same-ids}
 use Rattle.sqlbook.proofs.ObjectLemmas.{IsOfReading, same-put}
 
 -- ---- a domain put
 
-module _ (name : List ℕ) (before after : Option Domain) (due : Option ℕ) (old mid new : Content) (consistent : IsConsistent old) (counted : IsRecounted before after old mid) (there : get (domains_of old) name ≡ before)
+module _ (name : List ℕ) (before after : Option Domain) (due : Option ℕ) (old mid new : Content) (keyed : IsKeyedBy key old.accounts) (counted : IsRecounted before after old mid) (there : get (domains_of old) name ≡ before)
     (it : IsDomainPut name after due mid new) where
   reads-mid : (row : DomainRow) → domain_read mid row ≡ domain_read old row
   reads-mid row = ap (λ (xs : Content). domain_read xs row) counted.rest
@@ -65,7 +65,7 @@ module _ (name : List ℕ) (before after : Option Domain) (due : Option ℕ) (ol
   alike-ident (Some a) (Some b) e = ap (λ (r : AccountRow). Some r.ident) e
 
   ids-mid : ids_in mid.accounts ≡ ids_in old.accounts
-  ids-mid = same-ids mid.accounts old.accounts it.consistent.0.keyed.accounts consistent.keyed.accounts (λ id. alike-ident (row_of old id) (row_of mid id) (counted.rows id)) []
+  ids-mid = same-ids mid.accounts old.accounts it.consistent.0.keyed.accounts keyed (λ id. alike-ident (row_of old id) (row_of mid id) (counted.rows id)) []
 
   terms-mid : terms_of_rows new ≡ terms_of_rows old
   terms-mid =

@@ -10,4 +10,5 @@ pub mod SteadyLemmas
 pub mod ReopeningLemmas
 pub mod BeginningLemmas
 pub mod PlacedLemmas
+pub mod PostingLemmas
 pub mod RenamingLemmas

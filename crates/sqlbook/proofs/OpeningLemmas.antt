@@ -4,7 +4,7 @@ use Rattle.std.specs.List.{AllByRecursion}
 use Rattle.std.specs.Option.{unwrap_or}
 use Rattle.sqlite_keyed.specs.Keyed.{IsKeyedBy, get_by}
 use Rattle.sqlite_keyed.proofs.KeyedLemmas.{same_int}
-use Rattle.books.specs.Tables.{account_opened}
+use Rattle.books.specs.Tables.{posted_to}
 use Rattle.sqltables.specs.declared.account.AccountRow.{AccountRow}
 use Rattle.sqltables.specs.Content.{Content}
 use Rattle.sqltables.specs.Readiness.{may_be_numbered}
@@ -93,5 +93,5 @@ module _ (r : ℕ) (old new : Content) (consistent : IsConsistent old) (after : 
   pub opening-right : are_right new ≡ are_right old
   opening-right = λ i. may_be_numbered (it.others.metas i) && (it.sums i && (opening-kept old new r consistent it i && (dues-of-others old new it.others i && sponsors-kept old new it.others.hosts it.others.domains i)))
 
-  pub opening-changed : stored_of new ≡ account_opened r (stored_of old)
+  pub opening-changed : stored_of new ≡ posted_to r (λ account. account) (stored_of old)
   opening-changed = posted-of-others old new it.others r (λ a. a) it.accounts ids-opened

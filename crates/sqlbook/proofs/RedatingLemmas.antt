@@ -40,7 +40,7 @@ deleted-right xs row (Some d) reads is =
     ap (λ o. option_map_or (λ (x : Domain). is_some x.deletion || int_eq row.due (pos (capped (earlier (expiry x) (completes_at x.transfer))))) o false) reads
     ∙ ap (λ b. b || int_eq row.due (pos (capped (earlier (expiry d) (completes_at d.transfer))))) is
 
-pub deleted-checked : (name : List ℕ) (xs : Content) (o : Option Domain) → IsConsistent xs → get (domains_of xs) name ≡ o → IsOneDeleted o → IsCheckedDomain name is_live_right xs o
+deleted-checked : (name : List ℕ) (xs : Content) (o : Option Domain) → IsConsistent xs → get (domains_of xs) name ≡ o → IsOneDeleted o → IsCheckedDomain name is_live_right xs o
 deleted-checked name xs o consistent there is = record {
   domain_is = there;
   right_is = λ row here named. deleted-right xs row o (reading-is xs row consistent here ∙ ap (get (domains_of xs)) named ∙ there) is;
@@ -54,11 +54,12 @@ ended-deleted days d due e = go d.deletion e
     go None f = cc
     go (Some x) f = refl
 
-pub put-again : (name : List ℕ) (d : Domain) (due : ℕ) (old new : Content) → IsReplaced name is_live_right (Some d) due old new → get (domains_of old) name ≡ Some d → is_some d.deletion ≡ true → MeansSame old new
-put-again name d due old new it there deleted =
+pub put-again : (name : List ℕ) (d : Domain) (due : ℕ) (old new : Content) → IsConsistent old → IsReplaced name (Some d) (Some d) due old new → get (domains_of old) name ≡ Some d → is_some d.deletion ≡ true → MeansSame old new
+put-again name d due old new consistent it there deleted =
+    let checked = deleted-checked name old (Some d) consistent there deleted in
     record {
-      stored = replaced name is_live_right (Some d) due old new it ∙ ap (λ m. with_domains m (stored_of old)) (found-put (domains_of old) name d there);
-      sums = replaced-right name is_live_right (Some d) due old new it live-of-reading (λ row here named. deleted-right new row (Some d) (reads-after name is_live_right (Some d) due old new it row here named) deleted);
-      days = replaced-days name is_live_right (Some d) due old new it;
-      lines = replaced-lines name is_live_right (Some d) due old new it;
+      stored = replaced name is_live_right (Some d) (Some d) due old new consistent checked it ∙ ap (λ m. with_domains m (stored_of old)) (found-put (domains_of old) name d there);
+      sums = replaced-right name is_live_right (Some d) (Some d) due old new consistent checked it live-of-reading (λ row here named. deleted-right new row (Some d) (reads-after name is_live_right (Some d) (Some d) due old new consistent checked it row here named) deleted);
+      days = replaced-days name is_live_right (Some d) (Some d) due old new consistent checked it;
+      lines = replaced-lines name is_live_right (Some d) (Some d) due old new consistent checked it;
     }

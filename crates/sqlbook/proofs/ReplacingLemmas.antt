@@ -9,6 +9,7 @@ use Rattle.std.specs.Option.{option_map_or}
 use Rattle.std.specs.Ordering.{eq_by_cmp, nat_cmp}
 use Rattle.std.specs.Prelude.{pos}
 use Rattle.calendar.specs.Moment.{capped}
+use Rattle.sqlite_keyed.specs.Keyed.{IsKeyedBy}
 use Rattle.sqlite_rules.specs.Lists.{Has}
 use Rattle.sqlcolumns.specs.Numbers.{moment_column}
 use Rattle.sqlcolumns.proofs.ReadLemmas.{same_some}
@@ -31,6 +32,7 @@ use Rattle.sqldomains.proofs.FrameLemmas.{sponsors-leave-domains, sponsors-leave
 use Rattle.sqldomains.proofs.SponsorLemmas.{domain-sponsors}
 use Rattle.sqlaccounts.specs.Accounts.{accounts_of, sums_are_right}
 use Rattle.sqlderived.specs.Held.{helds_are_right}
+use Rattle.sqlderived.specs.inner.Recounts.{IsRecounted}
 use Rattle.sqlderived.proofs.KeptLemmas.{accounts-kept}
 use Rattle.sqlobjects.proofs.PutLemmas.{only_named}
 use Rattle.sqlobjects.specs.inner.Changes.{with_named}
@@ -43,8 +45,9 @@ use Rattle.sqlbook.specs.Meaning.{are_right, stored_of}
 use Rattle.states.specs.declared.fault.BookFault.{BookFault}
 use Rattle.states.specs.States.{FindsSome, Reads, StateOf}
 use Rattle.sqlrows.proofs.StateLemmas.{reads-on, stays-on}
-use Rattle.sqlbook.specs.inner.Replacing.{IsCheckedDomain, IsExchangedThere, IsReplaced, IsUnderDays, due_with}
+use Rattle.sqlbook.specs.inner.Replacing.{IsCheckedDomain, IsReplaced, IsUnderDays, due_with}
 use Rattle.sqlbook.specs.inner.Suiting.{are_right_by}
+use Rattle.sqlbook.proofs.AccountLemmas.{key}
 use Rattle.sqlbook.proofs.DomainLemmas.{domain-changed, held-put, rights-put, sums-put}
 use Rattle.sqlbook.proofs.ObjectLemmas.{IsOfReading, due-of-reading, rights-where}
 
@@ -68,18 +71,19 @@ get-put m name (Some d) = get-insert nat_list_cmp_total m name d name ∙ ap (λ
 
 -- ---- one in the place of another
 
-module _ (name : List ℕ) (right : Content → DomainRow → Bool) (after : Option Domain) (due : ℕ) (old new : Content) (it : IsReplaced name right after due old new) where
+module _ (name : List ℕ) (right : Content → DomainRow → Bool) (before after : Option Domain) (due : ℕ) (old new : Content)
+    (consistent : IsConsistent old) (checked : IsCheckedDomain name right old before) (it : IsReplaced name before after due old new) where
   abbrev moved : Content
   moved = it.moved
 
-  there : IsExchangedThere name right after due moved new
-  there = it.exchanged
+  counted : IsRecounted before after moved it.exchanged.mid
+  counted = it.exchanged.counted
 
-  put-it : IsDomainPut name after (due_with after due) there.exchanged.mid new
-  put-it = there.exchanged.put
+  put-it : IsDomainPut name after (due_with after due) it.exchanged.mid new
+  put-it = it.exchanged.put
 
   pub reads-after : (row : DomainRow) → Has new.domains row → row.name ≡ name → domain_read new row ≡ after
-  reads-after row here named = reading-is new row put-it.consistent.1 here ∙ ap (get (domains_of new)) named ∙ ap (λ m. get m name) put-it.domains ∙ get-put (domains_of there.exchanged.mid) name after
+  reads-after row here named = reading-is new row put-it.consistent.1 here ∙ ap (get (domains_of new)) named ∙ ap (λ m. get m name) put-it.domains ∙ get-put (domains_of it.exchanged.mid) name after
 
   pub due-after : (row : DomainRow) → Has new.domains row → row.name ≡ name → Some row.due ≡ option_map moment_column (due_with after due)
   due-after = put-it.due_is
@@ -88,8 +92,23 @@ module _ (name : List ℕ) (right : Content → DomainRow → Bool) (after : Opt
   rest-moved : (field : Content → Bool) → ((xs : Content) (hosts : List HostRow) → field (record xs { hosts = hosts }) ≡ field xs) → field moved ≡ field old
   rest-moved field same = ap field it.followed.rest ∙ same old moved.hosts
 
+  metas-moved : moved.metas ≡ old.metas
+  metas-moved = ap (λ (xs : Content). xs.metas) it.followed.rest
+
+  days-moved : moved.days ≡ old.days
+  days-moved = ap (λ (xs : Content). xs.days) it.followed.rest
+
+  rows-moved : moved.domains ≡ old.domains
+  rows-moved = ap (λ (xs : Content). xs.domains) it.followed.rest
+
   domains-moved : domains_of moved ≡ domains_of old
   domains-moved = sponsors-leave-domains name (sponsor_in after) old moved it.followed
+
+  there : get (domains_of moved) name ≡ before
+  there = ap (λ m. get m name) domains-moved ∙ checked.domain_is
+
+  keyed : IsKeyedBy key moved.accounts
+  keyed = subst (IsKeyedBy key) (sym (ap (λ (xs : Content). xs.accounts) it.followed.rest)) consistent.keyed.accounts
 
   held-moved : helds_are_right moved ≡ helds_are_right old
   held-moved = accounts-kept old moved domains-moved (ap (λ (xs : Content). xs.accounts) it.followed.rest)
@@ -107,39 +126,40 @@ module _ (name : List ℕ) (right : Content → DomainRow → Bool) (after : Opt
   }
 
   sponsors-right : sponsors_are_right new ≡ sponsors_are_right old
-  sponsors-right = domain-sponsors name after (due_with after due) old moved there.exchanged.mid new it.followed there.exchanged.counted.rest put-it
+  sponsors-right = domain-sponsors name after (due_with after due) old moved it.exchanged.mid new it.followed counted.rest put-it
 
   metas-same : new.metas ≡ old.metas
-  metas-same = put-it.metas ∙ ap (λ (xs : Content). xs.metas) there.exchanged.counted.rest ∙ ap (λ (xs : Content). xs.metas) it.followed.rest
+  metas-same = put-it.metas ∙ ap (λ (xs : Content). xs.metas) counted.rest ∙ metas-moved
 
   sums-same : sums_are_right new ≡ sums_are_right old
-  sums-same = sums-put name there.before after (due_with after due) moved there.exchanged.mid new there.consistent there.exchanged.counted there.checked.domain_is put-it ∙ rest-moved sums_are_right (λ xs hosts. refl)
+  sums-same = sums-put name before after (due_with after due) moved it.exchanged.mid new keyed counted there put-it ∙ rest-moved sums_are_right (λ xs hosts. refl)
 
   held-same : helds_are_right new ≡ helds_are_right old
-  held-same = held-put name there.before after (due_with after due) moved there.exchanged.mid new there.consistent there.exchanged.counted there.checked.domain_is put-it ∙ held-moved
+  held-same = held-put name before after (due_with after due) moved it.exchanged.mid new keyed counted there put-it ∙ held-moved
 
   -- where the row that is there now is right
   module _ (by : IsOfReading right) (is : (row : DomainRow) → Has new.domains row → row.name ≡ name → right new row ≡ true) where
+    was : (row : DomainRow) → Has moved.domains row → row.name ≡ name → right moved row ≡ true
+    was row here named =
+        let stood = subst (λ rows. Has rows row) rows-moved here in
+        by old moved metas-moved days-moved row (sponsors-leave-reading name (sponsor_in after) old moved it.followed row stood) ∙ checked.right_is row stood named
+
     rights-same : list_all (right new) new.domains ≡ list_all (right old) old.domains
     rights-same =
-        rights-put name there.before after (due_with after due) moved there.exchanged.mid new there.consistent there.exchanged.counted there.checked.domain_is put-it right by there.checked.right_is is
-        ∙ rights-where right by old moved (ap (λ (xs : Content). xs.metas) it.followed.rest) (ap (λ (xs : Content). xs.days) it.followed.rest) (ap (λ (xs : Content). xs.domains) it.followed.rest)
-        (λ row here. sponsors-leave-reading name (sponsor_in after) old moved it.followed row here)
+        rights-put name before after (due_with after due) moved it.exchanged.mid new keyed counted there put-it right by was is
+        ∙ rights-where right by old moved metas-moved days-moved rows-moved (λ row here. sponsors-leave-reading name (sponsor_in after) old moved it.followed row here)
 
     pub replaced-right : are_right_by right new ≡ are_right_by right old
     replaced-right = λ i. may_be_numbered (metas-same i) && (sums-same i && (held-same i && (rights-same i && sponsors-right i)))
 
   pub replaced : stored_of new ≡ domain_set name after (stored_of old)
-  replaced = domain-changed name there.before after (due_with after due) moved there.exchanged.mid new there.consistent there.exchanged.counted there.checked.domain_is put-it ∙ ap (domain_set name after) stored-moved
+  replaced = domain-changed name before after (due_with after due) moved it.exchanged.mid new keyed counted there put-it ∙ ap (domain_set name after) stored-moved
 
   pub replaced-days : days_of_rows new ≡ days_of_rows old
-  replaced-days = λ i. days_of_rows (record new {
-    metas = (put-it.metas ∙ ap (λ (xs : Content). xs.metas) there.exchanged.counted.rest ∙ ap (λ (xs : Content). xs.metas) it.followed.rest) i;
-    days = (put-it.days ∙ ap (λ (xs : Content). xs.days) there.exchanged.counted.rest ∙ ap (λ (xs : Content). xs.days) it.followed.rest) i;
-  })
+  replaced-days = λ i. days_of_rows (record new { metas = metas-same i; days = (put-it.days ∙ ap (λ (xs : Content). xs.days) counted.rest ∙ days-moved) i })
 
   pub replaced-lines : new.lines ≡ old.lines
-  replaced-lines = put-it.lines ∙ ap (λ (xs : Content). xs.lines) there.exchanged.counted.rest ∙ ap (λ (xs : Content). xs.lines) it.followed.rest
+  replaced-lines = put-it.lines ∙ ap (λ (xs : Content). xs.lines) counted.rest ∙ ap (λ (xs : Content). xs.lines) it.followed.rest
 
 -- ---- a domain that is due when its row says
 
@@ -160,23 +180,24 @@ equal-columns a n e = ap (λ z. int_eq z (pos n)) e ∙ itself (pos n)
 abbrev pub IsDueThen : Schedule → ℕ → Option Domain → Type 0
 IsDueThen days due after = (d : Domain) → after ≡ Some d → due ≡ capped (due_at (rules_with days) d)
 
-module _ (name : List ℕ) (days : Schedule) (after : Option Domain) (due : ℕ) (old new : Content) (under : IsUnderDays days old) (it : IsReplaced name has_right_due after due old new) (is_due : IsDueThen days due after) where
+module _ (name : List ℕ) (days : Schedule) (before after : Option Domain) (due : ℕ) (old new : Content) (consistent : IsConsistent old) (checked : IsCheckedDomain name has_right_due old before)
+    (under : IsUnderDays days old) (it : IsReplaced name before after due old new) (is_due : IsDueThen days due after) where
   row-is : (row : DomainRow) → Has new.domains row → row.name ≡ name → is_due_right days new row ≡ true
   row-is row here named = go after refl
     where
       go : (o : Option Domain) → after ≡ o → is_due_right days new row ≡ true
       go None e =
-          let column : Some row.due ≡ None = due-after name has_right_due after due old new it row here named ∙ ap (λ o. option_map moment_column (due_with o due)) e in
+          let column : Some row.due ≡ None = due-after name has_right_due before after due old new consistent checked it row here named ∙ ap (λ o. option_map moment_column (due_with o due)) e in
           cc
       go (Some d) e =
-          let column : Some row.due ≡ Some (moment_column due) = due-after name has_right_due after due old new it row here named ∙ ap (λ o. option_map moment_column (due_with o due)) e in
-          ap (λ o. option_map_or (λ x. int_eq row.due (pos (capped (due_at (rules_with days) x)))) o false) (reads-after name has_right_due after due old new it row here named ∙ e)
+          let column : Some row.due ≡ Some (moment_column due) = due-after name has_right_due before after due old new consistent checked it row here named ∙ ap (λ o. option_map moment_column (due_with o due)) e in
+          ap (λ o. option_map_or (λ x. int_eq row.due (pos (capped (due_at (rules_with days) x)))) o false) (reads-after name has_right_due before after due old new consistent checked it row here named ∙ e)
           ∙ equal-columns row.due (capped (due_at (rules_with days) d)) (same_some row.due (moment_column due) column ∙ ap moment_column (is_due d e))
 
   pub put-right : are_right new ≡ are_right old
   put-right =
-      replaced-right name has_right_due after due old new it due-of-reading
-      (λ row here named. under-right days new row (subst (λ o. IfSome o (λ d. d ≡ days)) (sym (replaced-days name has_right_due after due old new it)) under) (row-is row here named))
+      replaced-right name has_right_due before after due old new consistent checked it due-of-reading
+      (λ row here named. under-right days new row (subst (λ o. IfSome o (λ d. d ≡ days)) (sym (replaced-days name has_right_due before after due old new consistent checked it)) under) (row-is row here named))
 
 -- a domain that was found under lengths that are those that were put down
 pub found-under : (name : List ℕ) (days : Schedule) (a b c : StateOf Content) → Reads a b × (b.is_clean ≡ true → IsUnderDays days a.content) → (r : Result (Option Domain) BookFault)

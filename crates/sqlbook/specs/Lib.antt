@@ -1,6 +1,5 @@
 pub mod Beginning
 pub mod Meaning
-pub mod Graces
 pub mod Suiting
 pub mod Files
 pub mod BetweenCalls

@@ -8,11 +8,11 @@ use crate::provenance::Provenance;
 use crate::{
     changed_accounts, changed_domains, changed_objects, changed_terms, questions, renaming,
 };
-use accounts::{Counters, Line, LineChange, LineSwap, Lines, Message};
+use accounts::{Counters, Lines, Message};
 use basis::list::Seq;
 use basis::registrar::RegistrarNo;
 use basis::text::Text;
-use books::Records;
+use books::{Posts, Records};
 use calendar::Moment;
 use concerns::Names;
 use facts::{HOLDING_LIMIT, Superordinate};
@@ -131,15 +131,6 @@ impl<S: Alter, O: Provenance<S>> Records for SqlRecords<S, O> {
         rollback_on_fault::<S, O, _>(&mut self.store, said)
     }
 
-    fn swaps<C: LineChange>(
-        &mut self,
-        registrar: RegistrarNo,
-        change: &C,
-    ) -> Result<Seq<LineSwap>, BookFault> {
-        let said = sqlaccounts::swaps(&mut self.store, self.alloc, registrar, change);
-        rollback_on_fault::<S, O, _>(&mut self.store, said)
-    }
-
     fn oldest(&mut self, registrar: RegistrarNo) -> Result<Option<Message>, BookFault> {
         let said = sqlaccounts::oldest(&mut self.store, registrar);
         rollback_on_fault::<S, O, _>(&mut self.store, said)
@@ -241,37 +232,8 @@ impl<S: Alter, O: Provenance<S>> Records for SqlRecords<S, O> {
         rollback_on_fault::<S, O, _>(&mut self.store, said)
     }
 
-    fn open_account(&mut self, registrar: RegistrarNo) -> Result<(), BookFault> {
-        let said = changed_accounts::open_account(&mut self.store, self.alloc, registrar);
-        rollback_on_fault::<S, O, _>(&mut self.store, said)
-    }
-
-    fn set_counters(
-        &mut self,
-        registrar: RegistrarNo,
-        counters: Counters,
-    ) -> Result<(), BookFault> {
-        let said = changed_accounts::set_counters(&mut self.store, registrar, counters);
-        rollback_on_fault::<S, O, _>(&mut self.store, said)
-    }
-
-    fn add_line(&mut self, registrar: RegistrarNo, line: Line) -> Result<(), BookFault> {
-        let said = changed_accounts::add_line(&mut self.store, self.alloc, registrar, line);
-        rollback_on_fault::<S, O, _>(&mut self.store, said)
-    }
-
-    fn take_line(&mut self, registrar: RegistrarNo, line: Line) -> Result<(), BookFault> {
-        let said = changed_accounts::take_line(&mut self.store, registrar, line);
-        rollback_on_fault::<S, O, _>(&mut self.store, said)
-    }
-
-    fn put_message(&mut self, registrar: RegistrarNo, message: Message) -> Result<(), BookFault> {
-        let said = changed_accounts::put_message(&mut self.store, registrar, message);
-        rollback_on_fault::<S, O, _>(&mut self.store, said)
-    }
-
-    fn take_message(&mut self, registrar: RegistrarNo, message: Message) -> Result<(), BookFault> {
-        let said = changed_accounts::take_message(&mut self.store, registrar, message);
+    fn post(&mut self, posts: Posts, policy: &Policy) -> Result<(), BookFault> {
+        let said = changed_accounts::post(&mut self.store, self.alloc, posts, policy);
         rollback_on_fault::<S, O, _>(&mut self.store, said)
     }
 
@@ -285,13 +247,21 @@ impl<S: Alter, O: Provenance<S>> Records for SqlRecords<S, O> {
         rollback_on_fault::<S, O, _>(&mut self.store, said)
     }
 
-    fn put_domain(&mut self, name: Text, domain: Domain, policy: &Policy) -> Result<(), BookFault> {
-        let said = changed_domains::put_domain(&mut self.store, self.alloc, name, domain, policy);
-        rollback_on_fault::<S, O, _>(&mut self.store, said)
-    }
-
-    fn drop_domain(&mut self, name: Text, policy: &Policy) -> Result<(), BookFault> {
-        let said = changed_domains::drop_domain(&mut self.store, self.alloc, name, policy);
+    fn set_domain(
+        &mut self,
+        posts: Option<Posts>,
+        name: Text,
+        domain: Option<Domain>,
+        policy: &Policy,
+    ) -> Result<(), BookFault> {
+        let said = changed_domains::set_domain(
+            &mut self.store,
+            self.alloc,
+            posts,
+            name,
+            domain,
+            policy,
+        );
         rollback_on_fault::<S, O, _>(&mut self.store, said)
     }
 

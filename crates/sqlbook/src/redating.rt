@@ -1,19 +1,15 @@
 //! When deleted domains are due, computed anew: rows that mean the same.
 ghost use Rattle.std.specs.Prelude.{◌≡◌, true};
 ghost use Rattle.sqlrows.specs.Meanings.{Changes};
-ghost use Rattle.states.specs.States.{FindsSome};
-ghost use Rattle.sqlderived.specs.Redates.{is_live_right};
-ghost use Rattle.sqlbook.specs.inner.Replacing.{IsCheckedDomain, IsExchangedThere, IsReplaced};
-ghost use Rattle.sqlbook.specs.inner.Suiting.{IsOneDeleted, MeansSame, end_of};
+ghost use Rattle.sqlbook.specs.inner.Suiting.{MeansSame, end_of};
 
-use crate::changed_domains::{exchange, sponsor_of};
+use crate::changed_domains::replace;
 use basis::text::Text;
 use calendar::Moment;
 use objects::Domain;
 use policy::Schedule;
 use sqlderived::{deleted_names, end_of_deletion};
 use sqlite::Alter;
-use sqlobjects::set_sponsor_below;
 use sqltables::RowStore;
 use states::BookFault;
 use std::alloc::Global;
@@ -59,6 +55,7 @@ fn redate_one<S: Alter>(
     requires { store.old.is_open ≡ true }
     ensures { Changes result MeansSame store.old store.new }
 {
+    store.show_consistent();
     let Some(domain) = sqldomains::domain(store, alloc, name)? else {
         return Err(BookFault::Store);
     };
@@ -66,7 +63,7 @@ fn redate_one<S: Alter>(
         return Err(BookFault::Store);
     };
     let same = Some(domain);
-    let replaced = replace(store, alloc, name, &same, due);
+    let replaced = replace(store, alloc, None, name, &same, &same, due);
     drop(same);
     replaced?;
     Ok(())
@@ -80,65 +77,4 @@ fn end_of(domain: &Domain, days: &Schedule) -> Option<Moment>
         return None;
     };
     Some(end_of_deletion(deletion, days))
-}
-
-/// A deleted domain takes the place of itself, and the hosts below have its sponsor.
-fn replace<S: Alter>(
-    store: &mut RowStore<S>,
-    alloc: Global,
-    name: &Text,
-    after: &Option<Domain>,
-    due: Moment,
-) -> Result<(), BookFault>
-    requires { store.old.is_open ≡ true }
-    ensures { Changes result (IsReplaced name.now is_live_right after.now due) store.old store.new }
-{
-    set_sponsor_below(store, name, sponsor_of(after))?;
-    exchange_there(store, alloc, name, after, due)?;
-    Ok(())
-}
-
-fn exchange_there<S: Alter>(
-    store: &mut RowStore<S>,
-    alloc: Global,
-    name: &Text,
-    after: &Option<Domain>,
-    due: Moment,
-) -> Result<(), BookFault>
-    requires { store.old.is_open ≡ true }
-    ensures { Changes result (IsExchangedThere name.now is_live_right after.now due) store.old
-        store.new }
-{
-    store.show_consistent();
-    let before = found(store, alloc, name)?;
-    let exchanged = exchange(store, alloc, name, &before, after, due);
-    drop(before);
-    exchanged?;
-    Ok(())
-}
-
-/// The deleted domain under a name.
-fn found<S: Alter>(
-    store: &mut RowStore<S>,
-    alloc: Global,
-    name: &Text,
-) -> Result<Option<Domain>, BookFault>
-    ensures { FindsSome result (IsCheckedDomain name.now is_live_right store.old.content) store.old
-        store.new }
-{
-    store.show_consistent();
-    let found = sqldomains::domain(store, alloc, name)?;
-    if !is_deleted(&found) {
-        return Err(BookFault::Store);
-    }
-    Ok(found)
-}
-
-fn is_deleted(domain: &Option<Domain>) -> bool
-    ensures { result ≡ true → IsOneDeleted domain.now }
-{
-    match domain {
-        None => false,
-        Some(domain) => domain.deletion.is_some(),
-    }
 }

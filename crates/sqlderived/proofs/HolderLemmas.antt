@@ -70,9 +70,14 @@ leaving r (Some p) others = go p.incoming
         ∙ bits (p.sponsor == r) (q == r) (is_some_holder p.sponsor others) (is_some_holder q others) (is_some_holder r others) (p.sponsor == q)
         (λ e. ap (λ x. is_some_holder x others) (eqb-true p.sponsor r e)) (λ e. ap (λ x. is_some_holder x others) (eqb-true q r e)) (λ e. ap (λ x. p.sponsor == x) (eqb-true q r e))
 
--- whoever leaves, and those of the others, are those who come, and those of the first
-pub balanced : (a b : Bool) → (counts_one (a && not b) + 0) + counts_one b ≡ (0 + counts_one (b && not a)) + counts_one a
-balanced true true = refl
-balanced true false = refl
-balanced false true = refl
-balanced false false = refl
+-- whoever leaves, and those of the others, are those who come, and those of the first; the one whose row is written among them
+pub balanced : (d a b : Bool)
+    → (counts_one (d && a) + (counts_one (not d && (a && not b)) + 0)) + counts_one b ≡ (counts_one (d && b) + (0 + counts_one (not d && (b && not a)))) + counts_one a
+balanced true true true = refl
+balanced true true false = refl
+balanced true false true = refl
+balanced true false false = refl
+balanced false true true = refl
+balanced false true false = refl
+balanced false false true = refl
+balanced false false false = refl

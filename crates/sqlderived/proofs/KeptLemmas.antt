@@ -144,7 +144,7 @@ module _ (xs ys : Content) (domains : domains_of ys ≡ domains_of xs) where
   pub accounts-kept : ys.accounts ≡ xs.accounts → helds_are_right ys ≡ helds_are_right xs
   accounts-kept same = columns-kept (λ id. ap (λ rows. column (get_by key rows id)) same)
 
-domains-kept : (old new : Content) → AreOthersKept old new → domains_of new ≡ domains_of old
+pub domains-kept : (old new : Content) → AreOthersKept old new → domains_of new ≡ domains_of old
 domains-kept old new it = λ i. domains_of (record new { contacts = it.contacts i; domains = it.domains i; hosts = it.hosts i; links = it.links i; transfers = it.transfers i })
 
 -- an account is changed (what it counts, its lines, its messages)

@@ -1,5 +1,5 @@
 -- What one row counted anew means, and one after another.
-use Rattle.std.proofs.Common.{◌≡◌, ℕ, ℤ, pos, negsuc, ◌+◌, ◌+ℤ◌, Bool, true, false, cond, ◌==◌, Option, Some, None, refl, sym, ap, subst, ◌∙◌, arith, int_eq, true≢false}
+use Rattle.std.proofs.Common.{◌≡◌, ℕ, ℤ, pos, negsuc, ◌+◌, ◌+ℤ◌, Bool, true, false, cond, ◌==◌, ◌&&◌, Option, Some, None, refl, sym, ap, subst, ◌∙◌, arith, int_eq, true≢false}
 use Rattle.std.proofs.lemmas.Bool.{eqb-true, eq-eqb}
 use Rattle.std.proofs.lemmas.Int.{ints}
 use Rattle.std.specs.FinMap.{get}
@@ -11,8 +11,13 @@ use Rattle.sqlcolumns.specs.Numbers.{is_place}
 use Rattle.sqlaccounts.specs.Accounts.{account_of_row, accounts_of, has_right_sums, is_right, row_of}
 use Rattle.sqlaccounts.proofs.AccountLemmas.{accounts-put, get-found, kept_accounts, row_here, row_there, sums-put}
 use Rattle.sqlaccounts.proofs.FindingLemmas.{equal}
-use Rattle.sqlderived.specs.Held.{counts_where}
-use Rattle.sqlderived.specs.inner.Recounts.{AreAlike, AreCounted, IsHeldCounted, IsCountedAnew}
+use Rattle.sqltables.proofs.PuttingLemmas.{put-twice}
+use Rattle.sqlderived.specs.declared.holders.Holders.{Holders}
+use Rattle.sqlderived.specs.declared.recounting.Unwritten.{Unwritten}
+use Rattle.sqlderived.specs.Held.{counts_one, counts_where}
+use Rattle.sqlderived.specs.inner.Holders.{is_some_holder}
+use Rattle.sqlderived.specs.inner.Recounts.{AreAlike, AreCounted, IsCountedAnew, IsHeldCounted, counts_own}
+use Rattle.sqlaccounts.specs.inner.Posting.{IsRowOf, with_row}
 use Rattle.sqltables.specs.Account as table
 use Rattle.sqltables.specs.declared.account.AccountRow.{AccountRow}
 use Rattle.sqltables.specs.Content.{Content}
@@ -134,6 +139,41 @@ module _ (xs : Content) (r l m : ℕ) (row new : AccountRow) (place : is_place r
     helds = λ q. helds-at q (r == q) (same-place r q);
     rest = refl;
   }
+
+-- ---- the row that isn't written yet, with its own count
+
+anew-none : (xs : Content) → IsCountedAnew (λ r. 0) (λ r. 0) xs xs
+anew-none xs = record {
+  accounts = refl;
+  sums = refl;
+  rows = λ id. alike-itself (row_of xs id);
+  helds = λ r. counted-itself (row_of xs (pos r));
+  rest = refl;
+}
+
+own : (r q : ℕ) (o : Option Holders) (b : Bool) → (r == q) ≡ b → cond b (counts_one (is_some_holder r o)) 0 ≡ counts_one (b && is_some_holder q o)
+own r q o true e = ap (λ x. counts_one (is_some_holder x o)) (eqb-true r q e)
+own r q o false e = refl
+
+crossed : (a b c d : ℕ) → a ≡ c → b ≡ d → a + d ≡ b + c
+crossed a b c d e f = omega (arith, e, f)
+
+module _ (xs : Content) (before after : Option Holders) where
+  pub none-written : IsCountedAnew (counts_own None before) (counts_own None after) xs xs
+  none-written = anew-none xs
+
+  pub own-written : (it : Unwritten) (new : AccountRow) → IsRowOf it.registrar it.row xs → IsHeldCounted (counts_one (is_some_holder it.registrar before)) (counts_one (is_some_holder it.registrar after)) it.row new
+      → IsCountedAnew (counts_own (Some it.registrar) before) (counts_own (Some it.registrar) after) (with_row it.row xs) (with_row new xs)
+  own-written it new of counted =
+      let r = it.registrar in
+      let l = counts_one (is_some_holder r before) in
+      let m = counts_one (is_some_holder r after) in
+      let there = sym (row_here xs (with_row it.row xs) r it.row refl of.id (pos r) (equal (pos r) (pos r) refl)) in
+      let put : with_row new (with_row it.row xs) ≡ with_row new xs = ap (λ rows. accounts_to (λ _. rows) xs) (put-twice key xs.accounts it.row new (sym (ap (λ (a : AccountRow). a.id) counted.rest))) in
+      subst (IsCountedAnew (counts_own (Some r) before) (counts_own (Some r) after) (with_row it.row xs)) put
+      (anew-as (λ q. cond (r == q) l 0) (λ q. cond (r == q) m 0) (counts_own (Some r) before) (counts_own (Some r) after) (with_row it.row xs) (with_row new (with_row it.row xs))
+      (λ q. crossed _ _ _ _ (own r q before (r == q) refl) (own r q after (r == q) refl))
+      (counted-anew (with_row it.row xs) r l m it.row new of.place there counted))
 
 -- ---- one domain less, or more, for whoever it is
 

@@ -61,7 +61,8 @@ fn is_same(incoming: Option<RegistrarNo>, registrar: RegistrarNo) -> bool
     }
 }
 
-fn is_in(registrar: RegistrarNo, parties: &Option<Holders>) -> bool
+/// Whether a registrar is among those who hold a domain.
+pub(crate) fn is_in(registrar: RegistrarNo, parties: &Option<Holders>) -> bool
     ensures { result ≡ spec.is_some_holder registrar parties.now }
 {
     match parties {
@@ -102,4 +103,18 @@ pub(crate) fn incoming_without(
         return None;
     }
     Some(incoming)
+}
+
+/// A registrar, unless it is the one whose row has been written.
+pub(crate) fn other_than(
+    written: &Option<RegistrarNo>,
+    who: Option<RegistrarNo>,
+) -> Option<RegistrarNo>
+    ensures { result ≡ spec.other_than written.now who }
+{
+    let who = who?;
+    if is_same(*written, who) {
+        return None;
+    }
+    Some(who)
 }

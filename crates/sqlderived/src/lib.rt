@@ -31,5 +31,5 @@ pub use holding::is_at_holding_limit;
 pub use length::same_days;
 pub use near::due_near;
 pub use page::first_due;
-pub use recounting::recount;
+pub use recounting::{Unwritten, recount};
 pub use redating::{deleted_names, end_of_deletion, ends_are};

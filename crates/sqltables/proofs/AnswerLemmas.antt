@@ -1,5 +1,5 @@
 -- What is found among the answers that are kept, and what is kept.
-use Rattle.std.proofs.Common.{◌≡◌, ◌≢◌, ◌≤◌, ◌++◌, ◌==◌, Bool, true, false, not, ℕ, List, [], ◌∷◌, length, map, filter, flat_map, get_or, if◌then◌else◌, IfOk, Result, inl, inr, refl, sym, ap, subst, subst₂, ◌∙◌, arith}
+use Rattle.std.proofs.Common.{◌≡◌, ◌≢◌, ◌++◌, ◌==◌, ◌&&◌, Bool, true, false, not, ℕ, List, [], ◌∷◌, length, map, filter, flat_map, get_or, if◌then◌else◌, IfOk, IfSome, IsTrue, Option, Some, None, Result, inl, inr, refl, sym, ap, subst, subst₂, ◌∙◌, arith}
 use Rattle.std.specs.List.{All}
 use Rattle.std.proofs.lemmas.Bool.{and_parts, eqb-false}
 use Rattle.std.proofs.lemmas.Bool.Decides.{leb_tells}
@@ -20,20 +20,19 @@ use Rattle.sqlite_schema.specs.declared.command.Command.TheVariants.{Select}
 use Rattle.sqlite_sql.specs.Term.{Env}
 use Rattle.sqlite_sql.specs.Program.{overlay}
 use Rattle.sqlrows.proofs.SelectLemmas.{overlay_none}
-use Rattle.sqlite.specs.State.{State}
-use Rattle.sqltables.specs.inner.Answers.{AreFew, AreRight, IsAnsweredByRows, IsOf, IsPutIn, IsQueryOf, IsRight, Recalls, beside}
+use Rattle.sqlite.specs.State.{HasCleanDisk, State}
+use Rattle.sqltables.specs.inner.Answers.{AreFew, AreRight, IsAnsweredByRows, IsOf, IsPutIn, IsQueryOf, IsRight, Recalls, beside, is_short, lasting, lasts, unless_full}
 use Rattle.sqltables.specs.Content.{Content}
 use Rattle.sqltables.specs.inner.Content.{IsContent}
-use Rattle.sqltables.specs.Decoding.{contents}
 use Rattle.sqltables.specs.Tables.{registry}
 use Rattle.states.specs.declared.fault.BookFault.{BookFault}
 use Rattle.sqltables.specs.declared.answers.Answer.{Answer}
 use Rattle.sqltables.specs.declared.form.Form.{Form}
 use Rattle.states.specs.States.{Finds, Reads, Remains, StateOf}
 use Rattle.sqltables.specs.inner.Statements.{AreOthersSame, Asks, IsOfTable}
-use Rattle.sqltables.specs.inner.Stored.{Fits, HoldsRows, has_rows, rows_in, store_state}
+use Rattle.sqltables.specs.inner.Stored.{Fits, has_rows, store_state}
 use Rattle.sqltables.proofs.AskingLemmas.{finds-by, holds-now, in-registry, rows-are, shows}
-use Rattle.sqltables.proofs.StandingLemmas.{honest}
+use Rattle.sqltables.proofs.StandingLemmas.{clean-of, honest}
 
 -- parameters that are kept are those that were given
 pub same_bound : (values : List Value) (given : List ValueRef) → values ≡ map owned given → map bound_value values ≡ bound given
@@ -56,21 +55,37 @@ reads-itself s = record {
   leaves = record { honest = λ e. e; same = refl; ready = refl };
 }
 
--- an answer that is kept is what the database would say
-pub recalled : {R : Type 0} (form : Form) (begun : Bool) (s : State) (leaves : List (Remains Content)) (kept : List Answer) → Fits form begun s → has_rows form ≡ true → Recalls s kept → (f : Content → List R) → (found : Result (List R) BookFault)
-    → ((db : Trees) (xs : Content) → AreRight db kept → IsContent xs (record { schema = registry; trees = db }) → IfOk found (λ records. records ≡ f xs)) → Finds found (f (store_state form begun s leaves).content) (store_state form begun s leaves) (store_state form begun s leaves)
-recalled form begun s leaves kept fits rows recalls f found tells =
-    finds-by found (f (rows_in form s.now.trees)) (store_state form begun s leaves) (store_state form begun s leaves) (reads-itself (store_state form begun s leaves))
-    (λ e.
-    let parts = and_parts s.is_clean s.is_open e in
-    let clean = honest s parts.0 in
-    let h : HoldsRows s.now = holds-now form s.now s.committed rows (fits clean parts.1).bears in
-    subst (λ (xs : Content). IfOk found (λ records. records ≡ f xs)) (sym (rows-are form s.now.trees rows)) (tells s.now.trees (contents s.now.trees) (recalls clean parts.1) (in-registry s.now h)))
+module _ (form : Form) (begun : Bool) (s : State) (leaves : List (Remains Content)) (kept : List Answer) (fits : Fits form begun s) (rows : has_rows form ≡ true) (recalls : Recalls s kept) where
+  abbrev seen : StateOf Content
+  seen = store_state form begun s leaves
+
+  there : HasCleanDisk s → IsTrue s.is_open → IsContent seen.content (record { schema = registry; trees = s.now.trees })
+  there clean opened =
+      subst (λ (xs : Content). IsContent xs (record { schema = registry; trees = s.now.trees })) (sym (rows-are form s.now.trees rows))
+      (in-registry s.now (holds-now form s.now s.committed rows (fits clean opened).bears))
+
+  -- an answer that is kept is what the database would say
+  pub recalled : {R : Type 0} (f : Content → List R) (known : Option (Result (List R) BookFault))
+      → ((db : Trees) (xs : Content) → AreRight db kept → IsContent xs (record { schema = registry; trees = db }) → IfSome known (λ found. IfOk found (λ records. records ≡ f xs)))
+      → IfSome known (λ found. Finds found (f seen.content) seen seen)
+  recalled f None tells = tt
+  recalled f (Some found) tells =
+      finds-by found (f seen.content) seen seen (reads-itself seen)
+      (λ e.
+      let parts = and_parts s.is_clean s.is_open e in
+      let clean = honest s parts.0 in
+      tells s.now.trees seen.content (recalls clean parts.1) (there clean parts.1))
+
+  -- one more is kept that the rows show to be right
+  pub recalls-known : (more : List Answer) (sql : List ℕ) (params : Row) (found : List Row) → (seen.is_clean ≡ true → (db : Trees) → IsContent seen.content (record { schema = registry; trees = db }) → IsAnsweredByRows db sql params found)
+      → ((db : Trees) → AreRight db kept → IsAnsweredByRows db sql params found → AreRight db more) → Recalls s more
+  recalls-known more sql params found shows adds clean opened =
+      adds s.now.trees (recalls clean opened) (shows (ap (λ (b : Bool). b && s.is_open) (clean-of s clean) ∙ opened) s.now.trees (there clean opened))
 
 -- ---- what a write of another table leaves
 
 -- what a command asks
-abbrev asked-by : Query → Command → Query
+abbrev pub asked-by : Query → Command → Query
 asked-by other (Select program names) = program.body
 asked-by other _ = other
 
@@ -125,11 +140,20 @@ right-as db it tree sql params rows of at has answered asks = (
 
 -- ---- which answers are kept
 
+all-unless_full : (P : Answer → Type 0) (kept : List Answer) → All P kept → All P (unless_full kept)
+all-unless_full P kept all = elim (leb_tells 32 (length kept)) [
+  | inl full ↦ subst (λ (b : Bool). All P (if b then [] else kept)) (sym full.0) (λ i d short. absurd (omega (arith, short)))
+  | inr free ↦ subst (λ (b : Bool). All P (if b then [] else kept)) (sym free.0) all
+]
+
+pub all-lasting : (P : Answer → Type 0) (kept : List Answer) → All P kept → All P (lasting kept)
+all-lasting P kept all = All-filter (λ (it : Answer). lasts it.tree) P kept all
+
 -- those beside which one more is kept have what all have
 all-beside : (P : Answer → Type 0) (kept : List Answer) → All P kept → All P (beside kept)
 all-beside P kept all = elim (leb_tells 32 (length kept)) [
-  | inl full ↦ subst (λ (b : Bool). All P (if b then [] else kept)) (sym full.0) (λ i d short. absurd (omega (arith, short)))
-  | inr free ↦ subst (λ (b : Bool). All P (if b then [] else kept)) (sym free.0) all
+  | inl full ↦ subst (λ (b : Bool). All P (if b then unless_full (lasting kept) else kept)) (sym full.0) (all-unless_full P (lasting kept) (all-lasting P kept all))
+  | inr free ↦ subst (λ (b : Bool). All P (if b then unless_full (lasting kept) else kept)) (sym free.0) all
 ]
 
 -- one more, if it is put in
@@ -143,5 +167,5 @@ all-put P it old new put one all = elim put [
 pub few-left : (p : Answer → Bool) (items left : List Answer) → left ≡ filter p items → AreFew items → AreFew left
 few-left p items left is few = subst AreFew (sym is) (
   omega (arith, length-filter p items, count_by-le-length p items, few.0),
-  All-filter p (λ (a : Answer). length a.rows.items ≤ 16) items few.1,
+  All-filter p (λ (a : Answer). is_short a.tree (length a.rows.items) ≡ true) items few.1,
 )

@@ -8,6 +8,7 @@ pub mod MakingLemmas
 pub mod TableLemmas
 pub mod StatementLemmas
 pub mod QueryLemmas
+pub mod KnownLemmas
 pub mod WritingLemmas
 pub mod DueLemmas
 pub mod SchemaLemmas
@@ -15,10 +16,7 @@ pub mod FirstSchemaLemmas
 pub mod BalanceLemmas
 pub mod RowLemmas
 pub mod ConsistencyLemmas
-pub mod HandLemmas
-pub mod ReplacingLemmas
-pub mod SeenLemmas
-pub mod NotedLemmas
+pub mod PuttingLemmas
 pub mod AdoptionLemmas
 pub mod SoundLemmas
 pub mod AdoptedLemmas

@@ -10,9 +10,10 @@ use Rattle.sqlite_typed.specs.Columns.{or_null}
 use Rattle.sqlite_typed.proofs.TestLemmas.{at_ints, at_points_to, at_texts, then_term, last_term, then_key, last_key}
 use Rattle.sqlite.specs.Listing.{understood}
 use Rattle.sqlite_tied.specs.Compute.{everything}
-use Rattle.sqlrows.specs.inner.Layouts.{by_then_key}
+use Rattle.sqlrows.specs.inner.Layouts.{IsSelect, by_then_key, select_query}
 use Rattle.sqlrows.proofs.SelectLemmas.{value_cmp-maybe_int}
 use Rattle.sqltables.specs.inner.Tables.{meta_all, account_all, account_by_id, contact_by_id, contact_by_name, contact_until_due, contact_first_until_due, contact_by_sponsor_until_due, domain_all, domain_by_id, domain_by_name, domain_first_by_registrant, domain_until_due, domain_first_until_due, domain_by_sponsor_until_due, domain_by_registrant_until_due, domain_by_roid, host_all, host_by_id, host_by_name, host_by_above, address_by_host, link_by_domain, link_first_by_contact, link_first_by_host, link_by_contact_until_due, link_by_host_until_due, line_by_account, line_by_object, message_first_by_account, message_same, transfer_by_contact, transfer_by_domain, transfer_pending_by_requester, transfer_pending_by_losing, days_all}
+use Rattle.sqltables.specs.Tables.{registry}
 use Rattle.sqltables.specs.Meta.{meta_shown, metas}
 use Rattle.sqltables.specs.Account.{account_shown, accounts, account_with_id}
 use Rattle.sqltables.specs.Contact.{ContactRow, contact_shown, contacts, contact_with_id, contact_with_name, contact_within_due, contact_of_sponsor_within, by_due as contact_by_due, contacts_by_due}
@@ -26,7 +27,7 @@ use Rattle.sqltables.specs.Transfer.{transfer_shown, transfers, transfer_with_co
 use Rattle.sqltables.specs.Day.{day_shown, days}
 use Rattle.sqltables.specs.inner.Statements.{Asks}
 use Rattle.sqltables.proofs.DueLemmas.{at_due, at_ever}
-use Rattle.sqltables.proofs.StatementLemmas.{asks_all, asks_where, asks_first, asks_sorted, asks_first_sorted, equals, at_most, from_zero, given, one}
+use Rattle.sqltables.proofs.StatementLemmas.{all_columns, asks_all, asks_where, asks_first, asks_sorted, asks_first_sorted, equals, at_most, from_zero, given, one}
 use Rattle.sqltables.proofs.TableLemmas.{meta_part, account_part, contact_part, domain_part, host_part, address_part, link_part, line_part, message_part, transfer_part, day_part}
 pub use Rattle.sqltables.proofs.TableLemmas.{asks-by, bound-last, bound-then}
 
@@ -67,9 +68,12 @@ day_titles = codes "id" ∷ codes "starts" ∷ codes "days_add" ∷ codes "days_
 
 -- ---- meta
 
-pub all_metas : Asks metas.tree meta_shown meta_all [] (λ c. c.metas)
+pub select_metas : IsSelect registry meta_all (select_query metas.tree [] (all_columns 16))
 unfolding understood everything
-all_metas = asks_all meta_part 16 (record { names = meta_titles; command = refl; plain = (refl, refl); unlisted = refl }) (λ x. refl)
+select_metas = record { names = meta_titles; command = refl; plain = (refl, refl); unlisted = refl }
+
+pub all_metas : Asks metas.tree meta_shown meta_all [] (λ c. c.metas)
+all_metas = asks_all meta_part 16 select_metas (λ x. refl)
 
 -- ---- account
 
@@ -77,10 +81,12 @@ pub all_accounts : Asks accounts.tree account_shown account_all [] (λ c. c.acco
 unfolding understood everything
 all_accounts = asks_all account_part 7 (record { names = account_titles; command = refl; plain = (refl, refl); unlisted = refl }) (λ x. refl)
 
-pub accounts_by_id : (v : ℤ) → Asks accounts.tree account_shown account_by_id (Int v ∷ []) (λ c. filter (account_with_id v) c.accounts)
+pub select_account : IsSelect registry account_by_id (select_query accounts.tree (equals 0 0 ∷ []) (all_columns 7))
 unfolding understood everything
-accounts_by_id v = asks_where account_part 7 (equals 0 0 ∷ []) (record { names = account_titles; command = refl; plain = (refl, refl); unlisted = refl })
-    (λ x. last_term (at_ints false Eq x.id v)) (λ x. refl)
+select_account = record { names = account_titles; command = refl; plain = (refl, refl); unlisted = refl }
+
+pub accounts_by_id : (v : ℤ) → Asks accounts.tree account_shown account_by_id (Int v ∷ []) (λ c. filter (account_with_id v) c.accounts)
+accounts_by_id v = asks_where account_part 7 (equals 0 0 ∷ []) select_account (λ x. last_term (at_ints false Eq x.id v)) (λ x. refl)
 
 -- ---- contact
 

@@ -14,6 +14,8 @@ use Rattle.sqltables.specs.declared.form.Form.{Form}
 use Rattle.sqltables.specs.declared.form.Form.TheVariants.{Unused, Making, Made, Other}
 use Rattle.states.specs.States.{LeavesSame, Reads, Remains, Stays}
 use Rattle.sqltables.specs.Content.{Content}
+use Rattle.sqltables.specs.declared.answers.Answer.{Answer}
+use Rattle.sqltables.specs.inner.Answers.{AreRight, Recalls}
 use Rattle.sqltables.specs.inner.Stored.{AgreesWithForm, Bears, Fits, Guards, readiness_of, rows_in, store_state, undone}
 
 -- ---- clean and open
@@ -184,6 +186,11 @@ reads-same form begun old new P leaves survives same = record {
   answers = λ was e. ap (λ (b : Bool). b && new.is_open) e ∙ (same (honest new e)).0.is_open;
   leaves = leaves-same form form begun begun old new P leaves survives refl;
 }
+
+pub recalls-same : (old new : State) (P : Trees → Type 0) (kept : List Answer) → Survives old new P → (HasCleanDisk new → IsUnchanged old new) → Recalls old kept → Recalls new kept
+recalls-same old new P kept survives same was clean opened =
+    let it = (same clean).0 in
+    subst (λ (db : Database). AreRight db.trees kept) (sym it.now_is) (was (was-honest old new P survives clean) it.was_open)
 
 -- ---- a call that changed nothing, or ended what there was, where no transaction is open
 

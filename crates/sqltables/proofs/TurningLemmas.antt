@@ -20,6 +20,9 @@ use Rattle.sqltables.specs.declared.form.Form.TheVariants.{Unused, Making, Made,
 use Rattle.states.proofs.LeavingLemmas.{has-alone, has-either, has-front, has-last}
 use Rattle.states.specs.States.{Closes, Fails, Keeps, Remains, Starts, Stays, holding}
 use Rattle.sqltables.specs.Content.{Content}
+use Rattle.sqltables.specs.declared.answers.Answer.{Answer}
+use Rattle.sqltables.specs.inner.Answers.{AreRight, IsRight, Recalls, lasting}
+use Rattle.sqltables.proofs.AnswerLemmas.{all-lasting}
 use Rattle.sqltables.specs.inner.Stored.{AgreesWithForm, Bears, Fits, Guards, committed, has_rows, leaves_of, left_in, readiness_of, rows_in, store_state, undone}
 use Rattle.sqltables.specs.Stored.{IsLeftAs}
 use Rattle.sqltables.proofs.StandingLemmas.{agrees-back, clean-of, guards-on, home, honest, leaves-same, undone-ready, was-honest}
@@ -115,6 +118,11 @@ module _ (form : Form) (old new : State) (P : Trees → Type 0) (survives : Surv
           guards-on false true old new P leaves survives guards (λ clean _. (begin-shows old new count (ran clean)).is_open)
           (λ clean db may. elim (survives.crash clean db may) [ inl was ↦ was | inr is ↦ absurd (none db is) ])
 
+      pub recalls-begun : (kept : List Answer) → Recalls old kept → Recalls new (lasting kept)
+      recalls-begun kept was clean opened =
+          subst (λ (db : Database). AreRight db.trees (lasting kept)) (sym (shows clean (agreed clean opened)).now_is)
+          (all-lasting (IsRight old.now.trees) kept (was (was-honest old new P survives clean) (opened-before clean opened)))
+
       pub starts : Starts (store_state form false old leaves) (store_state form true new leaves)
       starts = record {
         clean = λ e. let p = parts-of e in clean-if-open p.0 (opened-before p.0 p.1);
@@ -169,6 +177,11 @@ module _ (form : Form) (old new : State) (P : Trees → Type 0) (survives : Surv
             settled = λ _. shown.now_is ∙ sym shown.committed_is;
             making = λ _. committed-stays form;
           }
+
+      pub recalls-committed : (answers : List Answer) → Recalls old answers → Recalls new (lasting answers)
+      recalls-committed answers was clean opened =
+          subst (λ (db : Database). AreRight db.trees (lasting answers)) (sym (kept clean (agreed-inside clean opened)).now_is)
+          (all-lasting (IsRight old.now.trees) answers (was (was-honest old new P survives clean) (open-before clean opened)))
 
       pub keeps : has_rows form ≡ true → Keeps (store_state form true old leaves) (store_state (committed form) false new (left_in (committed form) old ∷ []))
       keeps rows = record {

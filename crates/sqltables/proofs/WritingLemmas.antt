@@ -25,7 +25,6 @@ use Rattle.sqltables.specs.Message.{MessageRow, message_shown, messages, message
 use Rattle.sqltables.specs.Transfer.{TransferRow, transfer_shown, transfers, transfer_with_contact, transfer_with_domain}
 use Rattle.sqltables.specs.Day.{DayRow, day_shown, days}
 use Rattle.sqltables.specs.inner.Content.{metas_to, accounts_to, contacts_to, domains_to, hosts_to, addresses_to, links_to, lines_to, messages_to, transfers_to, days_to}
-use Rattle.sqltables.specs.inner.Hand.{IsApart}
 use Rattle.sqltables.specs.inner.Statements.{Alters, Appends}
 use Rattle.sqltables.proofs.StatementLemmas.{adds_by, append_by, equals, put_by, remove_by, replace_by}
 use Rattle.sqltables.proofs.TableLemmas.{alters, meta_part, account_part, contact_part, domain_part, host_part, address_part, link_part, line_part, message_part, transfer_part, day_part}
@@ -196,29 +195,3 @@ remove_transfers_by_domain v = remove_by transfer_part (transfer_with_domain v) 
 pub append_day : (x : DayRow) → Alters days.tree days_append (drop 1 (day_shown x)) (days_to (λ xs. appended days (λ id. record x { id = id }) xs))
 unfolding understood everything
 append_day = append_by day_part day_shown (λ x id. record x { id = id }) 10 (record { command = refl; plain = (refl, refl) }) (record { values = λ x. refl; casts = λ x. simp (cast_int, cast_null, cast_text, cast_maybe_int, cast_maybe_text); row = λ x id. refl })
-
--- ---- what hangs on no account
-
-pub apart-contacts : (change : List ContactRow → List ContactRow) → IsApart (contacts_to change)
-apart-contacts change = record { accounts = λ f xs. refl; metas = λ xs. refl; days = λ xs. refl }
-
-pub apart-domains : (change : List DomainRow → List DomainRow) → IsApart (domains_to change)
-apart-domains change = record { accounts = λ f xs. refl; metas = λ xs. refl; days = λ xs. refl }
-
-pub apart-hosts : (change : List HostRow → List HostRow) → IsApart (hosts_to change)
-apart-hosts change = record { accounts = λ f xs. refl; metas = λ xs. refl; days = λ xs. refl }
-
-pub apart-addresses : (change : List AddressRow → List AddressRow) → IsApart (addresses_to change)
-apart-addresses change = record { accounts = λ f xs. refl; metas = λ xs. refl; days = λ xs. refl }
-
-pub apart-links : (change : List LinkRow → List LinkRow) → IsApart (links_to change)
-apart-links change = record { accounts = λ f xs. refl; metas = λ xs. refl; days = λ xs. refl }
-
-pub apart-lines : (change : List LineRow → List LineRow) → IsApart (lines_to change)
-apart-lines change = record { accounts = λ f xs. refl; metas = λ xs. refl; days = λ xs. refl }
-
-pub apart-messages : (change : List MessageRow → List MessageRow) → IsApart (messages_to change)
-apart-messages change = record { accounts = λ f xs. refl; metas = λ xs. refl; days = λ xs. refl }
-
-pub apart-transfers : (change : List TransferRow → List TransferRow) → IsApart (transfers_to change)
-apart-transfers change = record { accounts = λ f xs. refl; metas = λ xs. refl; days = λ xs. refl }

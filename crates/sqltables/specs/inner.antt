@@ -6,7 +6,6 @@ pub mod Content
 pub mod Due
 pub mod Faults
 pub mod FirstTables
-pub mod Hand
 pub mod Reopening
 pub mod Statements
 pub mod Stored

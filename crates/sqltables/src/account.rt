@@ -1,15 +1,15 @@
 //! Registrars' accounts.
-ghost use Rattle.std.specs.Prelude.{◌≡◌, true, false, filter};
+ghost use Rattle.std.specs.Prelude.{◌≡◌, true, filter, map, [], ◌∷◌};
+ghost use Rattle.sqlite_rules.specs.Lists.{Has};
+ghost use Rattle.sqlite_value.specs.Value.{owned};
+ghost use Rattle.sqlite_value.specs.declared.value.Value.TheVariants.{Int};
 ghost use Rattle.sqlite_keyed.specs.Keyed.{insert_by};
 ghost use Rattle.sqlite_keyed.specs.Lists.{update_where};
 ghost use Rattle.sqltables.specs.inner.Content.{accounts_to};
 ghost use Rattle.states.specs.States.{Finds, Makes};
-ghost use Rattle.sqltables.specs.inner.Hand.{IsAtHand, IsThere, seen_with};
-ghost use Rattle.sqltables.specs.Account.{accounts, account_with_id};
+ghost use Rattle.sqltables.specs.Account.{AccountRow, accounts, account_with_id};
 
-use crate::base::Base;
-use crate::hand::Hand;
-use crate::store::{RowStore, settle};
+use crate::store::RowStore;
 use basis::list::Seq;
 use basis::text::Text;
 use sqlite::types::{ToSql, Type, ValueRef};
@@ -18,7 +18,7 @@ use sqlrows::{Number, Record};
 use states::BookFault;
 
 /// The tree of the table `account`.
-const TREE: u64 = 1;
+pub(crate) const TREE: u64 = 1;
 
 const ALL: &str =
     "SELECT id, ident, commands, messages, serial, waiting, balance, held FROM account ORDER BY id";
@@ -49,30 +49,17 @@ impl AccountRow {
     ghost use Rattle.sqlite.specs.Values.{bound};
     ghost use Rattle.sqltables.specs.Account.{account_shown};
 
-    /// Whether both are of one account, under one name.
-    pub(crate) fn is_of(&self, other: &AccountRow) -> bool
-        ensures { result ≡ true → (self.now.id ≡ other.now.id)
-            × (self.now.ident ≡ other.now.ident) }
+    /// The parameter of the question that finds it.
+    fn number(&self) -> [ValueRef<'_>; 1]
+        ensures { bound result ≡ Int self.now.id ∷ [] }
     {
-        self.id == other.id && self.ident.as_str() == other.ident.as_str()
-    }
-
-    /// Becomes the other, which is of the same account, under the same name.
-    pub(crate) fn follow(&mut self, other: &AccountRow)
-        requires { (self.old.id ≡ other.now.id) × (self.old.ident ≡ other.now.ident) }
-        ensures { self.new ≡ other.now }
-    {
-        self.commands = other.commands;
-        self.messages = other.messages;
-        self.serial = other.serial;
-        self.waiting = other.waiting;
-        self.balance = other.balance;
-        self.held = other.held;
+        [self.id.to_sql()]
     }
 
     /// The parameters of the statement that puts it.
     fn params(&self) -> [ValueRef<'_>; 8]
-        ensures { bound result ≡ account_shown self.now }
+        ensures bound { bound result ≡ account_shown self.now }
+        ensures owned { map owned result ≡ account_shown self.now }
     {
         [
             self.id.to_sql(),
@@ -112,29 +99,56 @@ impl Record for AccountRow {
     }
 }
 
-impl<S: Alter> Base<S> {
+impl<S: Alter> RowStore<S> {
     /// All of them, by their numbers.
-    pub(crate) fn all_accounts(&mut self) -> Result<Seq<AccountRow>, BookFault>
+    pub fn all_accounts(&mut self) -> Result<Seq<AccountRow>, BookFault>
         ensures { Finds result self.old.content.accounts self.old self.new }
     {
         self.select(TREE, ALL, &[])
     }
 
     /// Those with this number.
-    pub(crate) fn accounts_by_id(&mut self, id: Number) -> Result<Seq<AccountRow>, BookFault>
+    pub fn accounts_by_id(&mut self, id: Number) -> Result<Seq<AccountRow>, BookFault>
         ensures { Finds result (filter (account_with_id id) self.old.content.accounts) self.old
             self.new }
     {
         self.select(TREE, BY_ID, params![id])
     }
 
-    /// Puts a row in the place of the one with its number, or after all others.
-    pub(crate) fn put_account(&mut self, account: &AccountRow) -> Result<(), BookFault>
+    /// Puts a row in the place of the one with its number, or after all others. Afterwards it is known.
+    pub fn put_account(&mut self, account: &AccountRow) -> Result<(), BookFault>
         requires { self.old.is_open ≡ true }
         ensures { Makes result (accounts_to (λ xs. insert_by accounts.key xs account.now)
             self.old.content) self.old self.new }
     {
+        self.show_consistent();
+        self.write_account(account)?;
+        self.know_account(account);
+        Ok(())
+    }
+
+    /// The same, which isn't known. If there was one with its number, as far as is known, it is replaced.
+    fn write_account(&mut self, account: &AccountRow) -> Result<(), BookFault>
+        requires { self.old.is_open ≡ true }
+        ensures { Makes result (accounts_to (λ xs. insert_by accounts.key xs account.now)
+            self.old.content) self.old self.new }
+    {
+        if self.has_account(account) {
+            self.show_consistent();
+            return self.replace_account(account);
+        }
         self.write(TREE, PUT, &account.params())
+    }
+
+    /// Whether there is one with this one's number, as far as is known without a statement.
+    fn has_account(&self, account: &AccountRow) -> bool
+        ensures { result ≡ true → self.now.is_clean ≡ true
+            → (x : AccountRow) × Has self.now.content.accounts x × (x.id ≡ account.now.id) }
+    {
+        let Some(Ok(rows)) = self.known::<AccountRow>(TREE, BY_ID, &account.number()) else {
+            return false;
+        };
+        !rows.is_empty()
     }
 
     /// Puts a row in the place of the one with its number. If there is none, nothing is changed.
@@ -145,130 +159,13 @@ impl<S: Alter> Base<S> {
     {
         self.write(TREE, REPLACE, &account.params())
     }
-}
 
-impl<S: Alter> RowStore<S> {
-    /// All of them, by their numbers.
-    pub fn all_accounts(&mut self) -> Result<Seq<AccountRow>, BookFault>
-        ensures { Finds result self.old.content.accounts self.old self.new }
+    /// Keeps this row as the answer to the question which account has its number.
+    fn know_account(&mut self, account: &AccountRow)
+        requires { self.old.is_clean ≡ true
+            → filter (account_with_id account.now.id) self.old.content.accounts ≡ account.now ∷ [] }
+        ensures { self.new ≡ self.old }
     {
-        all(&mut self.base, &mut self.hand)
+        self.know(TREE, BY_ID, &account.number(), &account.params());
     }
-
-    /// Those with this number.
-    pub fn accounts_by_id(&mut self, id: Number) -> Result<Seq<AccountRow>, BookFault>
-        ensures { Finds result (filter (account_with_id id) self.old.content.accounts) self.old
-            self.new }
-    {
-        look_up(&mut self.base, &mut self.hand, id)
-    }
-
-    /// Puts a row in the place of the one with its number, or after all others.
-    pub fn put_account(&mut self, account: &AccountRow) -> Result<(), BookFault>
-        requires { self.old.is_open ≡ true }
-        ensures { Makes result (accounts_to (λ xs. insert_by accounts.key xs account.now)
-            self.old.content) self.old self.new }
-    {
-        put(&mut self.base, &mut self.hand, account)
-    }
-}
-
-/// Puts an account's row in the place of the one with its number, which is there.
-pub(crate) fn put_over<S: Alter>(base: &mut Base<S>, account: &AccountRow) -> Result<(), BookFault>
-    requires open { base.old.is_open ≡ true }
-    requires there { base.old.is_clean ≡ true
-        → IsThere true account.now base.old.content.accounts }
-    ensures { Makes result (accounts_to (λ xs. insert_by accounts.key xs account.now)
-        base.old.content) base.old base.new }
-{
-    base.show_consistent();
-    base.replace_account(account)
-}
-
-/// The accounts with this number.
-fn look_up<S: Alter>(
-    base: &mut Base<S>,
-    hand: &mut Hand,
-    id: Number,
-) -> Result<Seq<AccountRow>, BookFault>
-    requires { IsAtHand hand.old base.old }
-    ensures kept { IsAtHand hand.new base.new }
-    ensures found { Finds result
-        (filter (account_with_id id) (seen_with hand.old base.old).content.accounts)
-        (seen_with hand.old base.old) (seen_with hand.new base.new) }
-{
-    base.show_consistent();
-    if hand.has_number(id) {
-        return Ok(hand.accounts(base.alloc())?);
-    }
-    settle(base, hand)?;
-    fetch(base, hand, id)
-}
-
-/// The same, asked of the database, where nothing is owed.
-fn fetch<S: Alter>(
-    base: &mut Base<S>,
-    hand: &mut Hand,
-    id: Number,
-) -> Result<Seq<AccountRow>, BookFault>
-    requires kept { IsAtHand hand.old base.old }
-    requires nothing { hand.old.owed ≡ false }
-    ensures kept { IsAtHand hand.new base.new }
-    ensures found { Finds result
-        (filter (account_with_id id) (seen_with hand.old base.old).content.accounts)
-        (seen_with hand.old base.old) (seen_with hand.new base.new) }
-{
-    let rows = base.accounts_by_id(id);
-    let rows = hand.or_forget(rows)?;
-    hand.keep_account(rows.as_slice());
-    Ok(rows)
-}
-
-/// All accounts, by their numbers.
-fn all<S: Alter>(base: &mut Base<S>, hand: &mut Hand) -> Result<Seq<AccountRow>, BookFault>
-    requires { IsAtHand hand.old base.old }
-    ensures kept { IsAtHand hand.new base.new }
-    ensures found { Finds result (seen_with hand.old base.old).content.accounts
-        (seen_with hand.old base.old) (seen_with hand.new base.new) }
-{
-    settle(base, hand)?;
-    let rows = base.all_accounts();
-    hand.or_forget(rows)
-}
-
-/// Puts an account's row. One that is at hand is owed from now on.
-fn put<S: Alter>(base: &mut Base<S>, hand: &mut Hand, account: &AccountRow) -> Result<(), BookFault>
-    requires kept { IsAtHand hand.old base.old }
-    requires open { base.old.is_open ≡ true }
-    ensures kept { IsAtHand hand.new base.new }
-    ensures made { Makes result (accounts_to (λ xs. insert_by accounts.key xs account.now)
-        (seen_with hand.old base.old).content) (seen_with hand.old base.old)
-        (seen_with hand.new base.new) }
-{
-    if hand.has_row(account) {
-        hand.renew(account);
-        return Ok(());
-    }
-    settle(base, hand)?;
-    put_there(base, hand, account)
-}
-
-/// The same in the database, where nothing is owed.
-fn put_there<S: Alter>(
-    base: &mut Base<S>,
-    hand: &mut Hand,
-    account: &AccountRow,
-) -> Result<(), BookFault>
-    requires kept { IsAtHand hand.old base.old }
-    requires nothing { hand.old.owed ≡ false }
-    requires open { base.old.is_open ≡ true }
-    ensures kept { IsAtHand hand.new base.new }
-    ensures made { Makes result (accounts_to (λ xs. insert_by accounts.key xs account.now)
-        (seen_with hand.old base.old).content) (seen_with hand.old base.old)
-        (seen_with hand.new base.new) }
-{
-    let made = base.put_account(account);
-    hand.or_forget(made)?;
-    hand.keep_account(std::slice::from_ref(account));
-    Ok(())
 }

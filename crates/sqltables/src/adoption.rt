@@ -4,7 +4,7 @@ ghost use Rattle.sqlite.specs.Held.{state};
 ghost use Rattle.sqlite.specs.State.{HasCleanDisk};
 ghost use Rattle.sqltables.specs.inner.Adoption.{IsReread, LeavesNoMore};
 
-use crate::base::fault_of;
+use crate::records::fault_of;
 use sqlite::{Alter, Connection};
 use states::BookFault;
 use std::alloc::Global;

@@ -1,18 +1,20 @@
 //! Answers that are kept, so that the same question needn't be asked again.
-ghost use Rattle.std.specs.Prelude.{◌≡◌, ◌⊎◌, ◌≤◌, true, map, ℕ, IfOk, IfSome, List, [], length};
+ghost use Rattle.std.specs.Prelude.{◌≡◌, ◌⊎◌, true, map, ℕ, IfOk, IfSome, List, [], ◌∷◌, length};
 ghost use Rattle.sqlite_trees.specs.Tree.{Trees};
 ghost use Rattle.sqlite_value.specs.Value.{owned};
 ghost use Rattle.sqlite.specs.Values.{bound};
-ghost use Rattle.sqltables.specs.inner.Answers.{AreRight, IsAnsweredByRows, IsOf, IsPutIn, IsQueryOf};
+ghost use Rattle.sqltables.specs.inner.Answers.{AreRight, IsAnsweredByRows, IsOf, IsPutIn, IsQueryOf, beside, is_short, lasts, lasting};
 ghost use Rattle.sqltables.specs.Content.{Content};
 ghost use Rattle.sqltables.specs.inner.Content.{IsContent};
 ghost use Rattle.sqltables.specs.inner.Statements.{AreOthersSame, Asks};
 ghost use Rattle.sqltables.specs.Tables.{registry};
 
-use crate::base::read_all;
+use crate::records::read_all;
+use crate::{account, day, meta};
 use basis::list::Seq;
 use sqlite::Row;
 use sqlite::types::ValueRef;
+use sqlite_exec::work::FromRow;
 use sqlite_value::order::is_same;
 use sqlite_value::row::Row as Values;
 use sqlrows::Record;
@@ -23,7 +25,7 @@ use std::marker::Model;
 /// How many answers are kept.
 const MOST_ANSWERS: usize = 32;
 
-/// How many rows an answer has that is kept.
+/// How many rows an answer has that is kept, unless it is about `days`.
 const MOST_ROWS: usize = 16;
 
 /// A question, as its text and its parameters, and the rows that answer it.
@@ -36,8 +38,8 @@ pub(crate) struct Answer {
     pub rows: Vec<Row>,
 }
 
-/// The last answers. They are 32 at most, of 16 rows at most, and each of these holds what its row of the
-/// database holds, and a copy of its question.
+/// The last answers. They are 32 at most, of 16 rows at most but for those of `days`. Each row holds what its
+/// row of the database holds, and each answer a copy of its question.
 #[derive(Drop)]
 pub(crate) struct Answers {
     items: Vec<Answer>,
@@ -80,6 +82,31 @@ fn copy_of(alloc: Global, given: &[ValueRef<'_>]) -> Result<Values, AllocError>
         copy.push(*value)?;
     }
     Ok(copy)
+}
+
+/// A row with these values, alone.
+fn only_row(alloc: Global, values: &[ValueRef<'_>]) -> Result<Vec<Row>, AllocError>
+    ensures { IfOk result (λ rows. rows.items ≡ map owned values.now ∷ []) }
+{
+    let values = copy_of(alloc, values)?;
+    let row = Row::from_row(alloc, &values)?;
+    let mut rows = Vec::new(alloc);
+    rows.push(row)?;
+    Ok(rows)
+}
+
+/// Whether answers about the table in this tree outlast a transaction: that of `account`, `meta` or `days`.
+fn lasts(tree: u64) -> bool
+    ensures { result ≡ lasts tree }
+{
+    tree == account::TREE || tree == meta::TREE || tree == day::TREE
+}
+
+/// Whether so many rows of the table in this tree are few enough to be kept: those of `days` always are.
+fn is_short(tree: u64, count: usize) -> bool
+    ensures { result ≡ is_short tree count }
+{
+    count <= MOST_ROWS || tree == day::TREE
 }
 
 impl Answer {
@@ -143,15 +170,22 @@ impl Answers {
         self.items.retain(|answer| answer.tree != tree);
     }
 
+    /// Keeps those alone that outlast a transaction.
+    pub fn forget_passing(&mut self)
+        ensures { self.new ≡ lasting self.old }
+    {
+        self.items.retain(|answer| lasts(answer.tree));
+    }
+
     /// Keeps the rows that answer a question of the table in this tree, where they are few and memory for a
-    /// copy of it is there. They take the place of all others where those are many.
+    /// copy of it is there. They take the place of others where those are many.
     pub fn keep(&mut self, tree: u64, sql: &str, params: &[ValueRef<'_>], rows: Vec<Row>)
         requires { IsQueryOf tree sql.now }
         ensures right { (db : Trees) → AreRight db self.old
             → IsAnsweredByRows db sql.now (bound params.now) rows.items → AreRight db self.new }
         ensures kept { (self.new ≡ self.old) ⊎ ((it : Answer) × IsPutIn it self.old self.new) }
     {
-        if rows.len() > MOST_ROWS {
+        if !is_short(tree, rows.len()) {
             return;
         }
         if let Ok(answer) = Answer::new(self.alloc, tree, sql, params, rows) {
@@ -159,14 +193,38 @@ impl Answers {
         }
     }
 
-    /// Keeps one more, if memory is there: beside the others, or alone where those are as many as may be.
-    fn add(&mut self, answer: Answer)
-        requires { length answer.rows.items ≤ 16 }
-        ensures { IsPutIn answer self.old self.new }
+    /// Keeps the row with these values as the answer to a question of the table in this tree, if memory is there.
+    pub fn keep_row(&mut self, tree: u64, sql: &str, params: &[ValueRef<'_>], row: &[ValueRef<'_>])
+        requires { IsQueryOf tree sql.now }
+        ensures { (db : Trees) → AreRight db self.old
+            → IsAnsweredByRows db sql.now (bound params.now) (map owned row.now ∷ [])
+            → AreRight db self.new }
     {
+        if let Ok(rows) = only_row(self.alloc, row) {
+            self.keep(tree, sql, params, rows);
+        }
+    }
+
+    /// Keeps those beside which there is room for one more.
+    fn make_room(&mut self)
+        ensures { self.new ≡ beside self.old }
+    {
+        if self.items.len() < MOST_ANSWERS {
+            return;
+        }
+        self.forget_passing();
         if self.items.len() >= MOST_ANSWERS {
             self.forget();
         }
+    }
+
+    /// Keeps one more, if memory is there: beside the others, or, where those are as many as may be, beside
+    /// those that outlast a transaction.
+    fn add(&mut self, answer: Answer)
+        requires { is_short answer.tree (length answer.rows.items) ≡ true }
+        ensures { IsPutIn answer self.old self.new }
+    {
+        self.make_room();
         let _ = self.items.push(answer);
     }
 

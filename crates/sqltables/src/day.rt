@@ -4,10 +4,7 @@ ghost use Rattle.sqltables.specs.inner.Content.{days_to};
 ghost use Rattle.states.specs.States.{Finds, Makes};
 ghost use Rattle.sqlrows.specs.inner.Layouts.{appended};
 ghost use Rattle.sqltables.specs.Day.{days};
-ghost use Rattle.sqltables.specs.inner.Hand.{IsAtHand, seen_with};
 
-use crate::base::Base;
-use crate::hand::Hand;
 use crate::store::RowStore;
 use basis::list::Seq;
 use sqlite::types::{ToSql, ValueRef};
@@ -15,8 +12,8 @@ use sqlite::{Alter, Error, Row};
 use sqlrows::Record;
 use states::BookFault;
 
-/// The tree of the table `day`.
-const TREE: u64 = 34;
+/// The tree of the table `days`.
+pub(crate) const TREE: u64 = 34;
 
 const ALL: &str =
     "SELECT id, starts, days_add, days_auto_renew, days_renew, days_transfer, days_redemption, days_restore, days_pending_delete, days_answer, days_lock FROM days ORDER BY id";
@@ -25,7 +22,7 @@ const APPEND: &str =
     "INSERT INTO days (starts, days_add, days_auto_renew, days_renew, days_transfer, days_redemption, days_restore, days_pending_delete, days_answer, days_lock) VALUES (?1, ?2, ?3, ?4, ?5, ?6, ?7, ?8, ?9, ?10)";
 
 /// A row of the table `days`.
-#[derive(Clone, Drop)]
+#[derive(Drop)]
 pub struct DayRow {
     pub id: i64,
     pub starts: i64,
@@ -71,30 +68,12 @@ impl Record for DayRow {
     }
 }
 
-impl<S: Alter> Base<S> {
-    /// All of them, by their numbers.
-    pub(crate) fn all_days(&mut self) -> Result<Seq<DayRow>, BookFault>
-        ensures { Finds result self.old.content.days self.old self.new }
-    {
-        self.select(TREE, ALL, &[])
-    }
-
-    /// Adds a row at the end, with the number after the last one. The given row's number isn't looked at.
-    pub(crate) fn append_day(&mut self, day: &DayRow) -> Result<(), BookFault>
-        requires { self.old.is_open ≡ true }
-        ensures { Makes result (days_to (appended days (λ id. record day.now { id = id }))
-            self.old.content) self.old self.new }
-    {
-        self.write(TREE, APPEND, &day.params()[1..])
-    }
-}
-
 impl<S: Alter> RowStore<S> {
     /// All of them, by their numbers.
     pub fn all_days(&mut self) -> Result<Seq<DayRow>, BookFault>
         ensures { Finds result self.old.content.days self.old self.new }
     {
-        look_up(&mut self.base, &mut self.hand)
+        self.select(TREE, ALL, &[])
     }
 
     /// Adds a row at the end, with the number after the last one. The given row's number isn't looked at.
@@ -103,36 +82,6 @@ impl<S: Alter> RowStore<S> {
         ensures { Makes result (days_to (appended days (λ id. record day.now { id = id }))
             self.old.content) self.old self.new }
     {
-        append(&mut self.base, &mut self.hand, day)
+        self.write(TREE, APPEND, &day.params()[1..])
     }
-}
-
-/// The rows of `days`.
-fn look_up<S: Alter>(base: &mut Base<S>, hand: &mut Hand) -> Result<Seq<DayRow>, BookFault>
-    requires { IsAtHand hand.old base.old }
-    ensures kept { IsAtHand hand.new base.new }
-    ensures found { Finds result (seen_with hand.old base.old).content.days
-        (seen_with hand.old base.old) (seen_with hand.new base.new) }
-{
-    if let Some(rows) = &hand.days {
-        return Ok(rows.clone()?);
-    }
-    let rows = base.all_days();
-    let rows = hand.or_forget(rows)?;
-    hand.keep_days(&rows);
-    Ok(rows)
-}
-
-/// Adds a row of `days`. None is kept at hand afterwards.
-fn append<S: Alter>(base: &mut Base<S>, hand: &mut Hand, day: &DayRow) -> Result<(), BookFault>
-    requires kept { IsAtHand hand.old base.old }
-    requires open { base.old.is_open ≡ true }
-    ensures kept { IsAtHand hand.new base.new }
-    ensures made { Makes result (days_to (appended days (λ id. record day.now { id = id }))
-        (seen_with hand.old base.old).content) (seen_with hand.old base.old)
-        (seen_with hand.new base.new) }
-{
-    hand.forget_days();
-    let made = base.append_day(day);
-    hand.or_forget(made)
 }

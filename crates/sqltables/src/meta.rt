@@ -1,14 +1,12 @@
 //! What holds of the whole registry, in one row.
-ghost use Rattle.std.specs.Prelude.{◌≡◌, true};
+ghost use Rattle.std.specs.Prelude.{◌≡◌, true, map, [], ◌∷◌};
+ghost use Rattle.sqlite_value.specs.Value.{owned};
 ghost use Rattle.sqlite_keyed.specs.Keyed.{insert_by};
 ghost use Rattle.sqlite_keyed.specs.Lists.{update_where};
 ghost use Rattle.sqltables.specs.inner.Content.{metas_to};
 ghost use Rattle.states.specs.States.{Finds, Makes};
-ghost use Rattle.sqltables.specs.inner.Hand.{IsAtHand, seen_with};
-ghost use Rattle.sqltables.specs.Meta.{meta_with_id, metas};
+ghost use Rattle.sqltables.specs.Meta.{MetaRow, meta_with_id, metas};
 
-use crate::base::Base;
-use crate::hand::Hand;
 use crate::store::RowStore;
 use basis::list::Seq;
 use basis::text::Text;
@@ -18,7 +16,7 @@ use sqlrows::Record;
 use states::BookFault;
 
 /// The tree of the table `meta`.
-const TREE: u64 = 0;
+pub(crate) const TREE: u64 = 0;
 
 const ALL: &str =
     "SELECT id, version, clock, zone, reserved, days_add, days_auto_renew, days_renew, days_transfer, days_redemption, days_restore, days_pending_delete, days_answer, days_lock, price_create, price_renew, price_transfer FROM meta ORDER BY id";
@@ -30,7 +28,7 @@ const REPLACE: &str =
     "UPDATE meta SET version = ?2, clock = ?3, zone = ?4, reserved = ?5, days_add = ?6, days_auto_renew = ?7, days_renew = ?8, days_transfer = ?9, days_redemption = ?10, days_restore = ?11, days_pending_delete = ?12, days_answer = ?13, days_lock = ?14, price_create = ?15, price_renew = ?16, price_transfer = ?17 WHERE id = ?1";
 
 /// A row of the table `meta`.
-#[derive(Clone, Drop)]
+#[derive(Drop)]
 pub struct MetaRow {
     pub id: i64,
     pub version: i64,
@@ -57,7 +55,8 @@ impl MetaRow {
 
     /// The parameters of the statement that puts it.
     fn params(&self) -> [ValueRef<'_>; 17]
-        ensures { bound result ≡ meta_shown self.now }
+        ensures bound { bound result ≡ meta_shown self.now }
+        ensures owned { map owned result ≡ meta_shown self.now }
     {
         parameters!(
             self: number id, number version, number clock, text zone, text reserved,
@@ -85,21 +84,50 @@ impl Record for MetaRow {
     }
 }
 
-impl<S: Alter> Base<S> {
+impl<S: Alter> RowStore<S> {
     /// All of them, by their numbers.
-    pub(crate) fn all_metas(&mut self) -> Result<Seq<MetaRow>, BookFault>
+    pub fn all_metas(&mut self) -> Result<Seq<MetaRow>, BookFault>
         ensures { Finds result self.old.content.metas self.old self.new }
     {
         self.select(TREE, ALL, &[])
     }
 
-    /// Puts a row in the place of the one with its number, or after all others.
-    pub(crate) fn put_meta(&mut self, meta: &MetaRow) -> Result<(), BookFault>
+    /// Puts a row in the place of the one with its number, or after all others. Afterwards it is known, if
+    /// it took the place of the only one.
+    pub fn put_meta(&mut self, meta: &MetaRow) -> Result<(), BookFault>
         requires { self.old.is_open ≡ true }
         ensures { Makes result (metas_to (λ xs. insert_by metas.key xs meta.now) self.old.content)
             self.old self.new }
     {
-        self.write(TREE, PUT, &meta.params())
+        if !self.has_only(meta) {
+            return self.write(TREE, PUT, &meta.params());
+        }
+        self.write_over(meta)?;
+        self.know_only(meta);
+        Ok(())
+    }
+
+    /// Puts a row in the place of the only one, which has its number.
+    fn write_over(&mut self, meta: &MetaRow) -> Result<(), BookFault>
+        requires open { self.old.is_open ≡ true }
+        requires only { self.old.is_clean ≡ true
+            → (x : MetaRow) × (self.old.content.metas ≡ x ∷ []) × (x.id ≡ meta.now.id) }
+        ensures { Makes result (metas_to (λ xs. insert_by metas.key xs meta.now) self.old.content)
+            self.old self.new }
+    {
+        self.show_consistent();
+        self.replace_meta(meta)
+    }
+
+    /// Whether the only row is one with this one's number, as far as is known without a statement.
+    fn has_only(&self, meta: &MetaRow) -> bool
+        ensures { result ≡ true → self.now.is_clean ≡ true
+            → (x : MetaRow) × (self.now.content.metas ≡ x ∷ []) × (x.id ≡ meta.now.id) }
+    {
+        let Some(Ok(rows)) = self.known::<MetaRow>(TREE, ALL, &[]) else {
+            return false;
+        };
+        is_only(rows.as_slice(), meta)
     }
 
     /// Puts a row in the place of the one with its number. If there is none, nothing is changed.
@@ -110,68 +138,22 @@ impl<S: Alter> Base<S> {
     {
         self.write(TREE, REPLACE, &meta.params())
     }
-}
 
-impl<S: Alter> RowStore<S> {
-    /// All of them, by their numbers.
-    pub fn all_metas(&mut self) -> Result<Seq<MetaRow>, BookFault>
-        ensures { Finds result self.old.content.metas self.old self.new }
+    /// Keeps this row as the answer to the question for all.
+    fn know_only(&mut self, meta: &MetaRow)
+        requires { self.old.is_clean ≡ true → self.old.content.metas ≡ meta.now ∷ [] }
+        ensures { self.new ≡ self.old }
     {
-        look_up(&mut self.base, &mut self.hand)
-    }
-
-    /// Puts a row in the place of the one with its number, or after all others.
-    pub fn put_meta(&mut self, meta: &MetaRow) -> Result<(), BookFault>
-        requires { self.old.is_open ≡ true }
-        ensures { Makes result (metas_to (λ xs. insert_by metas.key xs meta.now) self.old.content)
-            self.old self.new }
-    {
-        put(&mut self.base, &mut self.hand, meta)
+        self.know(TREE, ALL, &[], &meta.params());
     }
 }
 
-/// The rows of `meta`.
-fn look_up<S: Alter>(base: &mut Base<S>, hand: &mut Hand) -> Result<Seq<MetaRow>, BookFault>
-    requires { IsAtHand hand.old base.old }
-    ensures kept { IsAtHand hand.new base.new }
-    ensures found { Finds result (seen_with hand.old base.old).content.metas
-        (seen_with hand.old base.old) (seen_with hand.new base.new) }
+/// Whether one row alone was found, with this one's number.
+fn is_only(rows: &[MetaRow], meta: &MetaRow) -> bool
+    ensures { result ≡ true → (x : MetaRow) × (rows.now ≡ x ∷ []) × (x.id ≡ meta.now.id) }
 {
-    if hand.meta.is_some() {
-        return Ok(hand.metas(base.alloc())?);
+    match rows {
+        [row] => row.id == meta.id,
+        _ => false,
     }
-    let rows = base.all_metas();
-    let rows = hand.or_forget(rows)?;
-    hand.keep_meta(rows.as_slice());
-    Ok(rows)
-}
-
-/// Puts a row of `meta`, which is kept at hand where the only one was.
-fn put<S: Alter>(base: &mut Base<S>, hand: &mut Hand, meta: &MetaRow) -> Result<(), BookFault>
-    requires kept { IsAtHand hand.old base.old }
-    requires open { base.old.is_open ≡ true }
-    ensures kept { IsAtHand hand.new base.new }
-    ensures made { Makes result (metas_to (λ xs. insert_by metas.key xs meta.now)
-        (seen_with hand.old base.old).content) (seen_with hand.old base.old)
-        (seen_with hand.new base.new) }
-{
-    let is_only = hand.has_meta(meta);
-    let made = write(base, hand, meta);
-    hand.or_forget(made)?;
-    hand.renew_meta(is_only, meta);
-    Ok(())
-}
-
-/// Writes a row of `meta` over the one that is at hand, or else wherever it belongs.
-fn write<S: Alter>(base: &mut Base<S>, hand: &Hand, meta: &MetaRow) -> Result<(), BookFault>
-    requires kept { IsAtHand hand.now base.old }
-    requires open { base.old.is_open ≡ true }
-    ensures { Makes result (metas_to (λ xs. insert_by metas.key xs meta.now) base.old.content)
-        base.old base.new }
-{
-    if hand.has_meta(meta) {
-        base.show_consistent();
-        return base.replace_meta(meta);
-    }
-    base.put_meta(meta)
 }

@@ -1,7 +1,7 @@
 -- The rows of lines, with the ends of their graces (RFC 3915, 3.1).
 use Rattle.std.specs.Prelude.{option_and_then}
 use Rattle.policy.specs.declared.schedule.Schedule.{Schedule}
-use Rattle.sqlbook.specs.Graces.{grace_end}
+use Rattle.sqlaccounts.specs.Graces.{grace_end}
 use Rattle.sqlcolumns.specs.Lines.{line_of_columns}
 use Rattle.sqlcolumns.specs.Numbers.{maybe_moment_column}
 use Rattle.sqltables.specs.declared.line.LineRow.{LineRow}

@@ -1,14 +1,14 @@
 //! The rows of lines, with the ends of their graces (RFC 3915, 3.1).
 ghost use Rattle.std.specs.Prelude.{◌≡◌, map, option_and_then, IfOk};
 ghost use Rattle.sqlcolumns.specs.Lines.{line_of_columns};
-ghost use Rattle.sqlbook.specs.Graces.{grace_end};
+ghost use Rattle.sqlaccounts.specs.Graces.{grace_end};
 ghost use Rattle.takeover.specs.Graces as spec;
 
 use accounts::Line;
 use basis::list::Seq;
 use calendar::Moment;
 use policy::Schedule;
-use sqlbook::grace_end;
+use sqlaccounts::grace_end;
 use sqlcolumns::{line_of_row, maybe_moment_column};
 use sqltables::LineRow;
 use std::alloc::{AllocError, Global};

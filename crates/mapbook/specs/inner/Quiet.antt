@@ -22,15 +22,8 @@ quiet_after known (edit.Contact name (Some c)) = option_map (sooner_with c) know
 quiet_after known (edit.Contact name None) = known
 quiet_after known (edit.Domain name (Some d)) = None
 quiet_after known (edit.Domain name None) = known
-quiet_after known (edit.Host name value) = known
-quiet_after known (edit.Clock t) = known
-quiet_after known (edit.Account r value) = known
-quiet_after known (edit.Counters r x) = known
-quiet_after known (edit.Line r line) = known
-quiet_after known (edit.RemoveLine r line) = known
-quiet_after known (edit.AddMessage r m) = known
-quiet_after known (edit.RemoveMessage r m) = known
 quiet_after known (edit.Terms value) = None
+quiet_after known _ = known
 
 -- the soonest moment at which one of them is due, or that which is given
 abbrev pub until_contacts : ℕ → List (List ℕ × Contact) → ℕ

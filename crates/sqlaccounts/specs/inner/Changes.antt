@@ -1,25 +1,16 @@
 -- What calls make of the rows.
-use Rattle.std.specs.Prelude.{◌≡◌, ℕ, ℤ, pos, ◌+ℤ◌, false, List, Option, Some}
+use Rattle.std.specs.Prelude.{◌≡◌, ℕ, ℤ, pos, ◌+ℤ◌, false, Option, Some}
 use Rattle.std.specs.FinMap.{FinMap, get, insert}
 use Rattle.std.specs.Option.{option_map_or, unwrap_or}
 use Rattle.std.specs.Ordering.{int_eq, nat_cmp}
-use Rattle.sqlite_keyed.specs.Keyed.{insert_by}
-use Rattle.sqlite_keyed.specs.Lists.{delete_where}
 use Rattle.accounts.specs.declared.account.Account.{Account}
 use Rattle.accounts.specs.Account.{empty_account}
-use Rattle.accounts.specs.Entries.{with_lines}
-use Rattle.accounts.specs.Lines.{in_order}
-use Rattle.basis.specs.Bag.{add}
 use Rattle.accounts.specs.declared.line.Line.{Line}
 use Rattle.sqlcolumns.specs.Lines.{line_of_columns}
-use Rattle.sqlrows.specs.inner.Layouts.{appended}
 use Rattle.sqlcolumns.specs.Numbers.{counter_column, counter_in, registrar_column}
-use Rattle.sqltables.specs.Account as account_table
 use Rattle.sqltables.specs.declared.account.AccountRow.{AccountRow}
 use Rattle.sqltables.specs.inner.Balance.{balance_bytes}
 use Rattle.sqltables.specs.Content.{Content}
-use Rattle.sqltables.specs.inner.Content.{accounts_to, lines_to}
-use Rattle.sqltables.specs.Line as line_table
 use Rattle.sqltables.specs.declared.line.LineRow.{LineRow}
 use Rattle.accounts.specs.declared.counters.Counters.{Counters}
 use Rattle.sqlaccounts.specs.Accounts.{accounts_of, balance_in, ident_and_held_of, place_ident, row_of, sums_are_right}
@@ -89,19 +80,3 @@ pub record IsWritten (r : ℕ) (line : Line) (ends : Option ℤ) (row : LineRow)
   pub account : row.account ≡ registrar_column r
   pub reads : line_of_columns row ≡ Some line
   pub grace_end : row.grace.ends ≡ ends
-
--- a row of this line comes last, with the column for the end of its grace
-pub record IsLineAppended (line : Line) (ends : Option ℤ) (old new : List LineRow) : Type 0 where
-  pub row : LineRow
-  pub reads : line_of_columns row ≡ Some line
-  pub grace_end : row.grace.ends ≡ ends
-  pub last : new ≡ appended line_table.lines (λ id. record row { id = id }) old
-
--- a registrar's account has a line more
-abbrev pub AddsLine : ℕ → Line → Option ℤ → Content → Content → Type 0
-AddsLine r line ends old new =
-    IsChange r (with_lines (add in_order line)) old new × IsLineAppended line ends old.lines new.lines
-
--- without the row of line that has this number, and with this row of account in its place
-abbrev pub without_line_row : ℤ → AccountRow → Content → Content
-without_line_row id account xs = accounts_to (λ rows. insert_by account_table.accounts.key rows account) (lines_to (delete_where (line_table.line_with_id id)) xs)

@@ -6,7 +6,6 @@ use Rattle.objects.specs.declared.domain.Domain.{Domain}
 use Rattle.policy.specs.declared.schedule.Schedule.{Schedule}
 use Rattle.sqltables.specs.Content.{Content}
 use Rattle.sqltables.specs.declared.domain.DomainRow.{DomainRow}
-use Rattle.sqltables.specs.inner.Consistent.{IsConsistent}
 use Rattle.sqldomains.specs.inner.Changes.{IsDomainPut, sponsor_in}
 use Rattle.sqldomains.specs.Domains.{domains_of}
 use Rattle.sqlderived.specs.inner.Recounts.{IsRecounted}
@@ -33,15 +32,8 @@ pub record IsExchanged (name : List ℕ) (before after : Option Domain) (due : �
   pub counted : IsRecounted before after old mid
   pub put : IsDomainPut name after (due_with after due) mid new
 
--- the same with the one under the name
-pub record IsExchangedThere (name : List ℕ) (right : Content → DomainRow → Bool) (after : Option Domain) (due : ℕ) (old new : Content) : Type 0 where
-  pub before : Option Domain
-  pub consistent : IsConsistent old
-  pub checked : IsCheckedDomain name right old before
-  pub exchanged : IsExchanged name before after due old new
-
 -- the hosts below take their sponsor before
-pub record IsReplaced (name : List ℕ) (right : Content → DomainRow → Bool) (after : Option Domain) (due : ℕ) (old new : Content) : Type 0 where
+pub record IsReplaced (name : List ℕ) (before after : Option Domain) (due : ℕ) (old new : Content) : Type 0 where
   pub moved : Content
   pub followed : IsSponsorSetBelow name (sponsor_in after) old moved
-  pub exchanged : IsExchangedThere name right after due moved new
+  pub exchanged : IsExchanged name before after due moved new

@@ -34,3 +34,12 @@ sponsor_without (Some p) others = if is_some_holder p.sponsor others then None e
 abbrev pub incoming_without : Option Holders → Option Holders → Option ℕ
 incoming_without None others = None
 incoming_without (Some p) others = option_and_then (λ q. if (p.sponsor == q) || is_some_holder q others then None else Some q) p.incoming
+
+-- ---- those whose rows are still to be written
+
+abbrev pub is_written : ℕ → Option ℕ → Bool
+is_written r written = option_map_or (λ q. q == r) written false
+
+-- a registrar, unless it is the one whose row has been written
+abbrev pub other_than : Option ℕ → Option ℕ → Option ℕ
+other_than written who = option_and_then (λ q. if is_written q written then None else Some q) who

@@ -1,8 +1,12 @@
 -- What counting anew makes of the accounts' rows.
-use Rattle.std.specs.Prelude.{◌≡◌, ⊤, ℕ, ℤ, pos, ◌+ℤ◌, Option, Some, None}
+use Rattle.std.specs.Prelude.{◌≡◌, ◌&&◌, not, ⊤, ℕ, ℤ, pos, ◌+ℤ◌, Option, Some, None, option_map}
 use Rattle.objects.specs.declared.domain.Domain.{Domain}
 use Rattle.sqlaccounts.specs.Accounts.{accounts_of, row_of, sums_are_right}
-use Rattle.sqlderived.specs.Held.{counts_where, is_held_by}
+use Rattle.sqlaccounts.specs.inner.Posting.{IsRowOf, with_row}
+use Rattle.sqlderived.specs.Held.{counts_one, counts_where, is_held_by}
+use Rattle.sqlderived.specs.inner.Holders.{is_some_holder, is_written}
+use Rattle.sqlderived.specs.declared.holders.Holders.{Holders}
+use Rattle.sqlderived.specs.declared.recounting.Unwritten.{Unwritten}
 use Rattle.sqltables.specs.declared.account.AccountRow.{AccountRow}
 use Rattle.sqltables.specs.Content.{Content}
 
@@ -40,3 +44,27 @@ pub record IsCountedAnew (less more : ℕ → ℕ) (old new : Content) : Type 0 
 -- the column of each registrar is counted anew, where one domain, or none, comes in the place of another
 abbrev pub IsRecounted : Option Domain → Option Domain → Content → Content → Type 0
 IsRecounted before after old new = IsCountedAnew (λ r. counts_where (is_held_by r) before) (λ r. counts_where (is_held_by r) after) old new
+
+-- ---- a row that isn't written yet
+
+-- it is the row of the registrar's account, or what that is to become
+abbrev pub IsUnwritten : Option Unwritten → Content → Type 0
+IsUnwritten None xs = ⊤
+IsUnwritten (Some it) xs = IsRowOf it.registrar it.row xs
+
+-- the rows, with the one that isn't written yet in its place
+abbrev pub with_unwritten : Option Unwritten → Content → Content
+with_unwritten None xs = xs
+with_unwritten (Some it) xs = with_row it.row xs
+
+-- whose it is
+abbrev pub registrar_of : Option Unwritten → Option ℕ
+registrar_of it = option_map (λ (x : Unwritten). x.registrar) it
+
+-- 1 for the registrar whose row is written, where it is among the holders
+abbrev pub counts_own : Option ℕ → Option Holders → ℕ → ℕ
+counts_own written holders r = counts_one (is_written r written && is_some_holder r holders)
+
+-- 1 for any other that is among the first holders, and not among the others
+abbrev pub counts_other : Option ℕ → Option Holders → Option Holders → ℕ → ℕ
+counts_other written first others r = counts_one (not (is_written r written) && (is_some_holder r first && not (is_some_holder r others)))

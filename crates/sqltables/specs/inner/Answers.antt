@@ -1,5 +1,5 @@
 -- Answers that are kept.
-use Rattle.std.specs.Prelude.{◌≡◌, ◌⊎◌, ◌≤◌, nat_le, ℕ, List, [], ◌∷◌, ◌++◌, length, map, if◌then◌else◌, IsTrue}
+use Rattle.std.specs.Prelude.{◌≡◌, ◌⊎◌, ◌||◌, ◌==◌, ◌≤◌, nat_le, ℕ, Bool, List, [], ◌∷◌, ◌++◌, length, filter, map, true, if◌then◌else◌, IsTrue}
 use Rattle.std.specs.List.{All}
 use Rattle.sqlite_value.specs.Order.{Row}
 use Rattle.sqlite_trees.specs.Tree.{Trees}
@@ -8,6 +8,9 @@ use Rattle.sqlite_sql.specs.Program.{overlay}
 use Rattle.sqlite.specs.State.{State, HasCleanDisk}
 use Rattle.sqlite.specs.Values.{bound_value}
 use Rattle.sqlrows.specs.inner.Layouts.{IsSelect}
+use Rattle.sqltables.specs.Account.{accounts}
+use Rattle.sqltables.specs.Day.{days}
+use Rattle.sqltables.specs.Meta.{metas}
 use Rattle.sqltables.specs.Tables.{registry}
 use Rattle.sqltables.specs.inner.Statements.{IsOfTable}
 use Rattle.sqltables.specs.declared.answers.Answer.{Answer}
@@ -34,13 +37,29 @@ IsRight db it = IsAnsweredByRows db it.sql.items (map bound_value it.params) it.
 abbrev pub AreRight : Trees → List Answer → Type 0
 AreRight db kept = All (IsRight db) kept
 
--- they are 32 at most, of 16 rows at most
-abbrev pub AreFew : List Answer → Type 0
-AreFew kept = (length kept ≤ 32) × All (λ (it : Answer). length it.rows.items ≤ 16) kept
+-- so many rows of the table in this tree are kept: up to 16, and of `days` all
+abbrev pub is_short : ℕ → ℕ → Bool
+is_short tree count = nat_le count 16 || (tree == days.tree)
 
--- those beside which one more is kept: where there are 32, none
+-- they are 32 at most, of so many rows
+abbrev pub AreFew : List Answer → Type 0
+AreFew kept = (length kept ≤ 32) × All (λ (it : Answer). is_short it.tree (length it.rows.items) ≡ true) kept
+
+-- answers about the table in this tree outlast a transaction
+abbrev pub lasts : ℕ → Bool
+lasts tree = (tree == accounts.tree) || ((tree == metas.tree) || (tree == days.tree))
+
+-- those of several that do
+abbrev pub lasting : List Answer → List Answer
+lasting kept = filter (λ (it : Answer). lasts it.tree) kept
+
+-- no more than there may be beside one more
+abbrev pub unless_full : List Answer → List Answer
+unless_full kept = if nat_le 32 (length kept) then [] else kept
+
+-- those beside which one more is kept: where there are 32, those that outlast a transaction
 abbrev pub beside : List Answer → List Answer
-beside kept = if nat_le 32 (length kept) then [] else kept
+beside kept = if nat_le 32 (length kept) then unless_full (lasting kept) else kept
 
 -- One more is kept, if memory is there for it.
 abbrev pub IsPutIn : Answer → List Answer → List Answer → Type 0

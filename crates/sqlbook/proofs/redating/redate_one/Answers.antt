@@ -1,6 +1,5 @@
 use Rattle.std.proofs.Common.{Some, sym, ◌∙◌}
 use Rattle.sqlobjects.proofs.StepLemmas.{asked-then}
-use Rattle.sqlderived.specs.Redates.{is_live_right}
 use Rattle.sqlbook.specs.inner.Replacing.{IsReplaced}
 use Rattle.sqlbook.specs.inner.Suiting.{MeansSame}
 use Rattle.sqlbook.proofs.RedatingLemmas.{ended-deleted, put-again}
@@ -14,5 +13,5 @@ returns g c =
     let due = c.in-Some-end_of.due in
     let asked = c.in_ok-domain.ensures in
     let made = c.in_ok-replaced.ensures {u = tt} in
-    asked-then (IsReplaced name is_live_right (Some domain) due) MeansSame c.args.store.now c.domain.new.store c.replace-replaced.new.store asked.found.0 made
-    (λ e it. put-again name domain due c.args.store.now.content c.replace-replaced.new.store.content it (sym (asked.found.1 (made.clean e)) ∙ c.in-Some.is) (ended-deleted days domain due (sym c.end_of.ensures ∙ c.in-Some-end_of.is)))
+    asked-then (IsReplaced name (Some domain) (Some domain) due) MeansSame c.args.store.now c.domain.new.store c.replace-replaced.new.store asked.found.0 made
+    (λ e it. put-again name domain due c.args.store.now.content c.replace-replaced.new.store.content (c.show_consistent.ensures (asked.found.0.clean (made.clean e))) it (sym (asked.found.1 (made.clean e)) ∙ c.in-Some.is) (ended-deleted days domain due (sym c.end_of.ensures ∙ c.in-Some-end_of.is)))

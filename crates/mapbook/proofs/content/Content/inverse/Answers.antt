@@ -2,11 +2,10 @@ use Rattle.std.proofs.Common.{◌∙◌, ap}
 use Rattle.mapbook.specs.declared.edit.Edit.{Edit}
 use Rattle.mapbook.specs.Edits.{edited}
 use Rattle.mapbook.specs.Plain.{content_of}
-use Rattle.mapbook.proofs.EditLemmas.{edited-back}
-use Rattle.mapbook.proofs.LedgerLemmas.{if-ok}
+use Rattle.mapbook.proofs.EditLemmas.{edited-back, if-ok}
 use Rattle.mapbook.proofs.content.Content.inverse.Goals as goal
 
-pub returns : goal.returns
-returns c =
+pub returns-in_default : goal.returns-in_default
+returns-in_default c =
     let held = content_of c.args.self.now in
     if-ok c.as_it_was.result (λ back is. ap (λ (b : Edit). edited b (edited c.args.edit.now held)) is ∙ edited-back c.args.edit.now held) c.as_it_was.ensures

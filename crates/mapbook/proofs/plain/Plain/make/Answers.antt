@@ -1,6 +1,6 @@
 use Rattle.std.proofs.Common.{◌∙◌, ap}
 use Rattle.mapbook.specs.Edits.{edited}
-use Rattle.mapbook.proofs.LedgerLemmas.{on-ok, whichever}
+use Rattle.mapbook.proofs.EditLemmas.{on-ok, whichever}
 use Rattle.mapbook.proofs.plain.Plain.make.Goals as goal
 
 pub returns-in-Ok-clause-at_begin : goal.returns-in-Ok-clause-at_begin

@@ -1,4 +1,3 @@
-use Rattle.std.proofs.Common.{refl}
 use Rattle.sqltables.proofs.QueryLemmas.{asks-by, bound-last, addresses_by_host}
 use Rattle.sqltables.proofs.store.RowStore.addresses_by_host.Goals as goal
 
@@ -6,4 +5,4 @@ pub select-requires : goal.select-requires
 select-requires g c = (_, asks-by (bound-last c.params-to_sql.ensures) (addresses_by_host c.args.host))
 
 pub returns : goal.returns
-returns g c = c.select.ensures _ (asks-by (bound-last c.params-to_sql.ensures) (addresses_by_host c.args.host)) (λ change xs. refl)
+returns g c = c.select.ensures _ (asks-by (bound-last c.params-to_sql.ensures) (addresses_by_host c.args.host))

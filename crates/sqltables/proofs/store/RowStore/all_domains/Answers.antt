@@ -1,4 +1,3 @@
-use Rattle.std.proofs.Common.{refl}
 use Rattle.sqltables.proofs.QueryLemmas.{all_domains}
 use Rattle.sqltables.proofs.store.RowStore.all_domains.Goals as goal
 
@@ -6,4 +5,4 @@ pub select-requires : goal.select-requires
 select-requires g c = (_, all_domains)
 
 pub returns : goal.returns
-returns g c = c.select.ensures _ all_domains (λ change xs. refl)
+returns g c = c.select.ensures _ all_domains

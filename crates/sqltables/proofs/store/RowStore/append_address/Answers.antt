@@ -1,9 +1,9 @@
 use Rattle.sqlrows.proofs.ParameterLemmas.{past_first}
-use Rattle.sqltables.proofs.WritingLemmas.{alters-by, apart-addresses, append_address}
+use Rattle.sqltables.proofs.WritingLemmas.{alters-by, append_address}
 use Rattle.sqltables.proofs.store.RowStore.append_address.Goals as goal
 
 pub write-requires-clause-means : goal.write-requires-clause-means
-write-requires-clause-means g c = (_, alters-by (past_first c.params.result _ c.params.ensures 2) (append_address c.args.address.now), apart-addresses _)
+write-requires-clause-means g c = (_, alters-by (past_first c.params.result _ c.params.ensures 2) (append_address c.args.address.now))
 
 pub returns : goal.returns
-returns g c = c.write.ensures _ (alters-by (past_first c.params.result _ c.params.ensures 2) (append_address c.args.address.now)) (apart-addresses _)
+returns g c = c.write.ensures _ (alters-by (past_first c.params.result _ c.params.ensures 2) (append_address c.args.address.now))

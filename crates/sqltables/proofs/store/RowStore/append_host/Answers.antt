@@ -1,13 +1,12 @@
-use Rattle.std.proofs.Common.{refl}
 use Rattle.sqlrows.proofs.ParameterLemmas.{past_first}
-use Rattle.sqltables.proofs.WritingLemmas.{appends-by, apart-hosts, append_host}
+use Rattle.sqltables.proofs.WritingLemmas.{appends-by, append_host}
 use Rattle.sqltables.proofs.store.RowStore.append_host.Goals as goal
 
 pub run-requires-clause-means : goal.run-requires-clause-means
-run-requires-clause-means g c = (_, (appends-by (past_first c.params.result _ c.params.ensures 9) (append_host c.args.host.now)).alters, apart-hosts _)
+run-requires-clause-means g c = (_, (appends-by (past_first c.params.result _ c.params.ensures 9) (append_host c.args.host.now)).alters)
 
 pub returns-clause-made : goal.returns-clause-made
-returns-clause-made g c = c.run.ensures.made _ (appends-by (past_first c.params.result _ c.params.ensures 9) (append_host c.args.host.now)).alters (apart-hosts _)
+returns-clause-made g c = c.run.ensures.made _ (appends-by (past_first c.params.result _ c.params.ensures 9) (append_host c.args.host.now)).alters
 
 pub returns-clause-numbered : goal.returns-clause-numbered
-returns-clause-numbered g c = c.run.ensures.numbered _ _ (appends-by (past_first c.params.result _ c.params.ensures 9) (append_host c.args.host.now)) (λ _ _. refl)
+returns-clause-numbered g c = c.run.ensures.numbered _ _ (appends-by (past_first c.params.result _ c.params.ensures 9) (append_host c.args.host.now))

@@ -1,9 +1,9 @@
 use Rattle.sqlrows.proofs.ParameterLemmas.{past_first}
-use Rattle.sqltables.proofs.WritingLemmas.{alters-by, apart-lines, append_line}
+use Rattle.sqltables.proofs.WritingLemmas.{alters-by, append_line}
 use Rattle.sqltables.proofs.store.RowStore.append_line.Goals as goal
 
 pub write-requires-clause-means : goal.write-requires-clause-means
-write-requires-clause-means g c = (_, alters-by (past_first c.params.result _ c.params.ensures 10) (append_line c.args.line.now), apart-lines _)
+write-requires-clause-means g c = (_, alters-by (past_first c.params.result _ c.params.ensures 10) (append_line c.args.line.now))
 
 pub returns : goal.returns
-returns g c = c.write.ensures _ (alters-by (past_first c.params.result _ c.params.ensures 10) (append_line c.args.line.now)) (apart-lines _)
+returns g c = c.write.ensures _ (alters-by (past_first c.params.result _ c.params.ensures 10) (append_line c.args.line.now))

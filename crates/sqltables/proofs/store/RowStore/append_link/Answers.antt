@@ -1,9 +1,9 @@
 use Rattle.sqlrows.proofs.ParameterLemmas.{past_first}
-use Rattle.sqltables.proofs.WritingLemmas.{alters-by, apart-links, append_link}
+use Rattle.sqltables.proofs.WritingLemmas.{alters-by, append_link}
 use Rattle.sqltables.proofs.store.RowStore.append_link.Goals as goal
 
 pub write-requires-clause-means : goal.write-requires-clause-means
-write-requires-clause-means g c = (_, alters-by (past_first c.params.result _ c.params.ensures 5) (append_link c.args.link.now), apart-links _)
+write-requires-clause-means g c = (_, alters-by (past_first c.params.result _ c.params.ensures 5) (append_link c.args.link.now))
 
 pub returns : goal.returns
-returns g c = c.write.ensures _ (alters-by (past_first c.params.result _ c.params.ensures 5) (append_link c.args.link.now)) (apart-links _)
+returns g c = c.write.ensures _ (alters-by (past_first c.params.result _ c.params.ensures 5) (append_link c.args.link.now))

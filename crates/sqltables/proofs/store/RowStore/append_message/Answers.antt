@@ -1,9 +1,9 @@
 use Rattle.sqlrows.proofs.ParameterLemmas.{past_first}
-use Rattle.sqltables.proofs.WritingLemmas.{alters-by, apart-messages, append_message}
+use Rattle.sqltables.proofs.WritingLemmas.{alters-by, append_message}
 use Rattle.sqltables.proofs.store.RowStore.append_message.Goals as goal
 
 pub write-requires-clause-means : goal.write-requires-clause-means
-write-requires-clause-means g c = (_, alters-by (past_first c.params.result _ c.params.ensures 7) (append_message c.args.message.now), apart-messages _)
+write-requires-clause-means g c = (_, alters-by (past_first c.params.result _ c.params.ensures 7) (append_message c.args.message.now))
 
 pub returns : goal.returns
-returns g c = c.write.ensures _ (alters-by (past_first c.params.result _ c.params.ensures 7) (append_message c.args.message.now)) (apart-messages _)
+returns g c = c.write.ensures _ (alters-by (past_first c.params.result _ c.params.ensures 7) (append_message c.args.message.now))

@@ -1,9 +1,9 @@
 use Rattle.sqlrows.proofs.ParameterLemmas.{past_first}
-use Rattle.sqltables.proofs.WritingLemmas.{alters-by, apart-transfers, append_transfer}
+use Rattle.sqltables.proofs.WritingLemmas.{alters-by, append_transfer}
 use Rattle.sqltables.proofs.store.RowStore.append_transfer.Goals as goal
 
 pub write-requires-clause-means : goal.write-requires-clause-means
-write-requires-clause-means g c = (_, alters-by (past_first c.params.result _ c.params.ensures 8) (append_transfer c.args.transfer.now), apart-transfers _)
+write-requires-clause-means g c = (_, alters-by (past_first c.params.result _ c.params.ensures 8) (append_transfer c.args.transfer.now))
 
 pub returns : goal.returns
-returns g c = c.write.ensures _ (alters-by (past_first c.params.result _ c.params.ensures 8) (append_transfer c.args.transfer.now)) (apart-transfers _)
+returns g c = c.write.ensures _ (alters-by (past_first c.params.result _ c.params.ensures 8) (append_transfer c.args.transfer.now))

@@ -1,4 +1,3 @@
-use Rattle.std.proofs.Common.{refl}
 use Rattle.sqltables.proofs.QueryLemmas.{asks-by, bound-last, hosts_by_name}
 use Rattle.sqltables.proofs.store.RowStore.hosts_by_name.Goals as goal
 
@@ -6,4 +5,4 @@ pub select-requires : goal.select-requires
 select-requires g c = (_, asks-by (bound-last c.params-to_sql.ensures) (hosts_by_name c.args.name.now))
 
 pub returns : goal.returns
-returns g c = c.select.ensures _ (asks-by (bound-last c.params-to_sql.ensures) (hosts_by_name c.args.name.now)) (λ change xs. refl)
+returns g c = c.select.ensures _ (asks-by (bound-last c.params-to_sql.ensures) (hosts_by_name c.args.name.now))

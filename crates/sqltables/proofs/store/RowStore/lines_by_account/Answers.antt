@@ -1,4 +1,3 @@
-use Rattle.std.proofs.Common.{refl}
 use Rattle.sqltables.proofs.QueryLemmas.{asks-by, bound-last, lines_by_account}
 use Rattle.sqltables.proofs.store.RowStore.lines_by_account.Goals as goal
 
@@ -6,4 +5,4 @@ pub select-requires : goal.select-requires
 select-requires g c = (_, asks-by (bound-last c.params-to_sql.ensures) (lines_by_account c.args.account))
 
 pub returns : goal.returns
-returns g c = c.select.ensures _ (asks-by (bound-last c.params-to_sql.ensures) (lines_by_account c.args.account)) (λ change xs. refl)
+returns g c = c.select.ensures _ (asks-by (bound-last c.params-to_sql.ensures) (lines_by_account c.args.account))

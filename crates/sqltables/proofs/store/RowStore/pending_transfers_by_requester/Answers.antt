@@ -1,4 +1,3 @@
-use Rattle.std.proofs.Common.{refl}
 use Rattle.sqltables.proofs.QueryLemmas.{asks-by, bound-last, pending_transfers_by_requester}
 use Rattle.sqltables.proofs.store.RowStore.pending_transfers_by_requester.Goals as goal
 
@@ -6,4 +5,4 @@ pub select-requires : goal.select-requires
 select-requires g c = (_, asks-by (bound-last c.params-to_sql.ensures) (pending_transfers_by_requester c.args.requester))
 
 pub returns : goal.returns
-returns g c = c.select.ensures _ (asks-by (bound-last c.params-to_sql.ensures) (pending_transfers_by_requester c.args.requester)) (λ change xs. refl)
+returns g c = c.select.ensures _ (asks-by (bound-last c.params-to_sql.ensures) (pending_transfers_by_requester c.args.requester))

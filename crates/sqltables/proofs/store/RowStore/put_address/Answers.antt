@@ -1,8 +1,8 @@
-use Rattle.sqltables.proofs.WritingLemmas.{alters-by, apart-addresses, put_address}
+use Rattle.sqltables.proofs.WritingLemmas.{alters-by, put_address}
 use Rattle.sqltables.proofs.store.RowStore.put_address.Goals as goal
 
 pub write-requires-clause-means : goal.write-requires-clause-means
-write-requires-clause-means g c = (_, alters-by c.params.ensures (put_address c.args.address.now), apart-addresses _)
+write-requires-clause-means g c = (_, alters-by c.params.ensures (put_address c.args.address.now))
 
 pub returns : goal.returns
-returns g c = c.write.ensures _ (alters-by c.params.ensures (put_address c.args.address.now)) (apart-addresses _)
+returns g c = c.write.ensures _ (alters-by c.params.ensures (put_address c.args.address.now))

@@ -1,8 +1,8 @@
-use Rattle.sqltables.proofs.WritingLemmas.{alters-by, apart-domains, put_domain}
+use Rattle.sqltables.proofs.WritingLemmas.{alters-by, put_domain}
 use Rattle.sqltables.proofs.store.RowStore.put_domain.Goals as goal
 
 pub write-requires-clause-means : goal.write-requires-clause-means
-write-requires-clause-means g c = (_, alters-by c.params.ensures (put_domain c.args.domain.now), apart-domains _)
+write-requires-clause-means g c = (_, alters-by c.params.ensures (put_domain c.args.domain.now))
 
 pub returns : goal.returns
-returns g c = c.write.ensures _ (alters-by c.params.ensures (put_domain c.args.domain.now)) (apart-domains _)
+returns g c = c.write.ensures _ (alters-by c.params.ensures (put_domain c.args.domain.now))

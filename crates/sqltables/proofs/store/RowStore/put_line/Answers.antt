@@ -1,8 +1,8 @@
-use Rattle.sqltables.proofs.WritingLemmas.{alters-by, apart-lines, put_line}
+use Rattle.sqltables.proofs.WritingLemmas.{alters-by, put_line}
 use Rattle.sqltables.proofs.store.RowStore.put_line.Goals as goal
 
 pub write-requires-clause-means : goal.write-requires-clause-means
-write-requires-clause-means g c = (_, alters-by c.params.ensures (put_line c.args.line.now), apart-lines _)
+write-requires-clause-means g c = (_, alters-by c.params.ensures (put_line c.args.line.now))
 
 pub returns : goal.returns
-returns g c = c.write.ensures _ (alters-by c.params.ensures (put_line c.args.line.now)) (apart-lines _)
+returns g c = c.write.ensures _ (alters-by c.params.ensures (put_line c.args.line.now))

@@ -1,8 +1,8 @@
-use Rattle.sqltables.proofs.WritingLemmas.{alters-by, apart-links, put_link}
+use Rattle.sqltables.proofs.WritingLemmas.{alters-by, put_link}
 use Rattle.sqltables.proofs.store.RowStore.put_link.Goals as goal
 
 pub write-requires-clause-means : goal.write-requires-clause-means
-write-requires-clause-means g c = (_, alters-by c.params.ensures (put_link c.args.link.now), apart-links _)
+write-requires-clause-means g c = (_, alters-by c.params.ensures (put_link c.args.link.now))
 
 pub returns : goal.returns
-returns g c = c.write.ensures _ (alters-by c.params.ensures (put_link c.args.link.now)) (apart-links _)
+returns g c = c.write.ensures _ (alters-by c.params.ensures (put_link c.args.link.now))

@@ -1,8 +1,8 @@
-use Rattle.sqltables.proofs.WritingLemmas.{alters-by, apart-messages, put_message}
+use Rattle.sqltables.proofs.WritingLemmas.{alters-by, put_message}
 use Rattle.sqltables.proofs.store.RowStore.put_message.Goals as goal
 
 pub write-requires-clause-means : goal.write-requires-clause-means
-write-requires-clause-means g c = (_, alters-by c.params.ensures (put_message c.args.message.now), apart-messages _)
+write-requires-clause-means g c = (_, alters-by c.params.ensures (put_message c.args.message.now))
 
 pub returns : goal.returns
-returns g c = c.write.ensures _ (alters-by c.params.ensures (put_message c.args.message.now)) (apart-messages _)
+returns g c = c.write.ensures _ (alters-by c.params.ensures (put_message c.args.message.now))

@@ -1,8 +1,8 @@
-use Rattle.sqltables.proofs.WritingLemmas.{alters-by, apart-transfers, put_transfer}
+use Rattle.sqltables.proofs.WritingLemmas.{alters-by, put_transfer}
 use Rattle.sqltables.proofs.store.RowStore.put_transfer.Goals as goal
 
 pub write-requires-clause-means : goal.write-requires-clause-means
-write-requires-clause-means g c = (_, alters-by c.params.ensures (put_transfer c.args.transfer.now), apart-transfers _)
+write-requires-clause-means g c = (_, alters-by c.params.ensures (put_transfer c.args.transfer.now))
 
 pub returns : goal.returns
-returns g c = c.write.ensures _ (alters-by c.params.ensures (put_transfer c.args.transfer.now)) (apart-transfers _)
+returns g c = c.write.ensures _ (alters-by c.params.ensures (put_transfer c.args.transfer.now))

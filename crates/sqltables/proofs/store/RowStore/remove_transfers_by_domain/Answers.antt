@@ -1,8 +1,8 @@
-use Rattle.sqltables.proofs.WritingLemmas.{alters-by, bound-last, apart-transfers, remove_transfers_by_domain}
+use Rattle.sqltables.proofs.WritingLemmas.{alters-by, bound-last, remove_transfers_by_domain}
 use Rattle.sqltables.proofs.store.RowStore.remove_transfers_by_domain.Goals as goal
 
 pub write-requires-clause-means : goal.write-requires-clause-means
-write-requires-clause-means g c = (_, alters-by (bound-last c.params-to_sql.ensures) (remove_transfers_by_domain c.args.domain), apart-transfers _)
+write-requires-clause-means g c = (_, alters-by (bound-last c.params-to_sql.ensures) (remove_transfers_by_domain c.args.domain))
 
 pub returns : goal.returns
-returns g c = c.write.ensures _ (alters-by (bound-last c.params-to_sql.ensures) (remove_transfers_by_domain c.args.domain)) (apart-transfers _)
+returns g c = c.write.ensures _ (alters-by (bound-last c.params-to_sql.ensures) (remove_transfers_by_domain c.args.domain))

@@ -1,8 +1,8 @@
-use Rattle.sqltables.proofs.WritingLemmas.{alters-by, apart-contacts, replace_contact}
+use Rattle.sqltables.proofs.WritingLemmas.{alters-by, replace_contact}
 use Rattle.sqltables.proofs.store.RowStore.replace_contact.Goals as goal
 
 pub write-requires-clause-means : goal.write-requires-clause-means
-write-requires-clause-means g c = (_, alters-by c.params.ensures (replace_contact c.args.contact.now), apart-contacts _)
+write-requires-clause-means g c = (_, alters-by c.params.ensures (replace_contact c.args.contact.now))
 
 pub returns : goal.returns
-returns g c = c.write.ensures _ (alters-by c.params.ensures (replace_contact c.args.contact.now)) (apart-contacts _)
+returns g c = c.write.ensures _ (alters-by c.params.ensures (replace_contact c.args.contact.now))

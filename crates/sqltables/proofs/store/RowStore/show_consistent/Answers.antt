@@ -1,12 +1,16 @@
 use Rattle.std.proofs.Common.{◌≡◌, true, subst}
+use Rattle.std.proofs.lemmas.Bool.{and_parts}
+use Rattle.sqlite.specs.Held.{state}
 use Rattle.sqltables.specs.Content.{Content}
-use Rattle.sqltables.specs.inner.Consistent.{IsConsistent}
 use Rattle.states.specs.States.{StateOf}
-use Rattle.sqltables.proofs.HandLemmas.{consistent-with}
+use Rattle.sqltables.specs.inner.Consistent.{IsConsistent}
+use Rattle.sqltables.proofs.StandingLemmas.{honest}
+use Rattle.sqltables.proofs.ConsistencyLemmas.{consistent}
 use Rattle.sqltables.proofs.store.RowStore.show_consistent.Goals as goal
 
 pub returns : goal.returns
 returns g c =
-    let hand = c.self.inside.hand in
-    subst (λ (s : StateOf Content). s.is_clean ≡ true → IsConsistent s.content) c.self.view_is
-    (λ e. consistent-with hand.owed hand.account c.self.inside.base.content (c.show_consistent.ensures e) (c.self.invariant.0.account e))
+    let s = state g.S.Store c.self.inside.conn in
+    subst (λ (it : StateOf Content). it.is_clean ≡ true → IsConsistent it.content) c.self.view_is (λ e.
+    let p = and_parts s.is_clean s.is_open e in
+    consistent c.self.inside.form s.now s.committed (c.self.invariant.0 (honest s p.0) p.1).bears (c.schema-schema.ensures.live p.1).0)

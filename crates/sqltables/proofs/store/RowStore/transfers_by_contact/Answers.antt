@@ -1,4 +1,3 @@
-use Rattle.std.proofs.Common.{refl}
 use Rattle.sqltables.proofs.QueryLemmas.{asks-by, bound-last, transfers_by_contact}
 use Rattle.sqltables.proofs.store.RowStore.transfers_by_contact.Goals as goal
 
@@ -6,4 +5,4 @@ pub select-requires : goal.select-requires
 select-requires g c = (_, asks-by (bound-last c.params-to_sql.ensures) (transfers_by_contact c.args.contact))
 
 pub returns : goal.returns
-returns g c = c.select.ensures _ (asks-by (bound-last c.params-to_sql.ensures) (transfers_by_contact c.args.contact)) (λ change xs. refl)
+returns g c = c.select.ensures _ (asks-by (bound-last c.params-to_sql.ensures) (transfers_by_contact c.args.contact))

@@ -1,9 +1,0 @@
-use Rattle.std.proofs.Common.{◌∙◌, sym, ap}
-use Rattle.std.specs.Option.{option_copied}
-use Rattle.mapbook.proofs.LedgerLemmas.{notice-again}
-use Rattle.mapbook.proofs.ledgers.Ledgers.has_notice.Goals as goal
-
-pub returns-in-Some : goal.returns-in-Some
-returns-in-Some c = λ there.
-    notice-again c.self.inside.accounts c.self.inside.counters c.args.self.now c.self.view_is c.args.registrar c.args.message.now c.in-Some.account.now
-    (sym (ap (λ o. option_copied o) c.in-Some.is) ∙ c.get.ensures) (c.has.ensures.back there)

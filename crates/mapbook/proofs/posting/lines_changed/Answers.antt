@@ -1,0 +1,14 @@
+use Rattle.std.proofs.Common.{List, ap, ◌∙◌}
+use Rattle.accounts.specs.declared.line.Line.{Line}
+use Rattle.mapbook.specs.declared.account_edit.AccountEdit.{AccountEdit}
+use Rattle.mapbook.specs.Edits.{all_edited}
+use Rattle.mapbook.proofs.EditLemmas.{if-ok}
+use Rattle.mapbook.proofs.PostingLemmas.{swaps-made}
+use Rattle.mapbook.proofs.posting.lines_changed.Goals as goal
+
+pub returns : goal.returns
+returns g c =
+    let a = c.args.account.now in
+    if-ok c.each_swapped.result
+    (λ edits is. ap (λ (es : List AccountEdit). all_edited es a) is ∙ swaps-made c.in_ok-swaps.swaps.items a ∙ ap (λ (ls : List Line). record a { lines = ls }) c.in_ok-swaps.ensures)
+    c.each_swapped.ensures

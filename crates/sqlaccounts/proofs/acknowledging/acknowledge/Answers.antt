@@ -1,0 +1,26 @@
+use Rattle.std.proofs.Common.{sym, ◌∙◌}
+use Rattle.accounts.specs.Entries.{with_queue}
+use Rattle.accounts.specs.Queue.{dropped}
+use Rattle.sqlaccounts.proofs.CallLemmas.{then-kept}
+use Rattle.sqlaccounts.proofs.PostingLemmas.{posts-behind}
+use Rattle.sqlaccounts.proofs.StepLemmas.{ack-posted, none-to-ack, other-to-ack}
+use Rattle.sqlaccounts.proofs.acknowledging.acknowledge.Goals as goal
+
+pub returns-in_default : goal.returns-in_default
+returns-in_default g c = λ days.
+    let asked = c.in_ok-message.ensures in
+    then-kept _ c.args.store.now c.oldest.new.store asked.0 c.requires.begun
+    (λ clean. none-to-ack days c.args.registrar c.args.row c.args.store.now.content (c.requires.there (asked.0.clean clean)) c.args.id.now _ (asked.1 clean) c.in_default.is)
+
+pub returns-then-is_named : goal.returns-then-is_named
+returns-then-is_named g c = λ days.
+    let asked = c.in_ok-message.ensures in
+    posts-behind c.take_message.result days c.args.registrar (with_queue (dropped c.in-Some.message)) _ c.args.row c.args.store.now c.oldest.new.store c.take_message.new.store asked.0
+    (λ clean changed ys it. ack-posted days c.args.registrar c.args.row c.args.store.now.content (c.requires.there (asked.0.clean clean)) c.args.id.now _ c.in-Some.message changed ys (asked.1 clean) c.in-Some.is (sym (c.in_ok-is_named.ensures {u = tt}) ∙ c.if-is_named.true) it)
+    (c.take_message.ensures days)
+
+pub returns : goal.returns
+returns g c = λ days.
+    let asked = c.in_ok-message.ensures in
+    then-kept _ c.args.store.now c.oldest.new.store asked.0 c.requires.begun
+    (λ clean. other-to-ack days c.args.registrar c.args.row c.args.store.now.content (c.requires.there (asked.0.clean clean)) c.args.id.now _ c.in-Some.message (asked.1 clean) c.in-Some.is (sym (c.in_ok-is_named.ensures {u = tt}) ∙ c.if-is_named.false))

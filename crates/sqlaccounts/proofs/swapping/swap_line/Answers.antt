@@ -1,0 +1,18 @@
+use Rattle.accounts.specs.Entries.{with_lines}
+use Rattle.accounts.specs.Lines.{in_order}
+use Rattle.basis.specs.Bag.{add, taken}
+use Rattle.sqlaccounts.proofs.PostingLemmas.{posts-then, row-posted}
+use Rattle.sqlaccounts.proofs.swapping.swap_line.Goals as goal
+
+pub add_line-requires-clause-begun : goal.add_line-requires-clause-begun
+add_line-requires-clause-begun g c = (c.in_ok-row.ensures {u = tt} c.args.days.now).opened
+
+pub add_line-requires-clause-there : goal.add_line-requires-clause-there
+add_line-requires-clause-there g c = λ clean.
+    let taken_out = c.in_ok-row.ensures {u = tt} c.args.days.now in
+    row-posted c.args.days.now c.args.registrar (with_lines (taken in_order c.args.swap.from)) c.args.row c.in_ok-row.row c.args.store.now.content c.take_line.new.store.content (c.requires.there (taken_out.clean clean)) (taken_out.content clean)
+
+pub returns : goal.returns
+returns g c =
+    posts-then c.add_line.result c.args.days.now c.args.registrar (with_lines (taken in_order c.args.swap.from)) (with_lines (add in_order c.args.swap.to)) c.args.row c.in_ok-row.row c.args.store.now c.take_line.new.store c.add_line.new.store
+    (c.in_ok-row.ensures {u = tt} c.args.days.now) c.add_line.ensures

@@ -1,0 +1,172 @@
+-- Changes of an account, and a domain that is put with them, to a book.
+use Rattle.std.proofs.Common.{◌≡◌, ◌⊎◌, inl, ℕ, true, ◌&&◌, List, Option, Some, None, IfSome, refl, sym, ap, subst, ◌∙◌}
+use Rattle.std.specs.FinMap.{FinMap, get}
+use Rattle.std.specs.Ordering.{nat_cmp}
+use Rattle.sqlite_keyed.specs.Keyed.{get_by}
+use Rattle.sqlite_rules.specs.Lists.{Has}
+use Rattle.states.specs.States.{Reads, StateOf}
+use Rattle.states.proofs.LeavingLemmas.{leaves-on}
+use Rattle.sqlrows.specs.Meanings.{HasChanged}
+use Rattle.accounts.specs.declared.account.Account.{Account}
+use Rattle.model.specs.Registry.{account_of}
+use Rattle.objects.specs.declared.domain.Domain.{Domain}
+use Rattle.policy.specs.declared.schedule.Schedule.{Schedule}
+use Rattle.books.specs.Book.{Stored}
+use Rattle.books.specs.Tables.{domain_set, posted_to, with_accounts}
+use Rattle.books.proofs.PutLemmas.{changed-put}
+use Rattle.sqltables.specs.Content.{Content}
+use Rattle.sqltables.specs.Readiness.{may_be_numbered}
+use Rattle.sqltables.specs.declared.account.AccountRow.{AccountRow}
+use Rattle.sqltables.specs.declared.domain.DomainRow.{DomainRow}
+use Rattle.sqltables.specs.inner.Consistent.{IsConsistent}
+use Rattle.sqlcolumns.specs.Numbers.{is_place, registrar_column}
+use Rattle.sqlaccounts.specs.Accounts.{row_of}
+use Rattle.sqlaccounts.specs.inner.Changes.{AreOthersKept, IsChange, IsOpened}
+use Rattle.sqlaccounts.specs.inner.Posting.{HasEnd, IsPosted, IsRowOf, with_row}
+use Rattle.sqlaccounts.proofs.PostingLemmas.{consistent-with, row-found, row-posted, with-found}
+use Rattle.sqldomains.specs.Domains.{domain_read}
+use Rattle.sqldomains.proofs.SponsorLemmas.{sponsors-kept}
+use Rattle.sqlderived.specs.Dues.{has_right_due}
+use Rattle.sqlderived.specs.declared.recounting.Unwritten.{Unwritten}
+use Rattle.sqlderived.specs.inner.Recounts.{IsUnwritten, with_unwritten}
+use Rattle.sqlderived.proofs.KeptLemmas.{change-kept, domains-kept, opening-kept}
+use Rattle.sqlobjects.specs.Sponsors.{IsSponsorSetBelow}
+use Rattle.sqlterms.specs.Terms.{days_of_rows}
+use Rattle.sqlbook.specs.Meaning.{are_right, stored_of}
+use Rattle.sqlbook.specs.inner.Posting.{ArePosted, HaveEnds, IsReplacedPosting}
+use Rattle.sqlbook.specs.inner.Replacing.{IsCheckedDomain, IsUnderDays}
+use Rattle.sqlbook.proofs.AccountLemmas.{account-changed, dues-of-others, key}
+use Rattle.sqlbook.proofs.ObjectLemmas.{due-of-reading}
+use Rattle.sqlbook.proofs.OpeningLemmas.{opening-changed}
+use Rattle.sqlbook.proofs.ReplacingLemmas.{IsDueThen, put-right, replaced, replaced-lines}
+
+-- ---- an account is opened, and changed
+
+others-on : (a b c : Content) → AreOthersKept a b → AreOthersKept b c → AreOthersKept a c
+others-on a b c one two = record {
+  metas = two.metas ∙ one.metas;
+  days = two.days ∙ one.days;
+  contacts = two.contacts ∙ one.contacts;
+  domains = two.domains ∙ one.domains;
+  hosts = two.hosts ∙ one.hosts;
+  addresses = two.addresses ∙ one.addresses;
+  links = two.links ∙ one.links;
+  transfers = two.transfers ∙ one.transfers;
+}
+
+-- one that is changed is opened
+given-opened : (r : ℕ) (f : Account → Account) (s : Stored) → posted_to r f (posted_to r (λ account. account) s) ≡ posted_to r f s
+given-opened r f s = ap (λ (m : FinMap nat_cmp Account). with_accounts m s) (changed-put r s.registry.accounts (account_of r s.registry) f)
+
+pub are-posted : (days : Option Schedule) (r : ℕ) (f : Account → Account) (row changed : AccountRow) (old opened new : Content) → IsConsistent old → IsConsistent opened → IsConsistent new
+    → IsOpened r old opened → IsRowOf r row opened → Some row ≡ row_of opened (registrar_column r) → IsPosted days r f row changed opened new → days ≡ days_of_rows old → ArePosted (posted_to r f) old (with_row changed new)
+are-posted days r f row changed old opened new whole whole-opened whole-new opening is found posted by =
+    let change = subst (λ (xs : Content). IsChange r f xs (with_row changed new)) (with-found r row opened whole-opened found) posted.change in
+    let consistent = consistent-with r changed new (row-posted days r f row changed opened new is posted) whole-new in
+    record {
+      held = account-changed r f opened (with_row changed new) whole-opened consistent change ∙ ap (posted_to r f) (opening-changed r old opened whole whole-opened opening) ∙ given-opened r f (stored_of old);
+      sums = change.sums ∙ opening.sums;
+      helds = change-kept r f opened (with_row changed new) change ∙ opening-kept old opened r whole opening;
+      others = others-on old opened (with_row changed new) opening.others change.others;
+      consistent = consistent;
+      ends = λ line here. subst (λ d. Has old.lines line ⊎ HasEnd d line) by (subst (λ lines. Has lines line ⊎ HasEnd days line) opening.lines (posted.ends line here));
+    }
+
+-- what was found is the account's row
+pub found-now : (r : ℕ) (row : AccountRow) (d e : StateOf Content) → Reads d e × (e.is_clean ≡ true → Some row ≡ row_of d.content (registrar_column r)) → is_place r ≡ true → e.is_clean ≡ true → IsRowOf r row e.content
+found-now r row d e found place clean = subst (IsRowOf r row) (sym (found.0.content clean)) (row-found r row d.content place (found.1 clean))
+
+-- the account is opened, its row found, and changed
+module _ (days : Option Schedule) (r : ℕ) (f : Account → Account) (row changed : AccountRow) (a b d e n : StateOf Content) (asked : Reads a b × (b.is_clean ≡ true → days ≡ days_of_rows a.content)) (opened : HasChanged (IsOpened r) b d)
+    (found : Reads d e × (e.is_clean ≡ true → Some row ≡ row_of d.content (registrar_column r))) (place : is_place r ≡ true) (posted : HasChanged (IsPosted days r f row changed) e n) where
+  pub then-posted : (b.is_clean ≡ true → IsConsistent b.content) → (d.is_clean ≡ true → IsConsistent d.content) → (n.is_clean ≡ true → IsConsistent n.content)
+      → HasChanged (λ xs ys. ArePosted (posted_to r f) xs (with_row changed ys)) a n
+  then-posted whole whole-opened whole-new = record {
+    clean = λ c. asked.0.clean (opened.clean (found.0.clean (posted.clean c)));
+    before = λ c. posted.before c ∙ found.0.before (posted.clean c) ∙ opened.before (found.0.clean (posted.clean c)) ∙ asked.0.before (opened.clean (found.0.clean (posted.clean c)));
+    opened = posted.opened;
+    content = λ c.
+        let ce = posted.clean c in
+        let cd = found.0.clean ce in
+        let cb = opened.clean cd in
+        subst (λ xs. ArePosted (posted_to r f) xs (with_row changed n.content)) (asked.0.content cb)
+        (are-posted days r f row changed b.content d.content n.content (whole cb) (whole-opened cd) (whole-new c) (opened.content cd) (row-found r row d.content place (found.1 ce)) (found.1 ce)
+        (subst (λ xs. IsPosted days r f row changed xs n.content) (found.0.content ce) (posted.content c)) (asked.1 cb ∙ sym (ap days_of_rows (asked.0.content cb))));
+    answers = λ was. posted.answers (found.0.answers (opened.answers (asked.0.answers was)));
+    leaves = leaves-on a b n asked.0.leaves (leaves-on b d n opened.leaves (leaves-on d e n found.0.leaves posted.leaves));
+  }
+
+  pub now-unwritten : n.is_clean ≡ true → IsRowOf r changed n.content
+  now-unwritten c = row-posted days r f row changed e.content n.content (found-now r row d e found place (posted.clean c)) (posted.content c)
+
+pub none-posted : (xs : Content) → IsConsistent xs → ArePosted (λ s. s) xs xs
+none-posted xs consistent = record {
+  held = refl;
+  sums = refl;
+  helds = refl;
+  others = record { metas = refl; days = refl; contacts = refl; domains = refl; hosts = refl; addresses = refl; links = refl; transfers = refl };
+  consistent = consistent;
+  ends = λ line here. inl here;
+}
+
+module _ (made : Stored → Stored) (old new : Content) (it : ArePosted made old new) where
+  pub posted-right : are_right new ≡ are_right old
+  posted-right = λ i. may_be_numbered (it.others.metas i) && (it.sums i && (it.helds i && (dues-of-others old new it.others i && sponsors-kept old new it.others.hosts it.others.domains i)))
+
+  days-posted : days_of_rows new ≡ days_of_rows old
+  days-posted = λ i. days_of_rows (record new { metas = it.others.metas i; days = it.others.days i })
+
+  under-posted : (days : Schedule) → IsUnderDays days old → IsUnderDays days new
+  under-posted days under = subst (λ o. IfSome o (λ d. d ≡ days)) (sym days-posted) under
+
+  reads-posted : (row : DomainRow) → domain_read new row ≡ domain_read old row
+  reads-posted row = λ i. domain_read (record new { contacts = it.others.contacts i; domains = it.others.domains i; hosts = it.others.hosts i; links = it.others.links i; transfers = it.others.transfers i }) row
+
+  checked-posted : (name : List ℕ) (domain : Option Domain) → IsCheckedDomain name has_right_due old domain → IsCheckedDomain name has_right_due new domain
+  checked-posted name domain checked = record {
+    domain_is = ap (λ m. get m name) (domains-kept old new it.others) ∙ checked.domain_is;
+    right_is = λ row here named. due-of-reading old new it.others.metas it.others.days row (reads-posted row) ∙ checked.right_is row (subst (λ rows. Has rows row) it.others.domains here) named;
+  }
+
+-- ---- a domain that is put with them
+
+module _ (name : List ℕ) (made : Stored → Stored) (days : Schedule) (before after : Option Domain) (due : ℕ) (old new : Content) (under : IsUnderDays days old) (checked : IsCheckedDomain name has_right_due old before)
+    (it : IsReplacedPosting name made before after due old new) (is_due : IsDueThen days due after) where
+  pub put-posting : ((stored_of new ≡ domain_set name after (made (stored_of old))) × (are_right new ≡ are_right old)) × HaveEnds old new
+  put-posting =
+      let posted = it.are_posted in
+      let now = checked-posted made old it.posted posted name before checked in (
+        (
+          replaced name has_right_due before after due it.posted new posted.consistent now it.replaced ∙ ap (domain_set name after) posted.held,
+          put-right name days before after due it.posted new posted.consistent now (under-posted made old it.posted posted days under) it.replaced is_due ∙ posted-right made old it.posted posted,
+        ),
+        λ line here. posted.ends line (subst (λ lines. Has lines line) (replaced-lines name has_right_due before after due it.posted new posted.consistent now it.replaced) here),
+      )
+
+-- ---- hosts that take a sponsor, beside an account's row that isn't written yet
+
+row-kept : (r : ℕ) (row : AccountRow) (old new : Content) → new.accounts ≡ old.accounts → IsRowOf r row old → IsRowOf r row new
+row-kept r row old new same is = record {
+  place = is.place;
+  id = is.id;
+  own = is.own;
+  there = ap (λ rows. get_by key rows (registrar_column r)) same ∙ is.there;
+  ident = is.ident;
+}
+
+pub unwritten-kept : (row : Option Unwritten) (old new : Content) → new.accounts ≡ old.accounts → IsUnwritten row old → IsUnwritten row new
+unwritten-kept None old new same is = tt
+unwritten-kept (Some it) old new same is = row-kept it.registrar it.row old new same is
+
+pub followed-beside : (name : List ℕ) (who : Option ℕ) (row : Option Unwritten) (old new : Content) → IsUnwritten row old → IsSponsorSetBelow name who old new → IsSponsorSetBelow name who (with_unwritten row old) (with_unwritten row new)
+followed-beside name who None old new is it = it
+followed-beside name who (Some one) old new is it = record {
+  stays = it.stays;
+  moves = it.moves;
+  hosts = it.hosts;
+  rest = ap (with_row one.row) it.rest;
+  consistent = (
+    consistent-with one.registrar one.row old is it.consistent.0,
+    consistent-with one.registrar one.row new (row-kept one.registrar one.row old new (ap (λ (xs : Content). xs.accounts) it.rest) is) it.consistent.1,
+  );
+}

@@ -1,0 +1,14 @@
+use Rattle.std.proofs.Common.{◌≡◌, true, sym, subst}
+use Rattle.sqlrows.specs.Meanings.{HasChanged}
+use Rattle.sqltables.specs.Content.{Content}
+use Rattle.sqlaccounts.specs.inner.Posting.{IsRowOf, with_row}
+use Rattle.books.specs.Tables.{maybe_posted}
+use Rattle.sqlbook.specs.inner.Posting.{ArePosted}
+use Rattle.sqlbook.proofs.changed_accounts.maybe_posted.Goals as goal
+
+pub returns : goal.returns
+returns g c =
+    let it = c.in_ok-posted.field-0 in
+    let new = c.posted.new.store in
+    subst (λ posts. HasChanged (λ (xs ys : Content). ArePosted (maybe_posted c.args.policy.now posts) xs (with_row it.row ys)) c.args.store.now new × (new.is_clean ≡ true → IsRowOf it.registrar it.row new.content))
+    (sym c.in-Some.is) (c.in_ok-posted.ensures {u = tt})

@@ -1,0 +1,205 @@
+-- What putting an account's row, or that of `meta`, makes of the rows.
+use Rattle.std.proofs.Common.{◌≡◌, ◌⊎◌, inl, inr, ℤ, ◌<ℤ◌, ◌==◌, Bool, true, false, not, cond, length, List, [], ◌∷◌, filter, Option, refl, sym, ap, ◌∙◌, subst, arith, Ordering, Less, Equal, Greater, Result, Ok, Err, int_cmp, int_eq, true≢false}
+use Rattle.std.specs.List.{AllByRecursion}
+use Rattle.std.specs.Ordering.{is_eq, match_ordering}
+use Rattle.std.proofs.lemmas.Int.{ints}
+use Rattle.sqlite_keyed.specs.Keyed.{IsKeyedBy, insert_by}
+use Rattle.sqlite_keyed.specs.Lists.{update_where}
+use Rattle.sqlite_keyed.proofs.KeyedLemmas.{IsKeyedBy-insert_by, same_int}
+use Rattle.sqlite_rules.specs.Lists.{Has}
+use Rattle.sqlrows.proofs.ReplaceLemmas.{replaced-is-put}
+use Rattle.states.specs.States.{Makes, StateOf}
+use Rattle.states.specs.declared.fault.BookFault.{BookFault}
+use Rattle.sqltables.specs.Account.{AccountRow, accounts, account_with_id}
+use Rattle.sqltables.specs.Meta.{MetaRow, meta_with_id, metas}
+use Rattle.sqltables.specs.Content.{Content}
+use Rattle.sqltables.specs.inner.Content.{accounts_to, metas_to}
+use Rattle.sqltables.specs.inner.Consistent.{IsNamedBy, IsConsistent, LeadsTo}
+use Rattle.sqltables.proofs.RowLemmas.{all_at, same_by_key}
+
+-- ---- a row put in its place
+
+same_cmp : (a b : ℤ) → a ≡ b → int_cmp a b ≡ Equal
+same_cmp a b e = grind (arith, ints)
+
+module _ {X : Type 0} (key : X → ℤ) where
+  pub has-put : (xs : List X) (new : X) → Has (insert_by key xs new) new
+  has-put [] new = inl refl
+  has-put (x ∷ xs) new = go (int_cmp (key x) (key new)) (has-put xs new)
+    where
+      go : (o : Ordering) → Has (insert_by key xs new) new → Has (match_ordering o (x ∷ insert_by key xs new) (new ∷ xs) (new ∷ x ∷ xs)) new
+      go Less h = inr h
+      go Equal h = inl refl
+      go Greater h = inl refl
+
+  -- each row is the new one, or was there
+  put-new-or-old : (xs : List X) (new y : X) → Has (insert_by key xs new) y → (y ≡ new) ⊎ Has xs y
+  put-new-or-old [] new y (inl e) = inl e
+  put-new-or-old [] new y (inr h) = absurd h
+  put-new-or-old (x ∷ xs) new y h = go (int_cmp (key x) (key new)) (put-new-or-old xs new y) h
+    where
+      later : (y ≡ new) ⊎ Has xs y → (y ≡ new) ⊎ Has (x ∷ xs) y
+      later (inl e) = inl e
+      later (inr h) = inr (inr h)
+
+      go : (o : Ordering) → (Has (insert_by key xs new) y → (y ≡ new) ⊎ Has xs y)
+          → Has (match_ordering o (x ∷ insert_by key xs new) (new ∷ xs) (new ∷ x ∷ xs)) y → (y ≡ new) ⊎ Has (x ∷ xs) y
+      go Less more (inl e) = inr (inl e)
+      go Less more (inr h) = later (more h)
+      go Equal more (inl e) = inl e
+      go Equal more (inr h) = inr (inr h)
+      go Greater more (inl e) = inl e
+      go Greater more (inr h) = inr h
+
+  -- no number goes
+  put-keeps-keys : (xs : List X) (new y : X) → Has xs y → (z : X) × Has (insert_by key xs new) z × (key z ≡ key y)
+  put-keeps-keys [] new y h = absurd h
+  put-keeps-keys (x ∷ xs) new y h = go (int_cmp (key x) (key new)) refl (put-keeps-keys xs new y) h
+    where
+      go : (o : Ordering) → int_cmp (key x) (key new) ≡ o → (Has xs y → (z : X) × Has (insert_by key xs new) z × (key z ≡ key y))
+          → (y ≡ x) ⊎ Has xs y → (z : X) × Has (match_ordering o (x ∷ insert_by key xs new) (new ∷ xs) (new ∷ x ∷ xs)) z × (key z ≡ key y)
+      go Less e more (inl p) = (x, inl refl, ap key (sym p))
+      go Less e more (inr h) = let it = more h in (it.0, inr it.1, it.2)
+      go Equal e more (inl p) = (new, inl refl, sym (same_int (key x) (key new) (ap is_eq e)) ∙ ap key (sym p))
+      go Equal e more (inr h) = (y, inr h, refl)
+      go Greater e more h = (y, inr h, refl)
+
+  -- the second of two in one place is the one that stays
+  pub put-twice : (xs : List X) (a b : X) → key a ≡ key b → insert_by key (insert_by key xs a) b ≡ insert_by key xs b
+  put-twice [] a b same = ap (λ o. match_ordering o (a ∷ b ∷ []) (b ∷ []) (b ∷ a ∷ [])) (same_cmp (key a) (key b) same)
+  put-twice (x ∷ xs) a b same = go (int_cmp (key x) (key a)) (sym (ap (int_cmp (key x)) same)) (put-twice xs a b same)
+    where
+      go : (o : Ordering) → int_cmp (key x) (key b) ≡ o → insert_by key (insert_by key xs a) b ≡ insert_by key xs b
+          → insert_by key (match_ordering o (x ∷ insert_by key xs a) (a ∷ xs) (a ∷ x ∷ xs)) b ≡ insert_by key (x ∷ xs) b
+      go Less e more = rw e (ap (λ ys. x ∷ ys) more)
+      go Equal e more = rw (e, same_cmp (key a) (key b) same)
+      go Greater e more = rw (e, same_cmp (key a) (key b) same)
+
+  none-above : (xs : List X) (id : ℤ) → AllByRecursion (λ y. id <ℤ key y) xs → filter (λ x. int_eq (key x) id) xs ≡ []
+  none-above [] id h = refl
+  none-above (x ∷ xs) id h = let k = h.0 in let apart : int_eq (key x) id ≡ false = grind (arith, ints) in rw apart (none-above xs id h.1)
+
+  -- the one row with its number
+  pub found-by-key : (xs : List X) (row : X) → IsKeyedBy key xs → Has xs row → filter (λ x. int_eq (key x) (key row)) xs ≡ row ∷ []
+  found-by-key [] row up h = absurd h
+  found-by-key (x ∷ xs) row up (inl e) =
+      subst (λ (y : X). filter (λ z. int_eq (key z) (key y)) (x ∷ xs) ≡ y ∷ []) (sym e)
+      (let same : int_eq (key x) (key x) ≡ true = grind (arith, ints) in rw (same, none-above xs (key x) up.0))
+  found-by-key (x ∷ xs) row up (inr h) =
+      let below = all_at (λ y. key x <ℤ key y) xs row up.0 h in
+      let apart : int_eq (key x) (key row) ≡ false = grind (arith, ints) in
+      rw apart (found-by-key xs row up.1 h)
+
+-- ---- the row of an account in the place of one with its number and its name
+
+led-with : {X : Type 0} (xs : List X) (column : X → Option ℤ) (rows : List AccountRow) (row : AccountRow) → LeadsTo xs column rows (λ (x : AccountRow). x.id) → LeadsTo xs column (insert_by accounts.key rows row) (λ (x : AccountRow). x.id)
+led-with xs column rows row led x h id is =
+    let it = led x h id is in
+    let z = put-keeps-keys accounts.key rows row it.0 it.1 in
+    (z.0, z.1, z.2 ∙ it.2)
+
+named-with : (rows : List AccountRow) (row old : AccountRow) → IsKeyedBy accounts.key rows → Has rows old → old.id ≡ row.id → old.ident ≡ row.ident → IsNamedBy (λ (x : AccountRow). x.ident) rows → IsNamedBy (λ (x : AccountRow). x.ident) (insert_by accounts.key rows row)
+named-with rows row old up there same-id same-ident named a b ha hb e = go (put-new-or-old accounts.key rows row a ha) (put-new-or-old accounts.key rows row b hb)
+  where
+    key : AccountRow → ℤ
+    key = accounts.key
+
+    -- a row that was there and has the new one's name has its number too
+    met : (x : AccountRow) → Has rows x → x.ident ≡ row.ident → x.id ≡ row.id
+    met x h same = ap (λ (y : AccountRow). y.id) (named x old h there (same ∙ sym same-ident)) ∙ same-id
+
+    one : a.id ≡ b.id → a ≡ b
+    one = same_by_key accounts.key (insert_by accounts.key rows row) a b (IsKeyedBy-insert_by accounts.key rows row up) ha hb
+
+    go : (a ≡ row) ⊎ Has rows a → (b ≡ row) ⊎ Has rows b → a ≡ b
+    go (inl p) (inl q) = p ∙ sym q
+    go (inl p) (inr h) = one (ap (λ (x : AccountRow). x.id) p ∙ sym (met b h (sym e ∙ ap (λ (x : AccountRow). x.ident) p)))
+    go (inr h) (inl q) = one (met a h (e ∙ ap (λ (x : AccountRow). x.ident) q) ∙ sym (ap (λ (x : AccountRow). x.id) q))
+    go (inr h) (inr k) = named a b h k e
+
+pub consistent-with : (xs : Content) (row old : AccountRow) → IsConsistent xs → Has xs.accounts old → old.id ≡ row.id → old.ident ≡ row.ident → IsConsistent (accounts_to (λ rows. insert_by accounts.key rows row) xs)
+consistent-with xs row old it there same-id same-ident = record {
+  keyed = record {
+    metas = it.keyed.metas;
+    accounts = IsKeyedBy-insert_by accounts.key xs.accounts row it.keyed.accounts;
+    contacts = it.keyed.contacts;
+    domains = it.keyed.domains;
+    hosts = it.keyed.hosts;
+    addresses = it.keyed.addresses;
+    links = it.keyed.links;
+    lines = it.keyed.lines;
+    messages = it.keyed.messages;
+    transfers = it.keyed.transfers;
+    days = it.keyed.days;
+  };
+  named = record {
+    accounts = named-with xs.accounts row old it.keyed.accounts there same-id same-ident it.named.accounts;
+    contacts = it.named.contacts;
+    domains = it.named.domains;
+    hosts = it.named.hosts;
+  };
+  linked = record {
+    contact_sponsor = led-with xs.contacts _ xs.accounts row it.linked.contact_sponsor;
+    domain_sponsor = led-with xs.domains _ xs.accounts row it.linked.domain_sponsor;
+    domain_registrant = it.linked.domain_registrant;
+    host_external_sponsor = led-with xs.hosts _ xs.accounts row it.linked.host_external_sponsor;
+    host_sponsor = led-with xs.hosts _ xs.accounts row it.linked.host_sponsor;
+    address_host = it.linked.address_host;
+    link_domain = it.linked.link_domain;
+    link_contact = it.linked.link_contact;
+    link_host = it.linked.link_host;
+    line_account = led-with xs.lines _ xs.accounts row it.linked.line_account;
+    message_account = led-with xs.messages _ xs.accounts row it.linked.message_account;
+    transfer_contact = it.linked.transfer_contact;
+    transfer_domain = it.linked.transfer_domain;
+    transfer_requester = led-with xs.transfers _ xs.accounts row it.linked.transfer_requester;
+    transfer_losing = led-with xs.transfers _ xs.accounts row it.linked.transfer_losing;
+  };
+}
+
+-- ---- what replaces a row that is there is put
+
+pub same-made : {A X : Type 0} (said : Result A BookFault) (a b : X) (old new : StateOf X) → (old.is_clean ≡ true → a ≡ b) → Makes said a old new → Makes said b old new
+same-made (Ok done) a b old new same it = record {
+  clean = it.clean;
+  before = it.before;
+  opened = it.opened;
+  content = λ e. it.content e ∙ same (it.clean e);
+  answers = it.answers;
+  leaves = it.leaves;
+}
+same-made (Err fault) a b old new same it = it
+
+pub account-replaced : (xs : Content) (row old : AccountRow) → IsConsistent xs → Has xs.accounts old → old.id ≡ row.id
+    → accounts_to (λ rows. update_where (account_with_id row.id) (λ x. record row { id = x.id }) rows) xs ≡ accounts_to (λ rows. insert_by accounts.key rows row) xs
+account-replaced xs row old consistent there same =
+    ap (λ (rows : List AccountRow). accounts_to (λ _. rows) xs)
+    (replaced-is-put accounts.key xs.accounts old row (λ x. record row { id = x.id }) consistent.keyed.accounts there same (λ x e. ap (λ (k : ℤ). record row { id = k }) e))
+
+pub meta-replaced : (xs : Content) (row old : MetaRow) → IsConsistent xs → Has xs.metas old → old.id ≡ row.id
+    → metas_to (λ rows. update_where (meta_with_id row.id) (λ x. record row { id = x.id }) rows) xs ≡ metas_to (λ rows. insert_by metas.key rows row) xs
+meta-replaced xs row old consistent there same =
+    ap (λ (rows : List MetaRow). metas_to (λ _. rows) xs)
+    (replaced-is-put metas.key xs.metas old row (λ x. record row { id = x.id }) consistent.keyed.metas there same (λ x e. ap (λ (k : ℤ). record row { id = k }) e))
+
+-- ---- what is asked after it
+
+-- the account that has the number of the one that was put
+pub account-put : (rows : List AccountRow) (row : AccountRow) → IsKeyedBy accounts.key rows → filter (account_with_id row.id) (insert_by accounts.key rows row) ≡ row ∷ []
+account-put rows row up = found-by-key accounts.key (insert_by accounts.key rows row) row (IsKeyedBy-insert_by accounts.key rows row up) (has-put accounts.key rows row)
+
+-- the only row
+pub meta-put : (row old : MetaRow) → old.id ≡ row.id → insert_by metas.key (old ∷ []) row ≡ row ∷ []
+meta-put row old same = ap (λ o. match_ordering o (old ∷ row ∷ []) (row ∷ []) (row ∷ old ∷ [])) (same_cmp old.id row.id same)
+
+-- ---- what is known before it
+
+-- one with its number is there
+pub account-there : (rows : List AccountRow) (id : ℤ) → not (length (filter (account_with_id id) rows) == 0) ≡ true → (x : AccountRow) × Has rows x × (x.id ≡ id)
+account-there [] id h = absurd (true≢false (sym h))
+account-there (row ∷ rows) id h = go (int_eq row.id id) refl h (account-there rows id)
+  where
+    go : (b : Bool) → int_eq row.id id ≡ b → not (length (cond b (row ∷ filter (account_with_id id) rows) (filter (account_with_id id) rows)) == 0) ≡ true
+        → (not (length (filter (account_with_id id) rows) == 0) ≡ true → (x : AccountRow) × Has rows x × (x.id ≡ id)) → (x : AccountRow) × Has (row ∷ rows) x × (x.id ≡ id)
+    go true e h later = (row, inl refl, same_int row.id id e)
+    go false e h later = let it = later h in (it.0, inr it.1, it.2)

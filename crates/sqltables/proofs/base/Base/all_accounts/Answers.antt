@@ -1,8 +1,0 @@
-use Rattle.sqltables.proofs.QueryLemmas.{all_accounts}
-use Rattle.sqltables.proofs.base.Base.all_accounts.Goals as goal
-
-pub select-requires : goal.select-requires
-select-requires g c = (_, all_accounts)
-
-pub returns : goal.returns
-returns g c = c.select.ensures _ all_accounts

@@ -1,8 +1,0 @@
-use Rattle.sqltables.proofs.WritingLemmas.{alters-by, put_meta}
-use Rattle.sqltables.proofs.base.Base.put_meta.Goals as goal
-
-pub write-requires-clause-means : goal.write-requires-clause-means
-write-requires-clause-means g c = (_, alters-by c.params.ensures (put_meta c.args.meta.now))
-
-pub returns : goal.returns
-returns g c = c.write.ensures _ (alters-by c.params.ensures (put_meta c.args.meta.now))

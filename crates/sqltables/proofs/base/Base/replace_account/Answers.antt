@@ -1,8 +1,0 @@
-use Rattle.sqltables.proofs.WritingLemmas.{alters-by, replace_account}
-use Rattle.sqltables.proofs.base.Base.replace_account.Goals as goal
-
-pub write-requires-clause-means : goal.write-requires-clause-means
-write-requires-clause-means g c = (_, alters-by c.params.ensures (replace_account c.args.account.now))
-
-pub returns : goal.returns
-returns g c = c.write.ensures _ (alters-by c.params.ensures (replace_account c.args.account.now))

@@ -1,0 +1,17 @@
+use Rattle.std.proofs.Common.{[], ◌∷◌, sym, subst}
+use Rattle.sqlite_value.specs.Order.{Row}
+use Rattle.sqltables.specs.Meta.{meta_shown, metas}
+use Rattle.sqltables.specs.inner.Answers.{IsAnsweredByRows}
+use Rattle.sqltables.specs.inner.Tables.{meta_all}
+use Rattle.sqltables.proofs.AnswerLemmas.{reads-by}
+use Rattle.sqltables.proofs.KnownLemmas.{meta-known}
+use Rattle.sqltables.proofs.QueryLemmas.{all_metas}
+use Rattle.sqltables.proofs.store.RowStore.know_only.Goals as goal
+
+pub know-requires-clause-reads : goal.know-requires-clause-reads
+know-requires-clause-reads g c = reads-by metas.tree meta_shown meta_all _ _ all_metas
+
+pub know-requires-clause-right : goal.know-requires-clause-right
+know-requires-clause-right g c clean db is =
+    subst (λ (row : Row). IsAnsweredByRows db meta_all [] (row ∷ [])) (sym c.params.ensures.owned)
+    (meta-known c.args.meta.now db c.args.self.now.content is (c.requires clean))

@@ -1,0 +1,14 @@
+use Rattle.std.proofs.Common.{sym, ap, ◌∙◌}
+use Rattle.states.specs.States.{StateOf}
+use Rattle.sqltables.specs.Content.{Content}
+use Rattle.sqltables.specs.Readiness.{is_numbered}
+use Rattle.sqltables.specs.inner.Stored.{readiness_of}
+use Rattle.sqltables.proofs.AdoptedLemmas.{known-other}
+use Rattle.sqltables.proofs.store.RowStore.numbered.Goals as goal
+
+pub returns-then-not-is_numbered-clause-others : goal.returns-then-not-is_numbered-clause-others
+returns-then-not-is_numbered-clause-others g c trees seen other clean =
+    let used = ap (λ (t : StateOf Content). t.readiness) (sym c.store.view_is) ∙ ap readiness_of c.in-Made.is in
+    let metas = c.in-Ok.ensures in
+    let sure = metas.0.answers seen.answers (c.into_store-then-not-is_numbered.ensures clean).0 in
+    known-other trees c.args.store seen used (metas.0.clean sure) (sym (ap is_numbered (c.as_slice.ensures ∙ metas.1 sure)) ∙ sym c.is_numbered.ensures ∙ c.if-not-is_numbered.true)
