@@ -5,6 +5,8 @@ use Rattle.std.specs.Ordering.{nat_cmp}
 use Rattle.std.specs.Cmp.Lexicographic.{slice_cmp}
 use Rattle.std.specs.Str.{bytes_eq}
 use Rattle.accounts.specs.declared.account.Account.{Account}
+use Rattle.accounts.specs.declared.entries.Posting.{Posting}
+use Rattle.lifecycle.specs.declared.change.AccountChange.TheVariants.{Lapse}
 use Rattle.lifecycle.specs.Changes.{changed as account_changed}
 use Rattle.policy.specs.Rules.{PolicyRules}
 use Rattle.basis.specs.Bag.{add, precedes}
@@ -61,6 +63,10 @@ changed p (RenameHost old h) s = if may_rename s.hosts old h.name then host_rena
 changed p (LapseContact name left) s = record s { contacts = put_or_drop s.contacts name left }
 changed p (LapseDomain name left) s = record s { domains = put_or_drop s.domains name left }
 changed p (Post r what) s = with_account r (account_changed p what) s
+
+-- what a lapse posts into an account
+abbrev pub posting_change : Posting → Change
+posting_change it = Post it.registrar (Lapse it.what)
 
 -- changes, one after another
 abbrev pub changed_all : PolicyRules → List Change → Registry → Registry

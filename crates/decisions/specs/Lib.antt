@@ -1,5 +1,4 @@
 pub mod Changes
-pub mod Lapsing
 pub mod Transfers
 pub mod Decisions
 pub mod Steps

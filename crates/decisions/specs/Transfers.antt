@@ -25,7 +25,7 @@ use Rattle.protocol.specs.declared.transfer.TransferOp.{TransferOp}
 use Rattle.protocol.specs.declared.transfer.TransferOp.TheVariants as ops
 use Rattle.decisions.specs.declared.change.Change.{Change}
 use Rattle.decisions.specs.declared.change.Change.TheVariants.{PutContact, PutDomain, Post}
-use Rattle.decisions.specs.Lapsing.{posting_change}
+use Rattle.decisions.specs.Changes.{posting_change}
 use Rattle.rules.specs.Charges.{charge_of, years_charged}
 use Rattle.rules.specs.Transfers.{transfer_after}
 

@@ -5,12 +5,10 @@ mod change;
 mod charge;
 mod created;
 mod decision;
-mod lapse;
 mod order;
 mod transfers;
 mod updated;
 
 pub use change::Change;
 pub use decision::{Decision, decide};
-pub use lapse::lapse_changes;
 pub use order::{MOST_DEPOSITED, OrderDecision, decide_deposit, decide_order};

@@ -2,7 +2,7 @@
 ghost use Rattle.std.specs.Prelude.{◌≡◌, ◌∷◌, [], IfOk};
 ghost use Rattle.std.specs.Option.{option_copied};
 ghost use Rattle.lifecycle.specs.Lapse as lapses;
-ghost use Rattle.decisions.specs.Lapsing.{posting_change};
+ghost use Rattle.decisions.specs.Changes.{posting_change};
 ghost use Rattle.decisions.specs.Transfers as spec;
 
 use crate::change::Change;

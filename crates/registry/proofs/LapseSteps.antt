@@ -1,26 +1,27 @@
 -- A transaction in which what is due lapses.
-use Rattle.std.proofs.Common.{◌≡◌, ℕ, true, false, cond, not, max, min, length, take, map, List, [], ◌∷◌, ◌++◌, Option, Some, None, refl, sym, ap, subst, ◌∙◌, arith}
+use Rattle.std.proofs.Common.{◌≡◌, ℕ, true, max, min, length, take, map, List, [], ◌∷◌, ◌++◌, Option, Some, None, refl, sym, ap, ◌∙◌, arith}
 use Rattle.std.proofs.lemmas.List.{length-take}
 use Rattle.std.proofs.lemmas.List.Sums.{fold-append}
-use Rattle.std.specs.List.{AllByRecursion}
+use Rattle.std.specs.Prelude.{fold, option_map}
+use Rattle.std.specs.FinMap.{get}
 use Rattle.accounts.specs.declared.entries.Posting.{Posting}
-use Rattle.lifecycle.specs.declared.change.AccountChange.{AccountChange}
+use Rattle.accounts.specs.Entries.{posted}
+use Rattle.decisions.specs.Changes.{changed_all, posting_change}
 use Rattle.lifecycle.specs.Lapse.{lapse as lapse_domain, lapse_contact}
-use Rattle.decisions.specs.Changes.{changed, changed_all}
-use Rattle.decisions.specs.declared.change.Change.{Change}
-use Rattle.decisions.specs.declared.change.Change.TheVariants.{MoveClock, OpenAccount, PutContact, DropContact, PutDomain, DropDomain, PutHost, DropHost, RenameHost, LapseContact, LapseDomain, Post}
-use Rattle.decisions.specs.Lapsing.{lapse_changes, posting_change}
 use Rattle.model.specs.declared.object.Object.{Object}
 use Rattle.model.specs.declared.object.Object.TheVariants as objects
 use Rattle.model.specs.Objects.{object_at}
+use Rattle.model.specs.Lapse.{accounts_at, at, lapse, now, with_contact_lapsed, with_domain_lapsed}
+use Rattle.model.specs.Registry.{Registry}
+use Rattle.objects.specs.declared.contact.Contact.{Contact}
+use Rattle.objects.specs.declared.domain.Domain.{Domain}
+use Rattle.objects.specs.declared.host.Host.{Host}
 use Rattle.objects.specs.declared.roid.ObjectKind.{ObjectKind}
 use Rattle.objects.specs.declared.roid.ObjectKind.TheVariants as kinds
-use Rattle.model.specs.Lapse.{accounts_at, at, lapse, now}
-use Rattle.model.specs.Registry.{Registry}
 use Rattle.policy.specs.Rules.{PolicyRules}
 use Rattle.registry.specs.Execution.{IsSettlement}
-use Rattle.registry.specs.Lapsing.{dues_lapsed, with_dues_lapsed}
-use Rattle.registry.specs.inner.Posting.{HasLapsed, is_post, objects_in, posts_in}
+use Rattle.registry.specs.Lapsing.{dues_lapsed, object_lapsed, with_dues_lapsed}
+use Rattle.registry.specs.inner.Posting.{HasLapsed, lapse_changes, lapse_postings}
 use Rattle.registry.specs.inner.Steps.{HasMoved, IsWithin}
 use Rattle.registry.proofs.LapsingLemmas.{some-lapsed}
 use Rattle.registry.proofs.StepLemmas.{only-read, within-on, written}
@@ -28,112 +29,62 @@ use Rattle.lifecycle.specs.declared.due_object.Due.{Due}
 use Rattle.books.specs.Book.{BookReads, BookState, BookStays, BookWrites, Stored, with_changes}
 use Rattle.model.specs.DueBy.{due_by}
 
--- ---- posts change accounts alone
+-- ---- postings change accounts alone
 
--- each is a post
-abbrev pub ArePosts : List Change → Type 0
-ArePosts posts = AllByRecursion (λ c. is_post c ≡ true) posts
-
-post-is : (c : Change) → is_post c ≡ true → (r : ℕ) × (what : AccountChange) × (c ≡ Post r what)
-post-is (Post r what) is = (r, what, refl)
-post-is (MoveClock t) is = cc
-post-is (OpenAccount r) is = cc
-post-is (PutContact c) is = cc
-post-is (DropContact name) is = cc
-post-is (PutDomain d) is = cc
-post-is (DropDomain name) is = cc
-post-is (PutHost h) is = cc
-post-is (DropHost name) is = cc
-post-is (RenameHost old h) is = cc
-post-is (LapseContact name left) is = cc
-post-is (LapseDomain name left) is = cc
-
--- what posts don't change, and don't look at
-abbrev PassesPosts : PolicyRules → (Registry → Registry) → Type 0
-PassesPosts p g = (r : ℕ) (what : AccountChange) (s : Registry) → g (changed p (Post r what) s) ≡ changed p (Post r what) (g s)
+abbrev with_postings : List Posting → Registry → Registry
+with_postings xs s = record s { accounts = fold posted s.accounts xs }
 
 module _ (p : PolicyRules) where
-  passes : (g : Registry → Registry) → PassesPosts p g → (posts : List Change) → ArePosts posts → (s : Registry) → g (changed_all p posts s) ≡ changed_all p posts (g s)
-  passes g so [] are s = refl
-  passes g so (c ∷ posts) are s =
-      let it = post-is c are.0 in
-      passes g so posts are.1 (changed p c s) ∙ ap (changed_all p posts) (ap (λ d. g (changed p d s)) it.2 ∙ so it.0 it.1 s ∙ sym (ap (λ d. changed p d (g s)) it.2))
+  made : (xs : List Posting) (s : Registry) → changed_all p (map posting_change xs) s ≡ with_postings xs s
+  made [] s = refl
+  made (x ∷ xs) s = made xs (changed_all p (posting_change x ∷ []) s)
 
-  posted-kept : (r : ℕ) (what : AccountChange) (k : ObjectKind) (name : List ℕ) (s : Registry) → object_at (changed p (Post r what) s) k name ≡ object_at s k name
-  posted-kept r what kinds.Contact name s = refl
-  posted-kept r what kinds.Domain name s = refl
-  posted-kept r what kinds.Host name s = refl
+  module _ (t : ℕ) (name : List ℕ) (xs : List Posting) (s : Registry) where
+    -- what an object posts can be made behind what others did
+    abbrev IsBehind : Option Object → Registry → Type 0
+    IsBehind o then = with_postings (xs ++ lapse_postings p t o) (changed_all p (lapse_changes p t name o) s) ≡ then
 
-  object-kept : (posts : List Change) → ArePosts posts → (k : ObjectKind) (name : List ℕ) (s : Registry) → object_at (changed_all p posts s) k name ≡ object_at s k name
-  object-kept [] are k name s = refl
-  object-kept (c ∷ posts) are k name s =
-      let it = post-is c are.0 in
-      object-kept posts are.1 k name (changed p c s) ∙ ap (λ d. object_at (changed p d s) k name) it.2 ∙ posted-kept it.0 it.1 k name s
+    joined : (more : List Posting) (u : Registry) → record u { accounts = fold posted s.accounts (xs ++ more) } ≡ record u { accounts = fold posted (fold posted s.accounts xs) more }
+    joined more u = ap (λ accounts. record u { accounts = accounts }) (fold-append posted s.accounts xs more)
 
-  postings-are : (xs : List Posting) → ArePosts (map posting_change xs)
-  postings-are [] = tt
-  postings-are (x ∷ xs) = (refl, postings-are xs)
+    contact-behind : (o : Option Contact) → IsBehind (option_map objects.Contact o) (with_contact_lapsed t name o (with_postings xs s))
+    contact-behind None = joined [] s
+    contact-behind (Some c) = joined (lapse_contact t c).postings (changed_all p (lapse_changes p t name (Some (objects.Contact c))) s)
 
-  postings-in : (xs : List Posting) → posts_in (map posting_change xs) ≡ map posting_change xs
-  postings-in [] = refl
-  postings-in (x ∷ xs) = ap (λ cs. posting_change x ∷ cs) (postings-in xs)
+    domain-behind : (o : Option Domain) → IsBehind (option_map objects.Domain o) (with_domain_lapsed p t name o (with_postings xs s))
+    domain-behind None = joined [] s
+    domain-behind (Some d) = joined (lapse_domain p t d).postings (changed_all p (lapse_changes p t name (Some (objects.Domain d))) s)
 
-  postings-out : (xs : List Posting) → objects_in (map posting_change xs) ≡ []
-  postings-out [] = refl
-  postings-out (x ∷ xs) = postings-out xs
+    host-behind : (o : Option Host) → IsBehind (option_map objects.Host o) (with_postings xs s)
+    host-behind None = joined [] s
+    host-behind (Some h) = joined [] s
 
-  are-both : (xs ys : List Change) → ArePosts xs → ArePosts ys → ArePosts (xs ++ ys)
-  are-both [] ys one two = two
-  are-both (x ∷ xs) ys one two = (one.0, are-both xs ys one.1 two)
-
-  -- of a change and the posts that it brings, the posts are made behind those that there are
-  one-more : (posts : List Change) → ArePosts posts → (c : Change) → is_post c ≡ false → PassesPosts p (changed p c) → (xs : List Posting) (s : Registry)
-      → changed_all p (posts ++ posts_in (c ∷ map posting_change xs)) (changed_all p (objects_in (c ∷ map posting_change xs)) s) ≡ changed_all p (c ∷ map posting_change xs) (changed_all p posts s)
-  one-more posts are c other past xs s =
-      (λ i. changed_all p (posts ++ cond (other i) (c ∷ postings-in xs i) (postings-in xs i)) (changed_all p (cond (not (other i)) (c ∷ postings-out xs i) (postings-out xs i)) s))
-      ∙ fold-append (λ (r : Registry) (d : Change). changed p d r) (changed p c s) posts (map posting_change xs)
-      ∙ ap (changed_all p (map posting_change xs)) (sym (passes (changed p c) past posts are s))
-
-  module _ (t : ℕ) (name : List ℕ) (posts : List Change) (are : ArePosts posts) (s : Registry) where
-    abbrev Behind : Option Object → Type 0
-    Behind o = (changed_all p (posts ++ posts_in (lapse_changes p t name o)) (changed_all p (objects_in (lapse_changes p t name o)) s) ≡ changed_all p (lapse_changes p t name o) (changed_all p posts s))
-        × ArePosts (posts ++ posts_in (lapse_changes p t name o))
-
-    nothing : changed_all p (posts ++ []) s ≡ changed_all p posts s
-    nothing = fold-append (λ (r : Registry) (d : Change). changed p d r) s posts []
-
-    behind : (o : Option Object) → Behind o
-    behind None = (nothing, are-both posts [] are tt)
-    behind (Some (objects.Host h)) = (nothing, are-both posts [] are tt)
-    behind (Some (objects.Contact c)) =
-        let it = lapse_contact t c in
-        (one-more posts are (LapseContact name it.object) refl (λ r what x. refl) it.postings s, are-both posts _ are (subst ArePosts (sym (postings-in it.postings)) (postings-are it.postings)))
-    behind (Some (objects.Domain d)) =
-        let it = lapse_domain p t d in
-        (one-more posts are (LapseDomain name it.object) refl (λ r what x. refl) it.postings s, are-both posts _ are (subst ArePosts (sym (postings-in it.postings)) (postings-are it.postings)))
+    behind : (kind : ObjectKind) → IsBehind (object_at s kind name) (object_lapsed p t kind name (with_postings xs s))
+    behind kinds.Contact = contact-behind (get s.contacts name)
+    behind kinds.Domain = domain-behind (get s.domains name)
+    behind kinds.Host = host-behind (get s.hosts name)
 
 -- ---- one object after another
 
--- some of what is due has lapsed, but for its posts, and what is left leads to where all of it does
-pub record IsUnderWay (p : PolicyRules) (t : ℕ) (posts : List Change) (left all : List Due) (old new : BookState) : Type 0 where
+-- some of what is due has lapsed, but for its postings, and what is left leads to where all of it does
+pub record IsUnderWay (p : PolicyRules) (t : ℕ) (postings : List Posting) (left all : List Due) (old new : BookState) : Type 0 where
   pub within : IsWithin old new
-  pub are : new.is_clean ≡ true → ArePosts posts
-  pub content : new.is_clean ≡ true → with_dues_lapsed p t left (with_changes p posts new.content) ≡ with_dues_lapsed p t all old.content
+  pub content : new.is_clean ≡ true → record new.content { registry = dues_lapsed p t left (with_postings postings new.content.registry) } ≡ with_dues_lapsed p t all old.content
 
-pub lapsed-more : (p : PolicyRules) (t : ℕ) (posts more : List Change) (due : Due) (left all : List Due) (old mid new : BookState) → IsUnderWay p t posts (due ∷ left) all old mid → HasLapsed p t due posts more mid new → IsUnderWay p t more left all old new
-lapsed-more p t posts more due left all old mid new was it = record {
+pub lapsed-more : (p : PolicyRules) (t : ℕ) (postings more : List Posting) (due : Due) (left all : List Due) (old mid new : BookState) → IsUnderWay p t postings (due ∷ left) all old mid → HasLapsed p t due postings more mid new → IsUnderWay p t more left all old new
+lapsed-more p t postings more due left all old mid new was it = record {
   within = within-on old mid new was.within it.within;
-  are = λ clean. subst ArePosts (sym (it.posted clean)) (behind p t due.name posts (was.are (it.within.stays.clean clean)) s (object_at s due.kind due.name)).1;
   content = λ clean.
-      let are = was.are (it.within.stays.clean clean) in
-      (λ i. with_dues_lapsed p t left (with_changes p (it.posted clean i) (it.content clean i)))
-      ∙ ap (λ (r : Registry). with_dues_lapsed p t left (record mid.content { registry = r }))
-      ((behind p t due.name posts are s (object_at s due.kind due.name)).0 ∙ ap (λ o. changed_all p (lapse_changes p t due.name o) (changed_all p posts s)) (sym (object-kept p posts are due.kind due.name s)))
+      (λ i. record (it.content clean i) { registry = dues_lapsed p t left (with_postings (it.posted clean i) (it.content clean i).registry) })
+      ∙ ap (λ (r : Registry). record mid.content { registry = dues_lapsed p t left r }) (behind p t due.name postings mid.content.registry due.kind)
       ∙ was.content (it.within.stays.clean clean);
 }
-  where
-    s : Registry
-    s = mid.content.registry
+
+-- what was posted is made
+pub all-posted : (p : PolicyRules) (t : ℕ) (postings : List Posting) (all : List Due) (old mid : BookState) → IsUnderWay p t postings [] all old mid → mid.is_clean ≡ true
+    → with_changes p (map posting_change postings) mid.content ≡ with_dues_lapsed p t all old.content
+all-posted p t postings all old mid was clean =
+    ap (λ (r : Registry). record mid.content { registry = r }) (made p postings mid.content.registry) ∙ was.content clean
 
 -- ---- a settlement
 

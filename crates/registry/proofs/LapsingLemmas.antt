@@ -29,36 +29,17 @@ use Rattle.objects.specs.declared.roid.ObjectKind.TheVariants as kinds
 use Rattle.objects.specs.declared.transfer.Transfer.{Transfer}
 use Rattle.objects.specs.Transfers.{is_pending_state}
 use Rattle.policy.specs.Rules.{PolicyRules}
-use Rattle.decisions.specs.declared.change.Change.TheVariants.{LapseContact, LapseDomain}
-use Rattle.decisions.specs.Changes.{changed, changed_all}
-use Rattle.decisions.specs.Lapsing.{posting_change, lapse_changes}
 use Rattle.concerns.specs.declared.given.Names.{Names}
 use Rattle.concerns.specs.Concerns.{HasConcerned, concerned}
 use Rattle.concerns.specs.DueFor as dues
 use Rattle.lifecycle.specs.declared.due_object.Due.{Due}
 use Rattle.lifecycle.specs.DueObjects.{contact_due, domain_due, due_cmp, due_then, found_due, kind_rank, with_due}
 use Rattle.model.specs.DueBy.{due_by}
-use Rattle.registry.specs.Lapsing.{dues_lapsed}
+use Rattle.registry.specs.Lapsing.{dues_lapsed, object_lapsed}
 
 -- ---- one object
 
-postings-made : (p : PolicyRules) (xs : List Posting) (s : Registry) → changed_all p (map posting_change xs) s ≡ record s { accounts = fold posted s.accounts xs }
-postings-made p [] s = refl
-postings-made p (x ∷ xs) s = postings-made p xs (changed p (posting_change x) s)
-
 module _ (p : PolicyRules) (t : ℕ) (name : List ℕ) (s : Registry) where
-  contact-one : (o : Option Contact) → changed_all p (lapse_changes p t name (option_map objects.Contact o)) s ≡ with_contact_lapsed t name o s
-  contact-one None = refl
-  contact-one (Some c) = postings-made p (lapse_contact t c).postings (changed p (LapseContact name (lapse_contact t c).object) s)
-
-  domain-one : (o : Option Domain) → changed_all p (lapse_changes p t name (option_map objects.Domain o)) s ≡ with_domain_lapsed p t name o s
-  domain-one None = refl
-  domain-one (Some d) = postings-made p (lapse_domain p t d).postings (changed p (LapseDomain name (lapse_domain p t d).object) s)
-
-  host-one : (o : Option Host) → changed_all p (lapse_changes p t name (option_map objects.Host o)) s ≡ s
-  host-one None = refl
-  host-one (Some h) = refl
-
   same-clock-contact : (o : Option Contact) → (with_contact_lapsed t name o s).clock ≡ s.clock
   same-clock-contact None = refl
   same-clock-contact (Some c) = refl
@@ -88,11 +69,11 @@ objects_of (d ∷ ds) = with_kind d.kind d.name (objects_of ds)
 
 module _ (p : PolicyRules) (t : ℕ) where
   each-at : (kind : ObjectKind) (name : List ℕ) (rest : List (Subject × List ℕ)) (ds : List Due) (s : Registry) → ((u : Registry) → dues_lapsed p t ds u ≡ lapse_each p t rest u)
-      → dues_lapsed p t ds (changed_all p (lapse_changes p t name (object_at s kind name)) s) ≡ lapse_each p t (with_kind kind name rest) s
+      → dues_lapsed p t ds (object_lapsed p t kind name s) ≡ lapse_each p t (with_kind kind name rest) s
   unfolding with_kind
-  each-at kinds.Contact name rest ds s ih = ap (dues_lapsed p t ds) (contact-one p t name s (get s.contacts name)) ∙ ih (lapse_one p t subjects.Contact name s)
-  each-at kinds.Domain name rest ds s ih = ap (dues_lapsed p t ds) (domain-one p t name s (get s.domains name)) ∙ ih (lapse_one p t subjects.Domain name s)
-  each-at kinds.Host name rest ds s ih = ap (dues_lapsed p t ds) (host-one p t name s (get s.hosts name)) ∙ ih s
+  each-at kinds.Contact name rest ds s ih = ih (lapse_one p t subjects.Contact name s)
+  each-at kinds.Domain name rest ds s ih = ih (lapse_one p t subjects.Domain name s)
+  each-at kinds.Host name rest ds s ih = ih s
 
   each : (ds : List Due) (s : Registry) → dues_lapsed p t ds s ≡ lapse_each p t (objects_of ds) s
   unfolding objects_of

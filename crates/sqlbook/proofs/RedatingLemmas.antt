@@ -22,7 +22,7 @@ use Rattle.sqldomains.specs.Domains.{domain_read, domains_of}
 use Rattle.sqlderived.specs.Redates.{is_live_right}
 use Rattle.sqlbook.specs.Meaning.{stored_of}
 use Rattle.sqlbook.specs.inner.Replacing.{IsCheckedDomain, IsReplaced}
-use Rattle.sqlbook.specs.inner.Suiting.{IsOneDeleted, MeansSame, end_of}
+use Rattle.sqlbook.specs.inner.Suiting.{IsDeletedDomain, MeansSame, end_of}
 use Rattle.sqlbook.proofs.ObjectLemmas.{live-of-reading}
 use Rattle.sqlbook.proofs.ReplacingLemmas.{reading-is, reads-after, replaced, replaced-days, replaced-lines, replaced-right}
 
@@ -34,13 +34,13 @@ found-put m name d is =
     ∙ put-back (slice_cmp nat_cmp) nat_list_cmp_total (slice_cmp-IsAntisymmetric nat_cmp-IsAntisymmetric) m name (Some d)
 
 -- the row of a deleted domain is right by any lengths
-deleted-right : (xs : Content) (row : DomainRow) (o : Option Domain) → domain_read xs row ≡ o → IsOneDeleted o → is_live_right xs row ≡ true
+deleted-right : (xs : Content) (row : DomainRow) (o : Option Domain) → domain_read xs row ≡ o → IsDeletedDomain o → is_live_right xs row ≡ true
 deleted-right xs row None reads is = absurd is
 deleted-right xs row (Some d) reads is =
     ap (λ o. option_map_or (λ (x : Domain). is_some x.deletion || int_eq row.due (pos (capped (earlier (expiry x) (completes_at x.transfer))))) o false) reads
     ∙ ap (λ b. b || int_eq row.due (pos (capped (earlier (expiry d) (completes_at d.transfer))))) is
 
-deleted-checked : (name : List ℕ) (xs : Content) (o : Option Domain) → IsConsistent xs → get (domains_of xs) name ≡ o → IsOneDeleted o → IsCheckedDomain name is_live_right xs o
+deleted-checked : (name : List ℕ) (xs : Content) (o : Option Domain) → IsConsistent xs → get (domains_of xs) name ≡ o → IsDeletedDomain o → IsCheckedDomain name is_live_right xs o
 deleted-checked name xs o consistent there is = record {
   domain_is = there;
   right_is = λ row here named. deleted-right xs row o (reading-is xs row consistent here ∙ ap (get (domains_of xs)) named ∙ there) is;

@@ -27,7 +27,7 @@ use Rattle.sqlobjects.proofs.PutLemmas.{filter-append, filter-append_pass, filte
 use Rattle.sqldomains.specs.declared.comparison.LinkComparison.TheVariants as comparisons
 use Rattle.sqldomains.specs.Domains.{are_dated, in_places, linked_name, placed, registrant_alone, with_link_read, with_linked_name, with_links}
 use Rattle.sqldomains.specs.inner.Links.{IsNumberOfContact, IsNumberOfHost}
-use Rattle.sqldomains.specs.inner.Stages.{AreLinksCleared, AreLinksPutOver, AreNamesAdded, AreOtherLinksKept, IsLinkTo, NamesLinks, with_names}
+use Rattle.sqldomains.specs.inner.Stages.{AreLinksCleared, AreLinksPutOver, AreNamesAdded, AreOtherLinksKept, IsLinkTo, HasLinkRows, with_names}
 use Rattle.sqldomains.proofs.LinkedLemmas.{registrant-more}
 
 -- ---- rows read where names are alike
@@ -125,7 +125,7 @@ pub next-named : (id due : ℤ) (role : Role) (ts : List (List ℕ)) (i : ℕ) (
     → AreNamesAdded id due role (take (i + 1) ts) a c
 next-named id due role ts i t a b c within is one two =
     subst (λ l. AreNamesAdded id due role l a c) (ap (λ x. take i ts ++ x ∷ []) is ∙ sym (take_more ts i t within)) (record {
-      here = λ l before. subst (λ m. NamesLinks id due m c) (sym (with_names-append role (take i ts) (t ∷ []) l)) (two.here (with_names role l (take i ts)) (one.here l before));
+      here = λ l before. subst (λ m. HasLinkRows id due m c) (sym (with_names-append role (take i ts) (t ∷ []) l)) (two.here (with_names role l (take i ts)) (one.here l before));
       others = then-kept id a b c one.others two.others;
     })
 
@@ -161,9 +161,9 @@ in-all l so =
 
 pub links-added : (id due : ℤ) (l : Links) (a b c d : Content) → AreNamesAdded id due roles.Admin l.admin a b → AreNamesAdded id due roles.Tech l.tech b c → AreNamesAdded id due roles.Host l.hosts c d → AreLinksPutOver id due l comparisons.Absent a d
 links-added id due l a b c d admin tech host so none =
-    let start : NamesLinks id due (registrant_alone l.registrant) a = record { all = ap (with_links a (registrant_alone l.registrant)) none; dated = ap (are_dated due) none } in
+    let start : HasLinkRows id due (registrant_alone l.registrant) a = record { all = ap (with_links a (registrant_alone l.registrant)) none; dated = ap (are_dated due) none } in
     record {
-      here = subst (λ m. NamesLinks id due m d) (in-all l so) (host.here _ (tech.here _ (admin.here _ start)));
+      here = subst (λ m. HasLinkRows id due m d) (in-all l so) (host.here _ (tech.here _ (admin.here _ start)));
       others = then-kept id a b d admin.others (then-kept id b c d tech.others host.others);
     }
 

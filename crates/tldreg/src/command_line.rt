@@ -124,7 +124,7 @@ fn words_of(rt: &(impl Env + AllocGlobal)) -> Result<Args, Exit>
 
 /// The task of the words, of which the first is the program's name.
 fn task_of(words: Args) -> Result<Task, Exit>
-    ensures { spec.ReadsWord (spec.AsksTask (drop 1 (spec.texts words))) result }
+    ensures { spec.ReadsOrUsage (spec.AsksTask (drop 1 (spec.texts words))) result }
 {
     let mut words = words;
     let _program = words.next();
@@ -150,7 +150,7 @@ fn task_of(words: Args) -> Result<Task, Exit>
 
 /// `run POLICY`, of the words after the first.
 fn run_of(words: Args) -> Result<Task, Exit>
-    ensures { spec.ReadsWord (spec.AsksTask (codes "run" ∷ spec.texts words)) result }
+    ensures { spec.ReadsOrUsage (spec.AsksTask (codes "run" ∷ spec.texts words)) result }
 {
     let mut words = words;
     let policy = next_word(&mut words)?;
@@ -160,7 +160,7 @@ fn run_of(words: Args) -> Result<Task, Exit>
 
 /// `migrate POLICY OLD NEW`
 fn migrate_of(words: Args) -> Result<Task, Exit>
-    ensures { spec.ReadsWord (spec.AsksTask (codes "migrate" ∷ spec.texts words)) result }
+    ensures { spec.ReadsOrUsage (spec.AsksTask (codes "migrate" ∷ spec.texts words)) result }
 {
     let mut words = words;
     let policy = next_word(&mut words)?;
@@ -172,7 +172,7 @@ fn migrate_of(words: Args) -> Result<Task, Exit>
 
 /// `serve POLICY DB PORT`, and maybe `OPERATOR_PORT TOKEN_FILE`
 fn serve_of(words: Args) -> Result<Task, Exit>
-    ensures { spec.ReadsWord (spec.AsksTask (codes "serve" ∷ spec.texts words)) result }
+    ensures { spec.ReadsOrUsage (spec.AsksTask (codes "serve" ∷ spec.texts words)) result }
 {
     let mut words = words;
     let policy = next_word(&mut words)?;
@@ -188,7 +188,7 @@ fn serve_of(words: Args) -> Result<Task, Exit>
 
 /// A port to serve, and what the words after it say of the operator's.
 fn serving_of(port: u16, words: Args) -> Result<Job, Exit>
-    ensures { spec.ReadsWord (spec.AsksServing port (spec.texts words)) result }
+    ensures { spec.ReadsOrUsage (spec.AsksServing port (spec.texts words)) result }
 {
     let mut words = words;
     match words.next() {
@@ -207,7 +207,7 @@ fn serving_of(port: u16, words: Args) -> Result<Job, Exit>
 
 /// `zone POLICY DB MOMENT`
 fn zone_of(words: Args) -> Result<Task, Exit>
-    ensures { spec.ReadsWord (spec.AsksTask (codes "zone" ∷ spec.texts words)) result }
+    ensures { spec.ReadsOrUsage (spec.AsksTask (codes "zone" ∷ spec.texts words)) result }
 {
     let mut words = words;
     let policy = next_word(&mut words)?;
@@ -226,7 +226,7 @@ fn zone_of(words: Args) -> Result<Task, Exit>
 
 /// `deposit POLICY DB MOMENT REGISTRAR CENTS`
 fn deposit_of(words: Args) -> Result<Task, Exit>
-    ensures { spec.ReadsWord (spec.AsksTask (codes "deposit" ∷ spec.texts words)) result }
+    ensures { spec.ReadsOrUsage (spec.AsksTask (codes "deposit" ∷ spec.texts words)) result }
 {
     let mut words = words;
     let policy = next_word(&mut words)?;
@@ -249,7 +249,7 @@ fn deposit_of(words: Args) -> Result<Task, Exit>
 
 /// `order POLICY DB MOMENT JSON`
 fn order_of(words: Args) -> Result<Task, Exit>
-    ensures { spec.ReadsWord (spec.AsksTask (codes "order" ∷ spec.texts words)) result }
+    ensures { spec.ReadsOrUsage (spec.AsksTask (codes "order" ∷ spec.texts words)) result }
 {
     let mut words = words;
     let policy = next_word(&mut words)?;
@@ -293,7 +293,7 @@ fn end_of_words(words: Args) -> Result<(), Exit>
 
 /// A port, from 1 to 65535.
 fn port_of(word: &str) -> Result<u16, Exit>
-    ensures { spec.ReadsWord (spec.IsPort word.now) result }
+    ensures { spec.ReadsOrUsage (spec.IsPort word.now) result }
 {
     match word.parse() {
         Ok(0) | Err(_) => Err(Exit::Usage),
@@ -303,7 +303,7 @@ fn port_of(word: &str) -> Result<u16, Exit>
 
 /// A moment's text.
 fn moment_of(word: &str) -> Result<Moment, Exit>
-    ensures { spec.ReadsWord (spec.IsMomentText word.now) result }
+    ensures { spec.ReadsOrUsage (spec.IsMomentText word.now) result }
 {
     match Moment::read(word) {
         Some(moment) => {
@@ -317,7 +317,7 @@ fn moment_of(word: &str) -> Result<Moment, Exit>
 
 /// A number of cents, whether so many can be deposited or not.
 fn cents_of(word: &str) -> Result<i64, Exit>
-    ensures { spec.ReadsWord (spec.IsCents word.now) result }
+    ensures { spec.ReadsOrUsage (spec.IsCents word.now) result }
 {
     match word.parse() {
         Ok(cents) => Ok(cents),

@@ -1,7 +1,7 @@
 //! The options of a command line: `--NAME VALUE`, and `--quiet`, among its other words.
 ghost use Rattle.std.specs.Prelude.{◌≡◌, ◌∷◌, string_bytes};
 ghost use Rattle.tldreg.specs.inner.Options as spec;
-ghost use Rattle.tldreg.specs.inner.Words.{ReadsWord, texts};
+ghost use Rattle.tldreg.specs.inner.Words.{ReadsOrUsage, texts};
 
 use script::Exit;
 use std::alloc::Global;
@@ -179,7 +179,7 @@ fn with_limit(limits: Limits, name: &str, time: Duration) -> Option<Limits>
 
 /// A number from 1 to the most.
 fn number_of(word: &str, most: u32) -> Result<u32, Exit>
-    ensures { ReadsWord (spec.IsCount most word.now) result }
+    ensures { ReadsOrUsage (spec.IsCount most word.now) result }
 {
     match word.parse::<u32>() {
         Ok(number) if number > 0 && number <= most => Ok(number),

@@ -85,14 +85,14 @@ IsOrderCarriedOut p decision before after code = AreChangesMade p decision.chang
 -- ---- an opening
 
 -- in the open transaction the accounts are there, and the terms put down
-pub record IsOpeningTakenUp (p : PolicyRules) (old new : BookState) : Type 0 where
+pub record WasTakenUp (p : PolicyRules) (old new : BookState) : Type 0 where
   pub moves : BookWrites old new (opened p old.content)
   pub stays : BookStays old new
   pub fits : new.is_clean ≡ true → goes_on (terms_of p) old.content ≡ true
 
 -- the book was taken up, or it went back
 abbrev pub TakesUp : Result Bool BookFault → PolicyRules → BookState → BookState → Type 0
-TakesUp (Ok true) p old new = IsOpeningTakenUp p old new
+TakesUp (Ok true) p old new = WasTakenUp p old new
 TakesUp (Ok false) p old new = HasOtherTerms p old new × (Follows old new × BookLeavesSame old new)
 TakesUp (Err fault) p old new = WentBack fault old new
 

@@ -54,6 +54,6 @@ abbrev pub end_of : Schedule → Domain → Option ℕ
 end_of days domain = option_map (λ (x : Deletion). capped (purge_at (rules_with days) x)) domain.deletion
 
 -- there is a domain, and it is deleted
-abbrev pub IsOneDeleted : Option Domain → Type 0
-IsOneDeleted None = ⊥
-IsOneDeleted (Some domain) = is_some domain.deletion ≡ true
+abbrev pub IsDeletedDomain : Option Domain → Type 0
+IsDeletedDomain None = ⊥
+IsDeletedDomain (Some domain) = is_some domain.deletion ≡ true

@@ -33,7 +33,7 @@ pub record AreOtherLinksKept (id : ℤ) (old new : Content) : Type 0 where
   pub rest : new ≡ record old { links = new.links }
 
 -- the rows of the domain with this number lead to this, and say that it is due then
-pub record NamesLinks (id due : ℤ) (links : Links) (xs : Content) : Type 0 where
+pub record HasLinkRows (id due : ℤ) (links : Links) (xs : Content) : Type 0 where
   pub all : with_links xs (registrant_alone links.registrant) (filter (link_with_domain id) xs.links) ≡ Some links
   pub dated : are_dated due (filter (link_with_domain id) xs.links) ≡ true
 
@@ -75,13 +75,13 @@ pub record IsHostLinkTo (xs : Content) (id due : ℤ) (name : List ℕ) (row : L
 
 -- the domain with this number names these besides
 pub record AreNamesAdded (id due : ℤ) (role : Role) (names : List (List ℕ)) (old new : Content) : Type 0 where
-  pub here : (links : Links) → NamesLinks id due links old
-      → NamesLinks id due (with_names role links names) new
+  pub here : (links : Links) → HasLinkRows id due links old
+      → HasLinkRows id due (with_names role links names) new
   pub others : AreOtherLinksKept id old new
 
 -- the domain with this number names this
 pub record AreLinksPut (id due : ℤ) (links : Links) (old new : Content) : Type 0 where
-  pub here : NamesLinks id due links new
+  pub here : HasLinkRows id due links new
   pub others : AreOtherLinksKept id old new
 
 -- these rows lead to this

@@ -96,9 +96,9 @@ options_of (OnDatabase policy database (Order moment json)) = kinds.OnDatabase
 -- ---- how they are read
 
 -- What there is is read. Where there is none, it is a wrong command line.
-abbrev pub ReadsWord : {X : Type 0} → (X → Type 0) → Result X Exit → Type 0
-ReadsWord Is (Ok x) = Is x
-ReadsWord {X} Is (Err exit) = (exit ≡ Usage) × ((x : X) → ¬ (Is x))
+abbrev pub ReadsOrUsage : {X : Type 0} → (X → Type 0) → Result X Exit → Type 0
+ReadsOrUsage Is (Ok x) = Is x
+ReadsOrUsage {X} Is (Err exit) = (exit ≡ Usage) × ((x : X) → ¬ (Is x))
 
 -- the words that are still to come
 abbrev pub texts : IntoIter (String Global) Global → List (List ℕ)
