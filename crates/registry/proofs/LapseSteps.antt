@@ -69,22 +69,24 @@ module _ (p : PolicyRules) where
 -- some of what is due has lapsed, but for its postings, and what is left leads to where all of it does
 pub record IsUnderWay (p : PolicyRules) (t : ℕ) (postings : List Posting) (left all : List Due) (old new : BookState) : Type 0 where
   pub within : IsWithin old new
-  pub content : new.is_clean ≡ true → record new.content { registry = dues_lapsed p t left (with_postings postings new.content.registry) } ≡ with_dues_lapsed p t all old.content
+  pub content : new.is_clean ≡ true → with_dues_lapsed p t left (with_changes p (map posting_change postings) new.content) ≡ with_dues_lapsed p t all old.content
 
 pub lapsed-more : (p : PolicyRules) (t : ℕ) (postings more : List Posting) (due : Due) (left all : List Due) (old mid new : BookState) → IsUnderWay p t postings (due ∷ left) all old mid → HasLapsed p t due postings more mid new → IsUnderWay p t more left all old new
 lapsed-more p t postings more due left all old mid new was it = record {
   within = within-on old mid new was.within it.within;
   content = λ clean.
-      (λ i. record (it.content clean i) { registry = dues_lapsed p t left (with_postings (it.posted clean i) (it.content clean i).registry) })
-      ∙ ap (λ (r : Registry). record mid.content { registry = dues_lapsed p t left r }) (behind p t due.name postings mid.content.registry due.kind)
+      (λ i. with_dues_lapsed p t left (with_changes p (map posting_change (it.posted clean i)) (it.content clean i)))
+      ∙ ap (λ (r : Registry). with_dues_lapsed p t left (record mid.content { registry = r }))
+      (made p (postings ++ lapse_postings p t o) (changed_all p (lapse_changes p t due.name o) s) ∙ behind p t due.name postings s due.kind
+      ∙ ap (object_lapsed p t due.kind due.name) (sym (made p postings s)))
       ∙ was.content (it.within.stays.clean clean);
 }
+  where
+    s : Registry
+    s = mid.content.registry
 
--- what was posted is made
-pub all-posted : (p : PolicyRules) (t : ℕ) (postings : List Posting) (all : List Due) (old mid : BookState) → IsUnderWay p t postings [] all old mid → mid.is_clean ≡ true
-    → with_changes p (map posting_change postings) mid.content ≡ with_dues_lapsed p t all old.content
-all-posted p t postings all old mid was clean =
-    ap (λ (r : Registry). record mid.content { registry = r }) (made p postings mid.content.registry) ∙ was.content clean
+    o : Option Object
+    o = object_at s due.kind due.name
 
 -- ---- a settlement
 

@@ -3,7 +3,7 @@ ghost use Rattle.std.specs.Prelude.{◌≡◌, ◌++◌, ◌∷◌, [], true, ma
 ghost use Rattle.registry.specs.Lapsing as spec;
 ghost use Rattle.registry.specs.inner.Posting.{HasLapsed, lapse_changes, lapse_postings};
 ghost use Rattle.registry.specs.inner.Steps.{Does};
-ghost use Rattle.books.specs.Book.{BookMakes};
+ghost use Rattle.books.specs.Book.{BookMakes, BookMakesOf, with_changes};
 ghost use Rattle.decisions.specs.Changes.{posting_change};
 
 use crate::transaction::or_rollback;
@@ -35,10 +35,25 @@ pub(crate) fn lapse_each<B: Book>(
     for it in due.into_vec() {
         lapse_one(book, alloc, &it, moment, policy, &mut postings)?;
     }
+    post(book, alloc, postings, policy)
+}
+
+/// Posts this into accounts, by one call, or by none if it is nothing.
+fn post<B: Book>(
+    book: &mut B,
+    alloc: Global,
+    postings: Vec<Posting>,
+    policy: &Policy,
+) -> Result<(), BookFault>
+    requires { (B.state book.old).is_open ≡ true }
+    ensures { BookMakesOf result (with_changes policy.now (map posting_change postings.items))
+        (B.state book.old) (B.state book.new) }
+{
     if postings.is_empty() {
         return Ok(());
     }
-    let posts = or_rollback(book, posts_of(alloc, postings))?;
+    let posts = posts_of(alloc, postings);
+    let posts = or_rollback(book, posts)?;
     book.apply(posts, policy)
 }
 
