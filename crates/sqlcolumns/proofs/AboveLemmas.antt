@@ -1,11 +1,9 @@
--- A host lies below a domain of two labels exactly where these are its last two and it isn't the domain.
-use Rattle.std.proofs.Common.{◌≡◌, ℕ, ◌+◌, ◌-◌, ◌<◌, ◌≤◌, ◌==◌, nat_eq, nat_lt, eqb, Bool, true, false, cond, ◌&&◌, List, [], ◌∷◌, ◌++◌, drop, take, length, get_or, slice_index, refl, sym, ap, ◌∙◌, append_assoc, Bor, map, arith}
-use Rattle.std.specs.Cmp.Lexicographic.{pointwise}
+-- A host below a domain with a dot has the same name of two labels above it.
+use Rattle.std.proofs.Common.{◌≡◌, ℕ, ◌+◌, ◌-◌, ◌<◌, ◌≤◌, ◌==◌, nat_eq, nat_lt, eqb, Bool, true, false, cond, ◌&&◌, List, [], ◌∷◌, ◌++◌, drop, take, length, get_or, slice_index, refl, sym, ap, ◌∙◌, Bor, map, arith}
 use Rattle.std.specs.List.{count_by, ends_with, join_by, join_with_byte, onto_first}
-use Rattle.std.proofs.Math.Seq.{drop-append-add, get_or-append_seam}
+use Rattle.std.proofs.Math.Seq.{drop-append-add}
 use Rattle.std.proofs.lemmas.Bool.{and_parts, ltb-true}
 use Rattle.std.proofs.lemmas.Bool.Decides.{Decides-eqb}
-use Rattle.std.proofs.lemmas.Cmp.{nat_list_eq_equiv}
 use Rattle.std.proofs.lemmas.List.{append-nil, drop-map, drop_more, length-append, length-map, take-append-drop, take_rest}
 use Rattle.std.proofs.lemmas.List.Splits.{length-slice_split}
 use Rattle.std.proofs.lemmas.Slice.Eq.{bytes_eq-Decides}
@@ -14,26 +12,6 @@ use Rattle.sqlcolumns.specs.Above.{above, last_two, parts_between_dots}
 
 abbrev dot : ℕ → Bool
 dot b = eqb b 46
-
--- ---- below, as two texts with a dot between them
-
-module _ (lower domain : List ℕ) where
-  abbrev under : List ℕ
-  under = lower ++ 46 ∷ domain
-
-  long : length under ≡ length lower + (1 + length domain)
-  long = length-append lower (46 ∷ domain) ∙ omega arith
-
-  ends : ends_with nat_eq under domain ≡ true
-  ends =
-      ap (λ (n : ℕ). pointwise nat_eq domain (drop n under)) (let at : length under - length domain ≡ length lower + 1 = omega (arith, long) in at)
-      ∙ ap (pointwise nat_eq domain) (drop-append-add lower (46 ∷ domain) 1)
-      ∙ nat_list_eq_equiv.refl domain
-
-  dotted : (slice_index under (length under - length domain - 1) == 46) ≡ true
-  dotted =
-      ap (λ (n : ℕ). get_or under n 0 == 46) (let at : length under - length domain - 1 ≡ length lower = omega (arith, long) in at)
-      ∙ ap (λ (b : ℕ). b == 46) (get_or-append_seam lower 46 domain 0)
 
 -- what it is below
 front_of : (domain host : List ℕ) → is_below domain host ≡ true → (front : List ℕ) × (host ≡ front ++ 46 ∷ domain)
@@ -53,32 +31,17 @@ front_of domain host below =
 
 -- ---- labels
 
-split_some : (text : List ℕ) → (first : List ℕ) × (rest : List (List ℕ)) × (parts_between_dots text ≡ first ∷ rest)
-split_some [] = ([], [], refl)
-split_some (b ∷ bs) = by (dot b) (parts_between_dots bs)
-  where
-    onto : (pieces : List (List ℕ)) → (first : List ℕ) × (rest : List (List ℕ)) × (onto_first b pieces ≡ first ∷ rest)
-    onto [] = (b ∷ [], [], refl)
-    onto (p ∷ ps) = (b ∷ p, ps, refl)
-
-    by : (t : Bool) (pieces : List (List ℕ)) → (first : List ℕ) × (rest : List (List ℕ)) × (cond t ([] ∷ pieces) (onto_first b pieces) ≡ first ∷ rest)
-    by true pieces = ([], pieces, refl)
-    by false pieces = onto pieces
-
-onto_append : (b : ℕ) (xs ys : List (List ℕ)) (first : List ℕ) (rest : List (List ℕ)) → xs ≡ first ∷ rest → onto_first b (xs ++ ys) ≡ onto_first b xs ++ ys
-onto_append b xs ys first rest e = ap (λ (t : List (List ℕ)). onto_first b (t ++ ys)) e ∙ sym (ap (λ (t : List (List ℕ)). onto_first b t ++ ys) e)
-
-split_by : (b : ℕ) (t : Bool) (xs ys : List (List ℕ)) (first : List ℕ) (rest : List (List ℕ)) → xs ≡ first ∷ rest → cond t ([] ∷ (xs ++ ys)) (onto_first b (xs ++ ys)) ≡ cond t ([] ∷ xs) (onto_first b xs) ++ ys
-split_by b true xs ys first rest e = refl
-split_by b false xs ys first rest e = onto_append b xs ys first rest e
+split_by : (b : ℕ) (t : Bool) (xs ys : List (List ℕ)) (n : ℕ) → length xs ≡ n + 1 → cond t ([] ∷ (xs ++ ys)) (onto_first b (xs ++ ys)) ≡ cond t ([] ∷ xs) (onto_first b xs) ++ ys
+split_by b true xs ys n some = refl
+split_by b false [] ys n some = absurd (omega arith)
+split_by b false (x ∷ xs) ys n some = refl
 
 -- the labels on both sides of a dot
 labels_append : (front rest : List ℕ) → parts_between_dots (front ++ 46 ∷ rest) ≡ parts_between_dots front ++ parts_between_dots rest
 labels_append [] rest = refl
 labels_append (b ∷ bs) rest =
-    let some = split_some bs in
     ap (λ (t : List (List ℕ)). cond (dot b) ([] ∷ t) (onto_first b t)) (labels_append bs rest)
-    ∙ split_by b (dot b) (parts_between_dots bs) (parts_between_dots rest) some.0 some.1 some.2
+    ∙ split_by b (dot b) (parts_between_dots bs) (parts_between_dots rest) (count_by dot bs) (length-slice_split dot bs)
 
 last_of_more : (xs ys : List (List ℕ)) → 2 ≤ length ys → last_two (xs ++ ys) ≡ last_two ys
 last_of_more xs ys two =
@@ -93,12 +56,6 @@ same_above domain host dotted below =
     ap above front.1
     ∙ ap (λ (t : List (List ℕ)). join_with_byte 46 (last_two t)) (labels_append front.0 domain)
     ∙ ap (join_with_byte 46) (last_of_more (parts_between_dots front.0) (parts_between_dots domain) (omega (arith, length-slice_split dot domain)))
-
--- ---- back
-
-joined : (x : List ℕ) (xs : List (List ℕ)) (y : List ℕ) (ys : List (List ℕ)) → join_with_byte 46 ((x ∷ xs) ++ y ∷ ys) ≡ join_with_byte 46 (x ∷ xs) ++ 46 ∷ join_with_byte 46 (y ∷ ys)
-joined x [] y ys = refl
-joined x (z ∷ zs) y ys = ap (λ (t : List ℕ). x ++ 46 ∷ t) (joined z zs y ys) ∙ sym (append_assoc x (46 ∷ join_with_byte 46 (z ∷ zs)) (46 ∷ join_with_byte 46 (y ∷ ys)))
 
 -- ---- computed
 

@@ -1,5 +1,5 @@
 -- A host is read from its row.
-use Rattle.std.proofs.Common.{◌≡◌, ℕ, ℤ, List, true, cond, Option, Some, None, refl, sym, ap, ◌∙◌}
+use Rattle.std.proofs.Common.{◌≡◌, ℤ, cond, Option, Some, None, refl, sym, ap, ◌∙◌}
 use Rattle.std.specs.Str.{bytes_eq}
 use Rattle.std.proofs.lemmas.Slice.Eq.{bytes_eq-Decides}
 use Rattle.objects.specs.declared.host.Host.{Host}
@@ -8,15 +8,13 @@ use Rattle.sqltables.specs.declared.host.HostRow.{HostRow}
 use Rattle.sqlcolumns.specs.Above.{above}
 use Rattle.sqlcolumns.specs.inner.Hosts.{IsHost, host_row_with, row_of_host}
 use Rattle.sqlcolumns.specs.Hosts.{host_of_columns, host_with}
+use Rattle.sqlcolumns.specs.Numbers.{IsPlace, registrar_column, registrar_in}
 use Rattle.sqlcolumns.specs.Roids.{roid_columns}
 use Rattle.sqlcolumns.specs.Steps.{◌>>=◌}
-use Rattle.sqlcolumns.proofs.NumberLemmas.{maybe_moment_back, maybe_registrar_back, moment_back}
+use Rattle.sqlcolumns.proofs.NumberLemmas.{maybe_back, maybe_moment_back, moment_back, registrar_back}
 use Rattle.sqlcolumns.proofs.ReadLemmas.{passed, same_some, step}
 use Rattle.sqlcolumns.proofs.RoidLemmas.{roid_back}
 use Rattle.sqlcolumns.proofs.TextLemmas.{statuses_back}
-
-same_bytes : (text : List ℕ) → bytes_eq text text ≡ true
-same_bytes text = (bytes_eq-Decides text text).1 refl
 
 -- what was written is read back
 pub host_back : (id : ℤ) (sponsor : Option ℤ) (h : Host) (row : HostRow) → IsHost h → row_of_host id sponsor h ≡ Some row → host_of_columns row h.addresses ≡ Some h
@@ -26,10 +24,10 @@ host_back id sponsor h row is e =
     let same : written ≡ row = same_some written row roid.rest in
     sym (ap (λ (x : HostRow). host_of_columns x h.addresses) same)
     ∙ (λ i. (roid_back kinds.Host h.roid roid.given is.roid roid.is i >>= (λ x.
-    maybe_registrar_back h.external_sponsor is.external_sponsor i >>= (λ s.
+    maybe_back registrar_column registrar_in IsPlace registrar_back h.external_sponsor is.external_sponsor i >>= (λ s.
     moment_back h.created is.created i >>= (λ c.
     maybe_moment_back h.updated is.updated i >>= (λ u.
     Some (record { roid = x; external_sponsor = s; created = c; updated = u })))))) >>= (λ columns.
     statuses_back h.statuses i >>= (λ s.
     cond (bytes_eq (above h.name) (above h.name)) (Some (host_with written columns s h.addresses)) None)))
-    ∙ passed h (bytes_eq (above h.name) (above h.name)) (same_bytes (above h.name))
+    ∙ passed h (bytes_eq (above h.name) (above h.name)) ((bytes_eq-Decides (above h.name) (above h.name)).1 refl)

@@ -16,7 +16,7 @@ use Rattle.sqlcolumns.specs.Numbers.{exact_column, exact_in, moment_column, mome
 use Rattle.sqlcolumns.specs.Steps.{◌>>=◌}
 use Rattle.sqlcolumns.specs.Messages.{all_command_notices, all_lapse_notices, command_made, command_notice_column, command_notice_in, lapse_made, lapse_notice_column, lapse_notice_in, message_made, message_of_columns, origin_columns, origin_in, row_of_message}
 use Rattle.sqlcolumns.proofs.CodeLemmas.{code_written, subject_back, subject_written}
-use Rattle.sqlcolumns.proofs.NumberLemmas.{exact_back, exact_written, moment_back, moment_is, moment_written}
+use Rattle.sqlcolumns.proofs.NumberLemmas.{exact_back, exact_written, moment_back, moment_written}
 use Rattle.sqlcolumns.proofs.ReadLemmas.{same_some, step}
 
 -- ---- codes
@@ -91,32 +91,18 @@ message_back id account m row is e =
     sym (ap message_of_columns same)
     ∙ (λ i. message_made (moment_back m.moment is i) (origin_back m.origin o.given o.is i) (subject_back m.subject i) m.name)
 
-record IsRead (row : MessageRow) (m : Message) : Type 0 where
-  pub moment : moment_in_column row.moment ≡ Some m.moment
-  pub origin : origin_in (origin_of row) ≡ Some m.origin
-  pub subject : subject_in row.subject ≡ Some m.subject
-  pub name : row.name ≡ m.name
-
-is_read : (row : MessageRow) (m : Message) → message_of_columns row ≡ Some m → IsRead row m
-is_read row m e =
+-- what is read was written so
+pub message_written : (row : MessageRow) (m : Message) → message_of_columns row ≡ Some m → row_of_message row.id row.account m ≡ Some row
+message_written row m e =
     let moment = step (moment_in_column row.moment) _ m e in
     let origin = step (origin_in (origin_of row)) _ m moment.rest in
     let subject = step (subject_in row.subject) _ m origin.rest in
     let same : ◌≡◌ {A = Message} (record { moment = moment.given; origin = origin.given; name = row.name; subject = subject.given }) m = same_some _ _ subject.rest in
-    record {
-      moment = moment.is ∙ λ i. Some ((same i).moment);
-      origin = origin.is ∙ λ i. Some ((same i).origin);
-      subject = subject.is ∙ λ i. Some ((same i).subject);
-      name = λ i. (same i).name;
-    }
-
--- what is read was written so
-pub message_written : (row : MessageRow) (m : Message) → message_of_columns row ≡ Some m → row_of_message row.id row.account m ≡ Some row
-message_written row m e =
-    let read = is_read row m e in
-    (λ i. origin_written (origin_of row) m.origin read.origin i >>= (λ o. Some (row_with row.id row.account m o)))
-    ∙ (λ i. Some (record row { moment = moment_written row.moment m.moment read.moment i; name = sym read.name i; subject = subject_written row.subject m.subject read.subject i }))
-
--- and is of a moment
-pub message_is : (row : MessageRow) (m : Message) → message_of_columns row ≡ Some m → IsMoment m.moment
-message_is row m e = moment_is row.moment m.moment (is_read row m e).moment
+    sym (ap (row_of_message row.id row.account) same)
+    ∙ (λ i. origin_written (origin_of row) origin.given origin.is i >>= (λ o. Some (record row {
+      moment = moment_written row.moment moment.given moment.is i;
+      class = o.class;
+      number = o.number;
+      subject = subject_written row.subject subject.given subject.is i;
+      notice = o.notice;
+    })))

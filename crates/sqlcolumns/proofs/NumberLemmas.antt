@@ -1,15 +1,15 @@
 -- Numbers and moments are read from their columns, and from no others.
 use Rattle.std.proofs.Common.{◌≡◌, ℕ, ◌<◌, ◌^◌, ℤ, pos, negsuc, Bool, true, Option, Some, None, IfSome, FitsSigned, w64, nat_le, nat_lt, arith, refl, sym, ap, ◌∙◌}
-use Rattle.std.proofs.lemmas.Bool.{and_from, and_parts, leb-true, le-leb, ltb-true, lt-ltb}
+use Rattle.std.proofs.lemmas.Bool.{and_from, le-leb, ltb-true, lt-ltb}
 use Rattle.std.proofs.lemmas.Int.{ints, of_z-to_z, to_z-of_z}
 use Rattle.std.specs.Prelude.{option_map}
 use Rattle.calendar.specs.Moment.{IsMoment, is_moment}
-use Rattle.sqlcolumns.specs.Numbers.{IsPlace, counter_column, counter_in, exact_column, exact_in, fits_years_column, is_column, is_exact, is_place, maybe_moment_column, maybe_moment_in, maybe_registrar_column, maybe_registrar_in, moment_column, moment_in_column, natural_in, nullable_in, registrar_column, registrar_in, serial_in, years_column, years_in_column}
+use Rattle.sqlcolumns.specs.Numbers.{IsPlace, counter_column, counter_in, exact_column, exact_in, fits_years_column, is_column, is_exact, is_place, maybe_moment_column, maybe_moment_in, moment_column, moment_in_column, natural_in, nullable_in, registrar_column, registrar_in, serial_in, years_column, years_in_column}
 use Rattle.sqlcolumns.proofs.ReadLemmas.{kept, passed, same_some, some_read}
 
 -- ---- natural numbers
 
-natural_written : (among : ℕ → Bool) (c : ℤ) (n : ℕ) → natural_in among c ≡ Some n → (pos n ≡ c) × (among n ≡ true)
+pub natural_written : (among : ℕ → Bool) (c : ℤ) (n : ℕ) → natural_in among c ≡ Some n → (pos n ≡ c) × (among n ≡ true)
 natural_written among (pos m) n e =
     let is = kept m n (among m) e in
     (sym (ap pos is.1), sym (ap among is.1) ∙ is.0)
@@ -17,18 +17,9 @@ natural_written among (negsuc m) n e = cc
 
 -- ---- columns that may be NULL
 
-maybe_back : (column : ℕ → ℤ) (read : ℤ → Option ℕ) (Is : ℕ → Type 0) → ((n : ℕ) → Is n → read (column n) ≡ Some n) → (m : Option ℕ) → IfSome m Is → nullable_in read (option_map column m) ≡ Some m
+pub maybe_back : (column : ℕ → ℤ) (read : ℤ → Option ℕ) (Is : ℕ → Type 0) → ((n : ℕ) → Is n → read (column n) ≡ Some n) → (m : Option ℕ) → IfSome m Is → nullable_in read (option_map column m) ≡ Some m
 maybe_back column read Is back None is = refl
 maybe_back column read Is back (Some n) is = ap (option_map Some) (back n is)
-
-maybe_written : (column : ℕ → ℤ) (read : ℤ → Option ℕ) → ((c : ℤ) (n : ℕ) → read c ≡ Some n → column n ≡ c) → (c : Option ℤ) (m : Option ℕ) → nullable_in read c ≡ Some m → option_map column m ≡ c
-maybe_written column read written None m e = sym (ap (option_map column) (same_some None m e))
-maybe_written column read written (Some c) m e = some_read (read c) m (λ x. option_map column x ≡ Some c) (λ n is. ap Some (written c n is)) e
-
-maybe_is : (read : ℤ → Option ℕ) (Is : ℕ → Type 0) → ((c : ℤ) (n : ℕ) → read c ≡ Some n → Is n) → (c : Option ℤ) (m : Option ℕ) → nullable_in read c ≡ Some m → IfSome m Is
-maybe_is read Is each None None e = tt
-maybe_is read Is each None (Some n) e = cc
-maybe_is read Is each (Some c) m e = some_read (read c) m (λ x. IfSome x Is) (λ n is. each c n is) e
 
 -- ---- moments
 
@@ -39,19 +30,12 @@ moment_back m is =
 pub moment_written : (c : ℤ) (m : ℕ) → moment_in_column c ≡ Some m → moment_column m ≡ c
 moment_written c m e = (natural_written is_moment c m e).0
 
-pub moment_is : (c : ℤ) (m : ℕ) → moment_in_column c ≡ Some m → IsMoment m
-moment_is c m e =
-    let tests = and_parts (nat_le 946_684_800 m) (nat_le m 7_258_118_399) (natural_written is_moment c m e).1 in
-    (leb-true 946_684_800 m tests.0, leb-true m 7_258_118_399 tests.1)
-
 pub maybe_moment_back : (m : Option ℕ) → IfSome m IsMoment → maybe_moment_in (maybe_moment_column m) ≡ Some m
 maybe_moment_back m is = maybe_back moment_column moment_in_column IsMoment moment_back m is
 
 pub maybe_moment_written : (c : Option ℤ) (m : Option ℕ) → maybe_moment_in c ≡ Some m → maybe_moment_column m ≡ c
-maybe_moment_written c m e = maybe_written moment_column moment_in_column moment_written c m e
-
-pub maybe_moment_is : (c : Option ℤ) (m : Option ℕ) → maybe_moment_in c ≡ Some m → IfSome m IsMoment
-maybe_moment_is c m e = maybe_is moment_in_column IsMoment moment_is c m e
+maybe_moment_written None m e = sym (ap maybe_moment_column (same_some None m e))
+maybe_moment_written (Some c) m e = some_read (moment_in_column c) m (λ x. maybe_moment_column x ≡ Some c) (λ n is. ap Some (moment_written c n is)) e
 
 -- ---- registrars and years
 
@@ -62,22 +46,8 @@ registrar_back place is =
 pub registrar_written : (c : ℤ) (place : ℕ) → registrar_in c ≡ Some place → registrar_column place ≡ c
 registrar_written c place e = (natural_written is_place c place e).0
 
-pub registrar_is : (c : ℤ) (place : ℕ) → registrar_in c ≡ Some place → IsPlace place
-registrar_is c place e =
-    let tests = and_parts (nat_le 1 place) (nat_lt place 4_294_967_296) (natural_written is_place c place e).1 in
-    (leb-true 1 place tests.0, ltb-true place 4_294_967_296 tests.1)
-
-pub maybe_registrar_back : (place : Option ℕ) → IfSome place IsPlace → maybe_registrar_in (maybe_registrar_column place) ≡ Some place
-maybe_registrar_back place is = maybe_back registrar_column registrar_in IsPlace registrar_back place is
-
 pub years_back : (years : ℕ) → years < 2 ^ 32 → years_in_column (years_column years) ≡ Some years
 years_back years small = passed years (fits_years_column years) (lt-ltb years 4_294_967_296 small)
-
-pub years_written : (c : ℤ) (years : ℕ) → years_in_column c ≡ Some years → years_column years ≡ c
-years_written c years e = (natural_written fits_years_column c years e).0
-
-pub years_are : (c : ℤ) (years : ℕ) → years_in_column c ≡ Some years → years < 2 ^ 32
-years_are c years e = ltb-true years 4_294_967_296 (natural_written fits_years_column c years e).1
 
 -- ---- numbers as themselves
 
@@ -93,12 +63,6 @@ exact_written c n e =
 
 -- ---- counters
 
-pub counter_back : (n : ℕ) → n < 2 ^ 64 → counter_in (counter_column n) ≡ n
-counter_back n small = of_z-to_z w64 n small
-
-pub counter_written : (c : ℤ) → FitsSigned w64 c → counter_column (counter_in c) ≡ c
-counter_written c fits = to_z-of_z w64 c fits
-
 fits_column : (c : ℤ) → FitsSigned w64 c → is_column c ≡ true
 fits_column (pos n) fits = lt-ltb n 9_223_372_036_854_775_808 fits.sfits
 fits_column (negsuc n) fits = lt-ltb n 9_223_372_036_854_775_808 fits.sfits
@@ -107,24 +71,11 @@ column_fits : (c : ℤ) → is_column c ≡ true → FitsSigned w64 c
 column_fits (pos n) e = record { sfits = ltb-true n 9_223_372_036_854_775_808 e }
 column_fits (negsuc n) e = record { sfits = ltb-true n 9_223_372_036_854_775_808 e }
 
-counter_fits : (n : ℕ) → n < 2 ^ 64 → FitsSigned w64 (counter_column n)
-counter_fits n small = omega (arith, ints)
-
 pub serial_back : (n : ℕ) → n < 2 ^ 64 → serial_in (counter_column n) ≡ Some n
 serial_back n small =
-    passed (counter_in (counter_column n)) (is_column (counter_column n)) (fits_column (counter_column n) (counter_fits n small)) ∙ ap Some (counter_back n small)
+    passed (counter_in (counter_column n)) (is_column (counter_column n)) (fits_column (counter_column n) (omega (arith, ints))) ∙ ap Some (of_z-to_z w64 n small)
 
 pub serial_written : (c : ℤ) (n : ℕ) → serial_in c ≡ Some n → counter_column n ≡ c
 serial_written c n e =
     let is = kept (counter_in c) n (is_column c) e in
-    sym (ap counter_column is.1) ∙ counter_written c (column_fits c is.0)
-
-counter_small : (c : ℤ) → FitsSigned w64 c → counter_in c < 2 ^ 64
-counter_small (pos n) fits = omega (arith, fits.sfits)
-counter_small (negsuc n) fits = omega (arith, fits.sfits)
-
-pub serial_is : (c : ℤ) (n : ℕ) → serial_in c ≡ Some n → n < 2 ^ 64
-serial_is c n e =
-    let is = kept (counter_in c) n (is_column c) e in
-    let small : counter_in c < 2 ^ 64 = counter_small c (column_fits c is.0) in
-    omega (arith, small, is.1)
+    sym (ap counter_column is.1) ∙ to_z-of_z w64 c (column_fits c is.0)

@@ -1,5 +1,5 @@
 -- What was read by steps was read by each.
-use Rattle.std.proofs.Common.{◌≡◌, Bool, true, false, cond, Option, Some, None, IfSome, refl, ap}
+use Rattle.std.proofs.Common.{◌≡◌, Bool, true, false, cond, List, [], ◌∷◌, find, Option, Some, None, IfSome, refl, sym, ap, ◌∙◌}
 use Rattle.std.specs.Prelude.{option_map}
 use Rattle.sqlcolumns.specs.Steps.{◌>>=◌}
 
@@ -12,13 +12,8 @@ pub step : {A B : Type 0} (o : Option A) (f : A → Option B) (b : B) → (o >>=
 step None f b e = cc
 step (Some a) f b e = record { given = a; is = refl; rest = e }
 
-some_or : {A : Type 0} → A → Option A → A
-some_or other None = other
-some_or other (Some a) = a
-
 pub same_some : {A : Type 0} (a b : A) → Some a ≡ Some b → a ≡ b
-unfolding some_or
-same_some a b e = ap (some_or a) e
+same_some a b e = cc
 
 -- and what holds of this, however it is read, holds of all
 pub all_read : {X : Type 0} (P : X → Type 0) (read : Option X) → ((x : X) → read ≡ Some x → P x) → IfSome read P
@@ -38,3 +33,12 @@ kept x y false e = cc
 
 pub passed : {X : Type 0} (x : X) (b : Bool) → b ≡ true → cond b (Some x) None ≡ Some x
 passed x b e = ap (λ t. cond t (Some x) None) e
+
+found_by : {K : Type 0} (test : K → Bool) (x k : K) (rest : Option K) (b : Bool) → test x ≡ b → (rest ≡ Some k → test k ≡ true) → cond b (Some x) rest ≡ Some k → test k ≡ true
+found_by test x k rest true is there e = sym (ap test (same_some x k e)) ∙ is
+found_by test x k rest false is there e = there e
+
+-- what is found passes the test
+pub found_passes : {K : Type 0} (test : K → Bool) (all : List K) (k : K) → find test all ≡ Some k → test k ≡ true
+found_passes test [] k e = cc
+found_passes test (x ∷ xs) k e = found_by test x k (find test xs) (test x) refl (found_passes test xs k) e

@@ -1,44 +1,24 @@
 -- ROIDs are read from their columns, and from no others.
-use Rattle.std.proofs.Common.{◌≡◌, ℕ, zero, suc, ℤ, true, Some, refl, sym, ap, ◌∙◌}
+use Rattle.std.proofs.Common.{arith, ◌≡◌, ℤ, true, Some, refl, sym, ap, ◌∙◌}
 use Rattle.std.proofs.lemmas.Bool.Decides.{Decides-eqb}
 use Rattle.objects.specs.declared.roid.ObjectKind.{ObjectKind}
-use Rattle.objects.specs.declared.roid.ObjectKind.TheVariants.{Contact, Domain, Host}
 use Rattle.objects.specs.declared.roid.Roid.{Roid}
 use Rattle.accounts.specs.Lines.{object_rank}
 use Rattle.sqlcolumns.specs.declared.roid.RoidColumns.{RoidColumns}
 use Rattle.sqlcolumns.specs.Numbers.{counter_column, registrar_column, registrar_in, serial_in}
 use Rattle.sqlcolumns.specs.Roids.{IsRoid, is_object_kind, roid_columns, roid_in}
 use Rattle.sqlcolumns.specs.Steps.{◌>>=◌}
-use Rattle.sqlcolumns.proofs.NumberLemmas.{registrar_back, registrar_is, registrar_written, serial_back, serial_is, serial_written}
+use Rattle.sqlcolumns.proofs.NumberLemmas.{registrar_back, registrar_written, serial_back, serial_written}
 use Rattle.sqlcolumns.proofs.ReadLemmas.{kept, passed, same_some, step}
 
-kind_of : ℕ → ObjectKind
-kind_of zero = Contact
-kind_of (suc zero) = Domain
-kind_of (suc (suc n)) = Host
-
-kind_back : (kind : ObjectKind) → kind_of (object_rank kind) ≡ kind
-unfolding kind_of
-kind_back Contact = refl
-kind_back Domain = refl
-kind_back Host = refl
-
 same_kind : (a b : ObjectKind) → is_object_kind a b ≡ true → a ≡ b
-same_kind a b e = sym (kind_back a) ∙ ap kind_of ((Decides-eqb (object_rank a) (object_rank b)).0 e) ∙ kind_back b
-
-is_itself : (kind : ObjectKind) → is_object_kind kind kind ≡ true
-is_itself kind = (Decides-eqb (object_rank kind) (object_rank kind)).1 refl
-
--- what is written has this kind
-pub of_kind : (kind : ObjectKind) (roid : Roid) (columns : RoidColumns) → roid_columns kind roid ≡ Some columns → roid.kind ≡ kind
-of_kind kind roid columns e = same_kind roid.kind kind (kept (record { creator = registrar_column roid.creator; serial = counter_column roid.serial }) columns (is_object_kind roid.kind kind) e).0
+same_kind a b e = grind arith
 
 pub roid_back : (kind : ObjectKind) (roid : Roid) (columns : RoidColumns) → IsRoid roid → roid_columns kind roid ≡ Some columns → roid_in kind columns.creator columns.serial ≡ Some roid
 roid_back kind roid columns is e =
-    let written : RoidColumns = record { creator = registrar_column roid.creator; serial = counter_column roid.serial } in
-    let same = (kept written columns (is_object_kind roid.kind kind) e).1 in
-    let there : roid_in kind written.creator written.serial ≡ Some (record roid { kind = kind }) = λ i. registrar_back roid.creator is.creator i >>= (λ p. serial_back roid.serial is.serial i >>= (λ n. Some (record { kind = kind; creator = p; serial = n }))) in
-    sym (λ i. roid_in kind (same i).creator (same i).serial) ∙ there ∙ sym (λ i. Some (record roid { kind = of_kind kind roid columns e i }))
+    let test = kept (record { creator = registrar_column roid.creator; serial = counter_column roid.serial }) columns (is_object_kind roid.kind kind) e in
+    sym (λ i. roid_in kind (test.1 i).creator (test.1 i).serial)
+    ∙ (λ i. registrar_back roid.creator is.creator i >>= (λ p. serial_back roid.serial is.serial i >>= (λ n. Some (record { kind = sym (same_kind roid.kind kind test.0) i; creator = p; serial = n }))))
 
 -- the parts of what is read
 pub record RoidRead (kind : ObjectKind) (creator serial : ℤ) (roid : Roid) : Type 0 where
@@ -61,10 +41,5 @@ pub roid_written : (kind : ObjectKind) (creator serial : ℤ) (roid : Roid) → 
 roid_written kind creator serial roid e =
     let read = roid_read kind creator serial roid e in
     ap (λ k. roid_columns k roid) read.kind_is
-    ∙ passed (record { creator = registrar_column roid.creator; serial = counter_column roid.serial }) (is_object_kind roid.kind roid.kind) (is_itself roid.kind)
+    ∙ passed (record { creator = registrar_column roid.creator; serial = counter_column roid.serial }) (is_object_kind roid.kind roid.kind) ((Decides-eqb (object_rank roid.kind) (object_rank roid.kind)).1 refl)
     ∙ (λ i. Some (record { creator = registrar_written creator roid.creator read.creator_is i; serial = serial_written serial roid.serial read.serial_is i }))
-
-pub roid_is : (kind : ObjectKind) (creator serial : ℤ) (roid : Roid) → roid_in kind creator serial ≡ Some roid → IsRoid roid
-roid_is kind creator serial roid e =
-    let read = roid_read kind creator serial roid e in
-    record { creator = registrar_is creator roid.creator read.creator_is; serial = serial_is serial roid.serial read.serial_is }

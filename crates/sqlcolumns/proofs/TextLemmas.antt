@@ -1,19 +1,18 @@
 -- Lists are read from their texts.
-use Rattle.std.proofs.Common.{◌≡◌, ℕ, eqb, Bool, true, false, cond, ◌||◌, List, [], ◌∷◌, ◌++◌, map, find, length, get_or, ◌<◌, Bor, subst, ap₂, arith, Option, Some, None, IfSome, Result, Ok, Err, IfOk, refl, sym, ap, ◌∙◌, append_assoc}
-use Rattle.std.proofs.lemmas.Bool.{false≢true}
+use Rattle.std.proofs.Common.{rules, ◌≡◌, ℕ, zero, suc, eqb, Bool, true, false, cond, ◌||◌, List, [], ◌∷◌, ◌++◌, map, length, get_or, ◌+◌, ◌<◌, Bor, ap₂, arith, Option, Some, None, IfSome, Result, Ok, Err, IfOk, refl, sym, ap, ◌∙◌, append_assoc}
+use Rattle.std.proofs.lemmas.Bool.{or_parts}
 use Rattle.std.proofs.lemmas.Bool.Decides.{Decides-eqb}
 use Rattle.std.proofs.lemmas.Slice.Eq.{bytes_eq-Decides}
 use Rattle.std.specs.Str.{bytes_eq}
-use Rattle.std.specs.List.{join_with_byte, list_any, onto_first, slice_split}
-use Rattle.std.proofs.lemmas.List.{get_or-map, length-map, map-append}
-use Rattle.std.proofs.lemmas.List.Splits.{join_with_byte-slice_split}
+use Rattle.std.specs.List.{count_by, join_with_byte, list_any, onto_first, slice_split}
+use Rattle.std.proofs.lemmas.List.{map-append}
+use Rattle.std.proofs.lemmas.List.Splits.{join_with_byte-slice_split, length-slice_split, slice_split-cons_no, slice_split-cons_yes}
 use Rattle.objects.specs.StatusTexts.{status_named, status_text}
 use Rattle.objects.specs.declared.status.Status.{Status}
-use Rattle.objects.specs.declared.status.Status.TheVariants.{ClientDeleteProhibited, ClientHold, ClientRenewProhibited, ClientTransferProhibited, ClientUpdateProhibited, Inactive, Linked, Fine, PendingDelete, PendingTransfer, ServerDeleteProhibited, ServerHold, ServerRenewProhibited, ServerTransferProhibited, ServerUpdateProhibited}
 use Rattle.objects.specs.Statuses.{all_statuses}
 use Rattle.sqlcolumns.specs.Steps.{◌>>=◌}
 use Rattle.sqlcolumns.specs.Texts.{after_each, has_feed, statuses_column, statuses_in, statuses_named, street_column, street_in}
-use Rattle.sqlcolumns.proofs.ReadLemmas.{all_read, same_some, step}
+use Rattle.sqlcolumns.proofs.ReadLemmas.{all_read, found_passes, same_some, step}
 
 -- ---- written
 
@@ -47,36 +46,26 @@ street_joined lines x rest e free =
 abbrev is : ℕ → ℕ → Bool
 is c b = eqb b c
 
-is-itself : (c : ℕ) → is c c ≡ true
-is-itself c = (Decides-eqb c c).1 refl
-
-or-false : (a b : Bool) → (a || b) ≡ false → (a ≡ false) × (b ≡ false)
-or-false true b e = absurd (false≢true (sym e))
-or-false false b e = (refl, e)
-
 abbrev IsFree : ℕ → List ℕ → Type 0
 IsFree c text = list_any (is c) text ≡ false
 
-split-cons : (c b : ℕ) (bs : List ℕ) → is c b ≡ false → slice_split (is c) (b ∷ bs) ≡ onto_first b (slice_split (is c) bs)
-split-cons c b bs e = ap (λ t. cond t ([] ∷ slice_split (is c) bs) (onto_first b (slice_split (is c) bs))) e
-
 split-first : (c : ℕ) (piece rest : List ℕ) → IsFree c piece → slice_split (is c) (piece ++ c ∷ rest) ≡ piece ∷ slice_split (is c) rest
-split-first c [] rest free = ap (λ t. cond t ([] ∷ slice_split (is c) rest) (onto_first c (slice_split (is c) rest))) (is-itself c)
+split-first c [] rest free = slice_split-cons_yes (is c) c rest ((Decides-eqb c c).1 refl)
 split-first c (b ∷ bs) rest free =
-    let both = or-false (is c b) (list_any (is c) bs) free in
-    split-cons c b (bs ++ c ∷ rest) both.0 ∙ ap (onto_first b) (split-first c bs rest both.1)
+    let both = or_parts (is c b) (list_any (is c) bs) free in
+    slice_split-cons_no (is c) b (bs ++ c ∷ rest) both.0 ∙ ap (onto_first b) (split-first c bs rest both.1)
 
 split-last : (c : ℕ) (piece : List ℕ) → IsFree c piece → slice_split (is c) piece ≡ piece ∷ []
 split-last c [] free = refl
 split-last c (b ∷ bs) free =
-    let both = or-false (is c b) (list_any (is c) bs) free in
-    split-cons c b bs both.0 ∙ ap (onto_first b) (split-last c bs both.1)
+    let both = or_parts (is c b) (list_any (is c) bs) free in
+    slice_split-cons_no (is c) b bs both.0 ∙ ap (onto_first b) (split-last c bs both.1)
 
 -- pieces without the byte are the pieces of their text
 split-joined : (c : ℕ) (x : List ℕ) (xs : List (List ℕ)) → list_any (list_any (is c)) (x ∷ xs) ≡ false → slice_split (is c) (join_with_byte c (x ∷ xs)) ≡ x ∷ xs
-split-joined c x [] free = split-last c x (or-false (list_any (is c) x) false free).0
+split-joined c x [] free = split-last c x (or_parts (list_any (is c) x) false free).0
 split-joined c x (y ∷ ys) free =
-    let both = or-false (list_any (is c) x) (list_any (list_any (is c)) (y ∷ ys)) free in
+    let both = or_parts (list_any (is c) x) (list_any (list_any (is c)) (y ∷ ys)) free in
     split-first c x (join_with_byte c (y ∷ ys)) both.0 ∙ ap (λ rest. x ∷ rest) (split-joined c y ys both.1)
 
 -- ---- streets
@@ -105,71 +94,22 @@ pieces-free : (c : ℕ) (text : List ℕ) → list_any (list_any (is c)) (slice_
 pieces-free c [] = refl
 pieces-free c (b ∷ bs) = pieces_by c b (slice_split (is c) bs) (is c b) refl (pieces-free c bs)
 
-street_of : (text : List ℕ) (pieces : List (List ℕ)) → list_any has_feed pieces ≡ false → join_with_byte 10 pieces ≡ text → (first : List ℕ) → (rest : List (List ℕ)) → pieces ≡ first ∷ rest → street_column pieces ≡ Some text
-street_of text pieces free same first rest e =
-    ap street_column e ∙ ap (λ t. cond t None (Some (join_with_byte 10 (first ∷ rest)))) (sym (ap (list_any has_feed) e) ∙ free) ∙ ap (λ ps. Some (join_with_byte 10 ps)) (sym e) ∙ ap Some same
-
-onto_some : (b : ℕ) (pieces : List (List ℕ)) → (first : List ℕ) × (rest : List (List ℕ)) × (onto_first b pieces ≡ first ∷ rest)
-onto_some b [] = (b ∷ [], [], refl)
-onto_some b (p ∷ ps) = (b ∷ p, ps, refl)
-
-split_by : (c b : ℕ) (pieces : List (List ℕ)) (t : Bool) → (first : List ℕ) × (rest : List (List ℕ)) × (cond t ([] ∷ pieces) (onto_first b pieces) ≡ first ∷ rest)
-split_by c b pieces true = ([], pieces, refl)
-split_by c b pieces false = onto_some b pieces
-
-split_some : (c : ℕ) (text : List ℕ) → (first : List ℕ) × (rest : List (List ℕ)) × (slice_split (is c) text ≡ first ∷ rest)
-split_some c [] = ([], [], refl)
-split_some c (b ∷ bs) = split_by c b (slice_split (is c) bs) (is c b)
+street_of : (text : List ℕ) (pieces : List (List ℕ)) (n : ℕ) → length pieces ≡ n + 1 → list_any has_feed pieces ≡ false → join_with_byte 10 pieces ≡ text → street_column pieces ≡ Some text
+street_of text [] n some free same = absurd (omega arith)
+street_of text (p ∷ ps) n some free same = ap (λ t. cond t None (Some (join_with_byte 10 (p ∷ ps)))) free ∙ ap Some same
 
 -- what is read was written so
 pub street_written : (text : List ℕ) → street_column (street_in text) ≡ Some text
 street_written text =
-    let some = split_some 10 text in
-    street_of text (slice_split (is 10) text) (pieces-free 10 text) (join_with_byte-slice_split 10 text) some.0 some.1 some.2
-
-pub street_found : {E : Type 0} (text : List ℕ) (read : Result (List (List ℕ)) E) → IfOk read (λ lines. lines ≡ street_in text) → IfOk read (λ lines. street_column lines ≡ Some text)
-street_found text (Ok lines) e = ap street_column e ∙ street_written text
-street_found text (Err failed) e = tt
-
-pub street_only : {E : Type 0} (text : List ℕ) (read : Result (List (List ℕ)) E) → IfOk read (λ lines. lines ≡ street_in text) → IfOk read (λ lines. (xs : List (List ℕ)) → street_column xs ≡ Some text → lines ≡ xs)
-street_only text (Ok lines) e = λ xs is_column. e ∙ street_back xs text is_column
-street_only text (Err failed) e = tt
+    street_of text (slice_split (is 10) text) (count_by (is 10) text) (length-slice_split (is 10) text) (pieces-free 10 text) (join_with_byte-slice_split 10 text)
 
 -- ---- statuses
 
 status_free : (s : Status) → IsFree 32 (status_text s)
-status_free ClientDeleteProhibited = refl
-status_free ClientHold = refl
-status_free ClientRenewProhibited = refl
-status_free ClientTransferProhibited = refl
-status_free ClientUpdateProhibited = refl
-status_free Inactive = refl
-status_free Linked = refl
-status_free Fine = refl
-status_free PendingDelete = refl
-status_free PendingTransfer = refl
-status_free ServerDeleteProhibited = refl
-status_free ServerHold = refl
-status_free ServerRenewProhibited = refl
-status_free ServerTransferProhibited = refl
-status_free ServerUpdateProhibited = refl
+status_free s = search rules
 
 status_back : (s : Status) → status_named (status_text s) ≡ Some s
-status_back ClientDeleteProhibited = refl
-status_back ClientHold = refl
-status_back ClientRenewProhibited = refl
-status_back ClientTransferProhibited = refl
-status_back ClientUpdateProhibited = refl
-status_back Inactive = refl
-status_back Linked = refl
-status_back Fine = refl
-status_back PendingDelete = refl
-status_back PendingTransfer = refl
-status_back ServerDeleteProhibited = refl
-status_back ServerHold = refl
-status_back ServerRenewProhibited = refl
-status_back ServerTransferProhibited = refl
-status_back ServerUpdateProhibited = refl
+status_back s = search rules
 
 words-free : (xs : List Status) → list_any (list_any (is 32)) (map status_text xs) ≡ false
 words-free [] = refl
@@ -178,24 +118,8 @@ words-free (x ∷ xs) = ap (λ t. t || list_any (list_any (is 32)) (map status_t
 statuses_split : (text : List ℕ) (x : Status) (xs : List Status) → text ≡ statuses_column (x ∷ xs) → slice_split (is 32) text ≡ map status_text (x ∷ xs)
 statuses_split text x xs e = ap (slice_split (is 32)) e ∙ split-joined 32 (status_text x) (map status_text xs) (words-free (x ∷ xs))
 
-at_test : (P : Status → Type 0) (s : Status) (rest : Option Status) (b : Bool) → (b ≡ true → P s) → IfSome rest P → IfSome (cond b (Some s) rest) P
-at_test P s rest true here there = here refl
-at_test P s rest false here there = there
-
-status_among : (word : List ℕ) (all : List Status) → IfSome (find (λ s. bytes_eq (status_text s) word) all) (λ s. word ≡ status_text s)
-status_among word [] = tt
-status_among word (s ∷ ss) =
-    at_test (λ s. word ≡ status_text s) s (find (λ s. bytes_eq (status_text s) word) ss) (bytes_eq (status_text s) word) (λ e. sym ((bytes_eq-Decides (status_text s) word).0 e)) (status_among word ss)
-
-pub status_has : (word : List ℕ) → IfSome (status_named word) (λ s. word ≡ status_text s)
-status_has word = status_among word all_statuses
-
-first_of : List (List ℕ) → List ℕ
-first_of [] = []
-first_of (piece ∷ pieces) = piece
-
-pub status_word : (word : List ℕ) (s : Status) → Some s ≡ status_named word → word ≡ status_text s
-status_word word s e = let P : Option Status → Type 0 = λ read. IfSome read (λ s. word ≡ status_text s) in subst P (sym e) (status_has word)
+status_word : (word : List ℕ) (s : Status) → status_named word ≡ Some s → word ≡ status_text s
+status_word word s e = sym ((bytes_eq-Decides (status_text s) word).0 (found_passes (λ x. bytes_eq (status_text x) word) all_statuses s e))
 
 texts_named : (xs : List Status) → statuses_named (map status_text xs) ≡ Some xs
 texts_named [] = refl
@@ -206,21 +130,15 @@ words_of [] xs e = ap (map status_text) (same_some [] xs e)
 words_of (word ∷ words) xs e =
     let first = step (status_named word) (λ s. statuses_named words >>= (λ ss. Some (s ∷ ss))) xs e in
     let others = step (statuses_named words) (λ ss. Some (first.given ∷ ss)) xs first.rest in
-    ap₂ ◌∷◌ (status_word word first.given (sym first.is)) (words_of words others.given others.is)
+    ap₂ ◌∷◌ (status_word word first.given first.is) (words_of words others.given others.is)
     ∙ ap (map status_text) (same_some (first.given ∷ others.given) xs others.rest)
 
--- an empty text is that of no status
-empty_only : (text : List ℕ) (xs : List Status) → eqb (length text) 0 ≡ true → text ≡ statuses_column xs → xs ≡ []
-unfolding first_of
-empty_only text [] short e = refl
-empty_only [] (x ∷ xs) short e =
-    let head : [] ≡ status_text x = ap first_of (statuses_split [] x xs e) in
-    let none : None ≡ Some x = ap status_named head ∙ status_back x in
-    cc
-empty_only (b ∷ bs) (x ∷ xs) short e = let zero : length (b ∷ bs) ≡ 0 = (Decides-eqb (length (b ∷ bs)) 0).0 short in absurd (omega arith)
-
 back_by : (text : List ℕ) (x : Status) (xs : List Status) → statuses_column (x ∷ xs) ≡ text → statuses_in text ≡ Some (x ∷ xs)
-back_by [] x xs e = let none : x ∷ xs ≡ [] = empty_only [] (x ∷ xs) refl (sym e) in cc
+back_by [] x xs e =
+    let split : [] ∷ [] ≡ status_text x ∷ map status_text xs = statuses_split [] x xs (sym e) in
+    let word : [] ≡ status_text x = cc in
+    let none : None ≡ Some x = ap status_named word ∙ status_back x in
+    cc
 back_by (b ∷ bs) x xs e = ap statuses_named (statuses_split (b ∷ bs) x xs (sym e)) ∙ texts_named (x ∷ xs)
 
 -- what was written is read back
@@ -248,35 +166,27 @@ pub empty_in : (text : List ℕ) → eqb (length text) 0 ≡ true → Some [] �
 empty_in [] short = refl
 empty_in (b ∷ bs) short = let zero : length (b ∷ bs) ≡ 0 = (Decides-eqb (length (b ∷ bs)) 0).0 short in absurd (omega arith)
 
-filled_in : (text : List ℕ) → eqb (length text) 0 ≡ false → statuses_named (slice_split (is 32) text) ≡ statuses_in text
+pub filled_in : (text : List ℕ) → eqb (length text) 0 ≡ false → statuses_named (slice_split (is 32) text) ≡ statuses_in text
 filled_in [] long = cc
 filled_in (b ∷ bs) long = refl
-
-pub named_in : {E : Type 0} (text : List ℕ) → eqb (length text) 0 ≡ false → (named : Result (Option (List Status)) E) → IfOk named (λ r. r ≡ statuses_named (slice_split (λ b. eqb b 32) text)) → IfOk named (λ r. r ≡ statuses_in text)
-named_in text long (Ok r) e = e ∙ filled_in text long
-named_in text long (Err failed) e = tt
 
 -- the texts so far, and one more
 pub named_more : (words : List (Bor (List ℕ))) (word : Bor (List ℕ)) (statuses : List Status) (s : Status) → map status_text statuses ≡ map (λ w. w.now) words → Some s ≡ status_named word.now → map status_text (statuses ++ s ∷ []) ≡ map (λ w. w.now) (words ++ word ∷ [])
 named_more words word statuses s e named =
-    map-append status_text statuses (s ∷ []) ∙ ap₂ ◌++◌ e (ap (λ t. t ∷ []) (sym (status_word word.now s named))) ∙ sym (map-append (λ (w : Bor (List ℕ)). w.now) words (word ∷ []))
+    map-append status_text statuses (s ∷ []) ∙ ap₂ ◌++◌ e (ap (λ t. t ∷ []) (sym (status_word word.now s (sym named)))) ∙ sym (map-append (λ (w : Bor (List ℕ)). w.now) words (word ∷ []))
 
--- each of the words names a status
-no_status : (words : List (List ℕ)) (xs : List Status) → words ≡ map status_text xs → (word : List ℕ) (i : ℕ) → (i < length words) × (word ≡ get_or words i word) → None ≡ status_named word → ⊥
-no_status words xs e word i at none =
-    let short : i < length xs = omega (arith, at.0, ap length e, length-map xs status_text) in
-    let s : Status = get_or xs i Fine in
-    let is_text : word ≡ status_text s = at.1 ∙ ap (λ ws. get_or ws i word) e ∙ get_or-map status_text xs i Fine word short in
-    let no : None ≡ Some s = none ∙ ap status_named is_text ∙ status_back s in
-    cc
-
-none_by : (words : List (List ℕ)) (word : List ℕ) (i : ℕ) → (i < length words) × (word ≡ get_or words i word) → None ≡ status_named word → (read : Option (List Status)) → statuses_named words ≡ read → None ≡ read
-none_by words word i at none None e = refl
-none_by words word i at none (Some xs) e = absurd (no_status words xs (words_of words xs e) word i at none)
+none_after : (o : Option Status) → ◌≡◌ {A = Option (List Status)} None (o >>= (λ s. None))
+none_after None = refl
+none_after (Some s) = refl
 
 -- where one names none, they are no list's
 pub none_named : (words : List (List ℕ)) (word : List ℕ) (i : ℕ) → (i < length words) × (word ≡ get_or words i word) → None ≡ status_named word → None ≡ statuses_named words
-none_named words word i at none = none_by words word i at none (statuses_named words) refl
+none_named [] word i at none = let within : i < 0 = at.0 in absurd (omega arith)
+none_named (w ∷ ws) word zero at none = ap (λ (o : Option Status). o >>= (λ s. statuses_named ws >>= (λ ss. Some (s ∷ ss)))) (none ∙ ap status_named at.1)
+none_named (w ∷ ws) word (suc i) at none =
+    let within : suc i < suc (length ws) = at.0 in
+    none_after (status_named w)
+    ∙ ap (λ (o : Option (List Status)). status_named w >>= (λ s. o >>= (λ ss. Some (s ∷ ss)))) (none_named ws word i ((omega arith), at.1) none)
 
 -- where they are the texts of statuses, they name these
 pub all_named : (words : List (List ℕ)) (xs : List Status) → map status_text xs ≡ words → Some xs ≡ statuses_named words

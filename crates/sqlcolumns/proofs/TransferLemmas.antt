@@ -4,11 +4,11 @@ use Rattle.std.proofs.lemmas.Bool.{false≢true}
 use Rattle.std.proofs.lemmas.Bool.Decides.{Decides-int_eq}
 use Rattle.objects.specs.declared.transfer.Transfer.{Transfer}
 use Rattle.sqltables.specs.declared.transfer.TransferRow.{TransferRow}
-use Rattle.sqlcolumns.specs.Codes.{state_in}
+use Rattle.sqlcolumns.specs.Codes.{all_transfer_states, state_column, state_in}
 use Rattle.sqlcolumns.specs.Numbers.{moment_in_column, registrar_in}
 use Rattle.sqlcolumns.specs.Transfers.{IsStorableTransfer, due_column, is_same, row_of_transfer, transfer_due_at, transfer_made, transfer_of_columns}
-use Rattle.sqlcolumns.proofs.CodeLemmas.{state_back, state_written}
-use Rattle.sqlcolumns.proofs.NumberLemmas.{moment_back, moment_is, moment_written, registrar_back, registrar_is, registrar_written}
+use Rattle.sqlcolumns.proofs.CodeLemmas.{code_written, state_back}
+use Rattle.sqlcolumns.proofs.NumberLemmas.{moment_back, moment_written, registrar_back, registrar_written}
 use Rattle.sqlcolumns.proofs.ReadLemmas.{kept, passed, same_some, step}
 
 -- ---- when it is due
@@ -36,16 +36,9 @@ transfer_back id contact domain t is =
     (state_back t.state i)) (due_column t))
     ∙ passed t (is_same (due_column t) (due_column t)) (same_as_itself (due_column t))
 
-record IsRead (row : TransferRow) (t : Transfer) : Type 0 where
-  pub requester : registrar_in row.requester ≡ Some t.requester
-  pub losing_registrar : registrar_in row.losing ≡ Some t.losing_registrar
-  pub requested : moment_in_column row.requested ≡ Some t.requested
-  pub ac_date : moment_in_column row.ac_date ≡ Some t.ac_date
-  pub state : state_in row.state ≡ Some t.state
-  pub due : due_column t ≡ row.due
-
-is_read : (row : TransferRow) (t : Transfer) → transfer_of_columns row ≡ Some t → IsRead row t
-is_read row t e =
+-- what is read was written so
+pub transfer_written : (row : TransferRow) (t : Transfer) → transfer_of_columns row ≡ Some t → row_of_transfer row.id row.contact row.domain t ≡ row
+transfer_written row t e =
     let made : Option Transfer = transfer_made (registrar_in row.requester) (registrar_in row.losing) (moment_in_column row.requested) (moment_in_column row.ac_date) (state_in row.state) in
     let dated = step made (λ x. cond (is_same (due_column x) row.due) (Some x) None) t e in
     let due = kept dated.given t (is_same (due_column dated.given) row.due) dated.rest in
@@ -54,36 +47,13 @@ is_read row t e =
     let requested = step (moment_in_column row.requested) _ dated.given losing.rest in
     let ac_date = step (moment_in_column row.ac_date) _ dated.given requested.rest in
     let state = step (state_in row.state) _ dated.given ac_date.rest in
-    let same : ◌≡◌ {A = Transfer} (record { requester = requester.given; losing_registrar = losing.given; requested = requested.given; ac_date = ac_date.given; state = state.given }) t = same_some _ _ state.rest ∙ due.1 in
-    record {
-      requester = requester.is ∙ λ i. Some ((same i).requester);
-      losing_registrar = losing.is ∙ λ i. Some ((same i).losing_registrar);
-      requested = requested.is ∙ λ i. Some ((same i).requested);
-      ac_date = ac_date.is ∙ λ i. Some ((same i).ac_date);
-      state = state.is ∙ λ i. Some ((same i).state);
-      due = sym (ap due_column due.1) ∙ same_is_equal (due_column dated.given) row.due due.0;
-    }
-
--- what is read was written so
-pub transfer_written : (row : TransferRow) (t : Transfer) → transfer_of_columns row ≡ Some t → row_of_transfer row.id row.contact row.domain t ≡ row
-transfer_written row t e =
-    let read = is_read row t e in
-    λ i. record row {
-      requester = registrar_written row.requester t.requester read.requester i;
-      losing = registrar_written row.losing t.losing_registrar read.losing_registrar i;
-      requested = moment_written row.requested t.requested read.requested i;
-      ac_date = moment_written row.ac_date t.ac_date read.ac_date i;
-      state = state_written row.state t.state read.state i;
-      due = read.due i;
-    }
-
--- and is a transfer's
-pub transfer_is : (row : TransferRow) (t : Transfer) → transfer_of_columns row ≡ Some t → IsStorableTransfer t
-transfer_is row t e =
-    let read = is_read row t e in
-    record {
-      requester = registrar_is row.requester t.requester read.requester;
-      losing_registrar = registrar_is row.losing t.losing_registrar read.losing_registrar;
-      requested = moment_is row.requested t.requested read.requested;
-      ac_date = moment_is row.ac_date t.ac_date read.ac_date;
-    }
+    let same : ◌≡◌ {A = Transfer} (record { requester = requester.given; losing_registrar = losing.given; requested = requested.given; ac_date = ac_date.given; state = state.given }) dated.given = same_some _ _ state.rest in
+    sym (ap (row_of_transfer row.id row.contact row.domain) (same ∙ due.1))
+    ∙ (λ i. record row {
+      requester = registrar_written row.requester requester.given requester.is i;
+      losing = registrar_written row.losing losing.given losing.is i;
+      requested = moment_written row.requested requested.given requested.is i;
+      ac_date = moment_written row.ac_date ac_date.given ac_date.is i;
+      state = code_written state_column all_transfer_states row.state state.given state.is i;
+      due = (ap due_column same ∙ same_is_equal (due_column dated.given) row.due due.0) i;
+    })

@@ -19,17 +19,14 @@ use Rattle.sqlcolumns.specs.Texts.{statuses_in}
 abbrev pub domain_registration_columns : DomainRow → RegistrationColumns
 domain_registration_columns row = record { creator = row.creator; serial = row.serial; sponsor = row.sponsor; created = row.created; transferred = row.transferred; updated = row.updated }
 
-abbrev pub some_deletion_in : ℤ → Option ℤ → Option (Option Deletion)
-some_deletion_in deleted restore_requested = do
-  m ← moment_in_column deleted
-  r ← maybe_moment_in restore_requested
-  Some (Some (record { deleted = m; restore_requested = r }))
-
 -- none is restored that wasn't deleted
 abbrev pub deletion_in : Option ℤ → Option ℤ → Option (Option Deletion)
 deletion_in None None = Some None
 deletion_in None (Some restore_requested) = None
-deletion_in (Some deleted) restore_requested = some_deletion_in deleted restore_requested
+deletion_in (Some deleted) restore_requested = do
+  m ← moment_in_column deleted
+  r ← maybe_moment_in restore_requested
+  Some (Some (record { deleted = m; restore_requested = r }))
 
 abbrev pub domain_with : DomainRow → Registration → ℕ → List Status → Option Deletion → Links
     → Option Transfer → Domain

@@ -37,16 +37,13 @@ command_notice_column notice = pos (command_rank notice)
 abbrev pub command_notice_in : ℤ → Option CommandNotice
 command_notice_in column = with_code command_notice_column all_command_notices column
 
-abbrev pub command_columns : ℕ → CommandNotice → Option OriginColumns
-command_columns number notice = do
-  n ← exact_column number
-  Some (record { class = pos 1; number = n; notice = command_notice_column notice })
-
 -- time's messages come before those of commands, by letter; a command's by its number
 abbrev pub origin_columns : Origin → Option OriginColumns
 origin_columns (Lapse notice) =
     Some (record { class = pos 0; number = lapse_notice_column notice; notice = pos 0 })
-origin_columns (Command number notice) = command_columns number notice
+origin_columns (Command number notice) = do
+  n ← exact_column number
+  Some (record { class = pos 1; number = n; notice = command_notice_column notice })
 
 -- the row of a message, under its number and its account's
 abbrev pub row_of_message : ℤ → ℤ → Message → Option MessageRow

@@ -68,14 +68,7 @@ impl Coded for LineKind {
     }
 
     fn column(self) -> i64 {
-        match self {
-            LineKind::Deposit => 0,
-            LineKind::Create => 1,
-            LineKind::Renew => 2,
-            LineKind::AutoRenew => 3,
-            LineKind::Transfer => 4,
-            LineKind::Restore => 5,
-        }
+        self as i64
     }
 }
 
@@ -91,10 +84,7 @@ impl Coded for Subject {
     }
 
     fn column(self) -> i64 {
-        match self {
-            Subject::Contact => 0,
-            Subject::Domain => 1,
-        }
+        self as i64
     }
 }
 
@@ -116,13 +106,7 @@ impl Coded for TransferState {
     }
 
     fn column(self) -> i64 {
-        match self {
-            TransferState::Pending => 0,
-            TransferState::ClientApproved => 1,
-            TransferState::ClientRejected => 2,
-            TransferState::ClientCancelled => 3,
-            TransferState::ServerApproved => 4,
-        }
+        self as i64
     }
 }
 
@@ -138,10 +122,6 @@ impl Coded for Role {
     }
 
     fn column(self) -> i64 {
-        match self {
-            Role::Admin => 0,
-            Role::Tech => 1,
-            Role::Host => 2,
-        }
+        self as i64
     }
 }

@@ -138,32 +138,7 @@ fn contact_made(
     if !is_same(maybe_due_column(&transfer), row.due) {
         return None;
     }
-    Some(contact_with(row, registration, statuses, street, transfer))
-}
-
-fn columns_of(row: &ContactRow) -> RegistrationColumns
-    ensures { result ≡ spec.contact_registration_columns row.now }
-{
-    RegistrationColumns {
-        creator: row.creator,
-        serial: row.serial,
-        sponsor: row.sponsor,
-        created: row.created,
-        transferred: row.transferred,
-        updated: row.updated,
-    }
-}
-
-fn contact_with(
-    row: ContactRow,
-    registration: Registration,
-    statuses: Seq<Status>,
-    street: Seq<Text>,
-    transfer: Option<Transfer>,
-) -> Contact
-    ensures { result ≡ spec.contact_with row registration statuses street transfer }
-{
-    Contact {
+    Some(Contact {
         name: row.name,
         roid: registration.roid,
         sponsor: registration.sponsor,
@@ -176,6 +151,19 @@ fn contact_with(
         voice: row.voice,
         mail: row.mail,
         transfer,
+    })
+}
+
+fn columns_of(row: &ContactRow) -> RegistrationColumns
+    ensures { result ≡ spec.contact_registration_columns row.now }
+{
+    RegistrationColumns {
+        creator: row.creator,
+        serial: row.serial,
+        sponsor: row.sponsor,
+        created: row.created,
+        transferred: row.transferred,
+        updated: row.updated,
     }
 }
 

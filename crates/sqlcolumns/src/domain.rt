@@ -154,15 +154,20 @@ fn domain_made(
     let years = years_of_column(row.years)?;
     let statuses = statuses?;
     let deletion = deletion_of_columns(row.deleted, row.restore_requested)?;
-    Some(domain_with(
-        row,
-        registration,
+    Some(Domain {
+        name: row.name,
+        roid: registration.roid,
+        sponsor: registration.sponsor,
+        created: registration.created,
         years,
+        transferred: registration.transferred,
+        updated: registration.updated,
         statuses,
-        deletion,
+        secret: row.secret,
         links,
         transfer,
-    ))
+        deletion,
+    })
 }
 
 fn columns_of(row: &DomainRow) -> RegistrationColumns
@@ -195,47 +200,9 @@ fn deletion_of_columns(
     match (deleted, restore_requested) {
         (None, None) => Some(None),
         (None, Some(_)) => None,
-        (Some(deleted), restore_requested) => some_deletion_of_columns(deleted, restore_requested),
-    }
-}
-
-fn some_deletion_of_columns(
-    deleted: i64,
-    restore_requested: Option<i64>,
-) -> Option<Option<Deletion>>
-    ensures { result ≡ spec.some_deletion_in deleted restore_requested }
-{
-    let deleted = moment_of_column(deleted)?;
-    let restore_requested = maybe_moment_of_column(restore_requested)?;
-    Some(Some(Deletion {
-        deleted,
-        restore_requested,
-    }))
-}
-
-fn domain_with(
-    row: DomainRow,
-    registration: Registration,
-    years: u32,
-    statuses: Seq<Status>,
-    deletion: Option<Deletion>,
-    links: Links,
-    transfer: Option<Transfer>,
-) -> Domain
-    ensures { result ≡ spec.domain_with row registration years statuses deletion links transfer }
-{
-    Domain {
-        name: row.name,
-        roid: registration.roid,
-        sponsor: registration.sponsor,
-        created: registration.created,
-        years,
-        transferred: registration.transferred,
-        updated: registration.updated,
-        statuses,
-        secret: row.secret,
-        links,
-        transfer,
-        deletion,
+        (Some(deleted), restore_requested) => Some(Some(Deletion {
+            deleted: moment_of_column(deleted)?,
+            restore_requested: maybe_moment_of_column(restore_requested)?,
+        })),
     }
 }

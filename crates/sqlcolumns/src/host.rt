@@ -117,33 +117,7 @@ fn host_made(
     if row.above.as_str() != above.as_str() {
         return None;
     }
-    Some(host_with(row, columns, statuses, addresses))
-}
-
-fn columns_of(row: &HostRow) -> Option<HostColumns>
-    ensures { result ≡ spec.columns_in row.now }
-{
-    let roid = roid_of_columns(ObjectKind::Host, row.creator, row.serial)?;
-    let external_sponsor = maybe_registrar_of_column(row.external_sponsor)?;
-    let created = moment_of_column(row.created)?;
-    let updated = maybe_moment_of_column(row.updated)?;
-    Some(HostColumns {
-        roid,
-        external_sponsor,
-        created,
-        updated,
-    })
-}
-
-fn host_with(
-    row: HostRow,
-    columns: HostColumns,
-    statuses: Seq<Status>,
-    addresses: Seq<Text>,
-) -> Host
-    ensures { result ≡ spec.host_with row columns statuses addresses }
-{
-    Host {
+    Some(Host {
         name: row.name,
         roid: columns.roid,
         external_sponsor: columns.external_sponsor,
@@ -151,5 +125,16 @@ fn host_with(
         updated: columns.updated,
         statuses,
         addresses,
-    }
+    })
+}
+
+fn columns_of(row: &HostRow) -> Option<HostColumns>
+    ensures { result ≡ spec.columns_in row.now }
+{
+    Some(HostColumns {
+        roid: roid_of_columns(ObjectKind::Host, row.creator, row.serial)?,
+        external_sponsor: maybe_registrar_of_column(row.external_sponsor)?,
+        created: moment_of_column(row.created)?,
+        updated: maybe_moment_of_column(row.updated)?,
+    })
 }

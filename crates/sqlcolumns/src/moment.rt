@@ -41,10 +41,7 @@ pub fn moment_of_column(column: i64) -> Option<Moment>
 pub fn maybe_moment_column(moment: Option<Moment>) -> Option<i64>
     ensures { result ≡ spec.maybe_moment_column moment }
 {
-    match moment {
-        None => None,
-        Some(moment) => Some(moment_column(moment)),
-    }
+    moment.map(moment_column)
 }
 
 /// The moment of a column that may be NULL; none where it's neither.
@@ -54,15 +51,9 @@ pub fn maybe_moment_of_column(column: Option<i64>) -> Option<Option<Moment>>
     ensures only { (m : Option ℕ) → IfSome m IsMoment → column ≡ spec.maybe_moment_column m
         → result ≡ Some m }
 {
-    match column {
-        None => Some(None),
-        Some(column) => some_moment_of_column(column),
-    }
-}
-
-fn some_moment_of_column(column: i64) -> Option<Option<Moment>>
-    ensures { result ≡ spec.maybe_moment_in (Some column) }
-{
+    let Some(column) = column else {
+        return Some(None);
+    };
     let moment = moment_of_column(column)?;
     Some(Some(moment))
 }

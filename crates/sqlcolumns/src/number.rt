@@ -45,10 +45,7 @@ pub fn registrar_of_column(column: i64) -> Option<RegistrarNo>
 pub fn maybe_registrar_column(registrar: Option<RegistrarNo>) -> Option<i64>
     ensures { result ≡ spec.maybe_registrar_column registrar }
 {
-    match registrar {
-        None => None,
-        Some(registrar) => Some(registrar_column(registrar)),
-    }
+    registrar.map(registrar_column)
 }
 
 /// The registrar of a column that may be NULL; none where it's neither.
@@ -58,15 +55,9 @@ pub fn maybe_registrar_of_column(column: Option<i64>) -> Option<Option<Registrar
     ensures only { (place : Option ℕ) → IfSome place spec.IsPlace
         → column ≡ spec.maybe_registrar_column place → result ≡ Some place }
 {
-    match column {
-        None => Some(None),
-        Some(column) => some_registrar_of_column(column),
-    }
-}
-
-fn some_registrar_of_column(column: i64) -> Option<Option<RegistrarNo>>
-    ensures { result ≡ spec.maybe_registrar_in (Some column) }
-{
+    let Some(column) = column else {
+        return Some(None);
+    };
     let registrar = registrar_of_column(column)?;
     Some(Some(registrar))
 }

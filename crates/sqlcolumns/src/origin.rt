@@ -35,11 +35,7 @@ impl Coded for LapseNotice {
     }
 
     fn column(self) -> i64 {
-        match self {
-            LapseNotice::RenewedAutomatically => 0,
-            LapseNotice::Purged => 1,
-            LapseNotice::TransferApproved => 2,
-        }
+        self as i64
     }
 }
 
@@ -60,12 +56,7 @@ impl Coded for CommandNotice {
     }
 
     fn column(self) -> i64 {
-        match self {
-            CommandNotice::TransferRequested => 0,
-            CommandNotice::TransferApproved => 1,
-            CommandNotice::TransferRejected => 2,
-            CommandNotice::TransferCancelled => 3,
-        }
+        self as i64
     }
 }
 
@@ -79,19 +70,12 @@ pub(crate) fn origin_columns(origin: Origin) -> Option<OriginColumns>
             number: notice.column(),
             notice: 0,
         }),
-        Origin::Command(number, notice) => command_columns(number, notice),
+        Origin::Command(number, notice) => Some(OriginColumns {
+            class: 1,
+            number: exact_column(number)?,
+            notice: notice.column(),
+        }),
     }
-}
-
-fn command_columns(number: u64, notice: CommandNotice) -> Option<OriginColumns>
-    ensures { result ≡ spec.command_columns number notice }
-{
-    let number = exact_column(number)?;
-    Some(OriginColumns {
-        class: 1,
-        number,
-        notice: notice.column(),
-    })
 }
 
 /// The origin of these columns, if they are one's.

@@ -58,17 +58,12 @@ pub(crate) fn registration_of_columns(
 ) -> Option<Registration>
     ensures { result ≡ spec.registration_in kind columns }
 {
-    let roid = roid_of_columns(kind, columns.creator, columns.serial)?;
-    let sponsor = registrar_of_column(columns.sponsor)?;
-    let created = moment_of_column(columns.created)?;
-    let transferred = maybe_moment_of_column(columns.transferred)?;
-    let updated = maybe_moment_of_column(columns.updated)?;
     Some(Registration {
-        roid,
-        sponsor,
-        created,
-        transferred,
-        updated,
+        roid: roid_of_columns(kind, columns.creator, columns.serial)?,
+        sponsor: registrar_of_column(columns.sponsor)?,
+        created: moment_of_column(columns.created)?,
+        transferred: maybe_moment_of_column(columns.transferred)?,
+        updated: maybe_moment_of_column(columns.updated)?,
     })
 }
 

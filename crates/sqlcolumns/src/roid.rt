@@ -37,10 +37,9 @@ fn is_kind(a: ObjectKind, b: ObjectKind) -> bool
 pub(crate) fn roid_of_columns(kind: ObjectKind, creator: i64, serial: i64) -> Option<Roid>
     ensures { result ≡ spec.roid_in kind creator serial }
 {
-    let creator = registrar_of_column(creator)?;
     Some(Roid {
         kind,
-        creator,
+        creator: registrar_of_column(creator)?,
         serial: counter_of_column(serial),
     })
 }

@@ -1,6 +1,5 @@
 //! Lists of statuses as one text.
-ghost use Rattle.std.specs.Prelude.{◌≡◌, ◌==◌, List, Some, IfOk, IfSome, OnOk, string_bytes};
-ghost use Rattle.std.specs.List.{slice_split};
+ghost use Rattle.std.specs.Prelude.{◌≡◌, List, Some, IfOk, IfSome, OnOk, string_bytes};
 ghost use Rattle.objects.specs.StatusTexts.{status_text};
 ghost use Rattle.objects.specs.declared.status.Status.{Status};
 ghost use Rattle.sqlcolumns.specs.Texts as spec;
@@ -42,17 +41,16 @@ pub fn statuses_of_column(alloc: Global, text: &str) -> Result<Option<Seq<Status
     ensures only { IfOk result (λ read. (xs : List Status) → text.now ≡ spec.statuses_column xs
         → read ≡ Some xs) }
 {
-    if text.is_empty() {
-        return Ok(Some(Seq::new(alloc)));
-    }
     named(alloc, text)
 }
 
-/// The statuses that the words between blanks name, if each names one.
+/// The statuses that the words between blanks name, if each names one; an empty text is that of none.
 fn named(alloc: Global, text: &str) -> Result<Option<Seq<Status>>, AllocError>
-    ensures { IfOk result (λ read. read
-        ≡ spec.statuses_named (slice_split (λ b. b == 32) text.now)) }
+    ensures { IfOk result (λ read. read ≡ spec.statuses_in text.now) }
 {
+    if text.is_empty() {
+        return Ok(Some(Seq::new(alloc)));
+    }
     let mut statuses = Vec::new(alloc);
     for word in text.split(' ') {
         let Some(status) = Status::named(word) else {

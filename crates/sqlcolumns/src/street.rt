@@ -47,17 +47,12 @@ fn push_lines(text: &mut String, lines: &[Text]) -> Result<(), AllocError>
 }
 
 /// The lines of a text, of which there is at least one.
+#[tactic(auto, using(crate::proofs::TextLemmas::street_written, crate::proofs::TextLemmas::street_back))]
 pub fn street_of_column(alloc: Global, text: &str) -> Result<Seq<Text>, AllocError>
     ensures value { IfOk result (λ lines. lines ≡ spec.street_in text.now) }
     ensures found { IfOk result (λ lines. spec.street_column lines ≡ Some text.now) }
     ensures only { IfOk result (λ lines. (xs : List (List ℕ))
         → spec.street_column xs ≡ Some text.now → lines ≡ xs) }
-{
-    cut(alloc, text)
-}
-
-fn cut(alloc: Global, text: &str) -> Result<Seq<Text>, AllocError>
-    ensures { IfOk result (λ lines. lines ≡ spec.street_in text.now) }
 {
     let pieces = pieces_of(alloc, text)?;
     let lines = texts_of(alloc, &pieces)?;

@@ -6,8 +6,6 @@ ghost use Rattle.sqlcolumns.specs.Transfers as spec;
 use crate::code::Coded;
 use crate::moment::{moment_column, moment_of_column, show_moment};
 use crate::number::{is_place, registrar_column, registrar_of_column};
-use basis::registrar::RegistrarNo;
-use calendar::Moment;
 use objects::{Transfer, TransferState};
 use sqltables::TransferRow;
 
@@ -57,10 +55,7 @@ fn due_column(transfer: &Transfer) -> Option<i64>
 pub(crate) fn maybe_due_column(transfer: &Option<Transfer>) -> Option<i64>
     ensures { result ≡ spec.maybe_due_column transfer.now }
 {
-    match transfer {
-        None => None,
-        Some(transfer) => due_column(transfer),
-    }
+    due_column(transfer.as_ref()?)
 }
 
 /// The transfer of a row, if it's one's.
@@ -72,41 +67,21 @@ pub fn transfer_of_row(row: &TransferRow) -> Option<Transfer>
         → spec.row_of_transfer row.now.id row.now.contact row.now.domain t ≡ row.now
         → result ≡ Some t }
 {
-    let transfer = transfer_made(
-        registrar_of_column(row.requester),
-        registrar_of_column(row.losing),
-        moment_of_column(row.requested),
-        moment_of_column(row.ac_date),
-        TransferState::of_column(row.state),
-    );
-    with_due(transfer, row.due)
+    read(row)
 }
 
-/// The transfer of these parts, if all are there.
-fn transfer_made(
-    requester: Option<RegistrarNo>,
-    losing_registrar: Option<RegistrarNo>,
-    requested: Option<Moment>,
-    ac_date: Option<Moment>,
-    state: Option<TransferState>,
-) -> Option<Transfer>
-    ensures { result ≡ spec.transfer_made requester losing_registrar requested ac_date state }
+/// The transfer of a row, if each column reads, and it's due when it says.
+fn read(row: &TransferRow) -> Option<Transfer>
+    ensures { result ≡ spec.transfer_of_columns row.now }
 {
-    Some(Transfer {
-        requester: requester?,
-        losing_registrar: losing_registrar?,
-        requested: requested?,
-        ac_date: ac_date?,
-        state: state?,
-    })
-}
-
-/// The transfer, if this is when it's due.
-fn with_due(transfer: Option<Transfer>, due: Option<i64>) -> Option<Transfer>
-    ensures { result ≡ spec.transfer_due_at transfer due }
-{
-    let transfer = transfer?;
-    if is_same(due_column(&transfer), due) {
+    let transfer = Transfer {
+        requester: registrar_of_column(row.requester)?,
+        losing_registrar: registrar_of_column(row.losing)?,
+        requested: moment_of_column(row.requested)?,
+        ac_date: moment_of_column(row.ac_date)?,
+        state: TransferState::of_column(row.state)?,
+    };
+    if is_same(due_column(&transfer), row.due) {
         Some(transfer)
     } else {
         None
@@ -117,9 +92,5 @@ fn with_due(transfer: Option<Transfer>, due: Option<i64>) -> Option<Transfer>
 pub fn is_same(a: Option<i64>, b: Option<i64>) -> bool
     ensures { result ≡ spec.is_same a b }
 {
-    match (a, b) {
-        (None, None) => true,
-        (Some(a), Some(b)) => a == b,
-        _ => false,
-    }
+    a == b
 }

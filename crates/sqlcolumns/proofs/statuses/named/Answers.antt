@@ -3,15 +3,18 @@ use Rattle.std.proofs.lemmas.Iterator.Consumers.{YieldsList-end, YieldsList-turn
 use Rattle.std.proofs.lemmas.Iterator.Splits.{YieldsList-from_str_split}
 use Rattle.std.specs.List.{slice_split}
 use Rattle.objects.specs.StatusTexts.{status_named, status_text}
-use Rattle.sqlcolumns.proofs.TextLemmas.{all_named, named_more, none_named}
+use Rattle.sqlcolumns.proofs.TextLemmas.{all_named, empty_in, filled_in, named_more, none_named}
 use Rattle.sqlcolumns.proofs.statuses.named.Goals as goal
+
+pub returns-then-is_empty : goal.returns-then-is_empty
+returns-then-is_empty c = ap Some c.new.ensures ∙ empty_in c.args.text.now (sym c.is_empty.ensures ∙ c.if-is_empty.true)
 
 pub returns-in_default : goal.returns-in_default
 returns-in_default c =
     let words : List (List ℕ) = slice_split (λ b. b == 32) c.args.text.now in
     let at : (length c.loop-word.yielded < length words) × (c.in-Some.word.now ≡ get_or words (length c.loop-word.yielded) c.in-Some.word.now) =
     YieldsList-turn (YieldsList-from_str_split 32 c.args.text.now (lit< tt) (cc) (cc) (cc)) c.loop-word.yielded _ c.loop-word.yielded_by _ _ c.in-Some.word c.in-Some.is c.next.ensures.steps in
-    none_named words c.in-Some.word.now (length c.loop-word.yielded) at (sym c.in_default.is ∙ c.named.ensures)
+    none_named words c.in-Some.word.now (length c.loop-word.yielded) at (sym c.in_default.is ∙ c.named.ensures) ∙ filled_in c.args.text.now (sym c.is_empty.ensures ∙ c.if-is_empty.false)
 
 pub loop-word-preserved : goal.loop-word-preserved
 loop-word-preserved c =
@@ -21,4 +24,4 @@ loop-word-preserved c =
 pub returns : goal.returns
 returns c =
     let all = YieldsList-end (YieldsList-from_str_split 32 c.args.text.now (lit< tt) (cc) (cc) (cc)) c.loop-word.yielded _ c.loop-word.yielded_by _ _ c.in-None.is c.next.ensures.steps in
-    all_named (slice_split (λ b. b == 32) c.args.text.now) c.from_vec.result (ap (map status_text) c.from_vec.ensures ∙ c.loop-word.invariant ∙ all.0)
+    all_named (slice_split (λ b. b == 32) c.args.text.now) c.from_vec.result (ap (map status_text) c.from_vec.ensures ∙ c.loop-word.invariant ∙ all.0) ∙ filled_in c.args.text.now (sym c.is_empty.ensures ∙ c.if-is_empty.false)
