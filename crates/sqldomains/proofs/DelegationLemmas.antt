@@ -16,7 +16,7 @@ use Rattle.sqltables.specs.declared.domain.DomainRow.{DomainRow}
 use Rattle.sqltables.specs.inner.Consistent.{IsConsistent}
 use Rattle.sqlobjects.proofs.PutLemmas.{bytes_is}
 use Rattle.sqldomains.specs.Domains.{domain_read, domains_of}
-use Rattle.sqldomains.specs.inner.Delegations.{Delegations, delegations_of_rows, with_delegation, with_row_delegation, with_row_delegations}
+use Rattle.sqldomains.specs.inner.Delegations.{Delegations, IsAllOfRows, delegations_of_rows, with_delegation, with_row, with_rows}
 use Rattle.sqldomains.proofs.NameOrderLemmas.{name-read, row-under, stands-there}
 
 one-domain : (a c : Delegations) (o : Option Domain) → option_map (with_delegation a) o ≡ Some c → (d : Domain) × (o ≡ Some d) × (with_delegation a d ≡ c)
@@ -58,16 +58,16 @@ module _ (xs : Content) where
         go true same is = inr (sym (bytes_is n d.name same), sym (same_some (delegation_of d) y is))
         go false other is = inl is
 
-  gathered : (rows : List DomainRow) (a b : Delegations) → with_row_delegations xs a rows ≡ Some b → Gathered a b rows
+  gathered : (rows : List DomainRow) (a b : Delegations) → with_rows (domain_read xs) a rows ≡ Some b → Gathered a b rows
   gathered [] a b e = record {
     kept = λ n it. subst (λ c. IsUnder c n) (same_some a b e) it;
     sound = λ n y is. inl (subst (λ c. get c n ≡ Some y) (sym (same_some a b e)) is);
     complete = λ row there. absurd there;
   }
   gathered (row ∷ rows) a b e =
-      let first = step (with_row_delegation xs a row) (λ m. with_row_delegations xs m rows) b e in
+      let first = step (with_row (domain_read xs) a row) (λ m. with_rows (domain_read xs) m rows) b e in
       let one = one-domain a first.given (domain_read xs row) first.is in
-      go one.0 one.1 (gathered rows (with_delegation a one.0) b (ap (λ c. with_row_delegations xs c rows) one.2 ∙ first.rest))
+      go one.0 one.1 (gathered rows (with_delegation a one.0) b (ap (λ c. with_rows (domain_read xs) c rows) one.2 ∙ first.rest))
     where
       go : (d : Domain) → domain_read xs row ≡ Some d → Gathered (with_delegation a d) b rows → Gathered a b (row ∷ rows)
       go d reads more = record {
@@ -88,7 +88,7 @@ module _ (xs : Content) where
           each other (inl same) = (d, ap (domain_read xs) same ∙ reads, more.kept d.name (delegation_of d, put-here a d))
           each other (inr later) = more.complete other later
 
-  module _ (consistent : IsConsistent xs) (all : Delegations) (e : with_row_delegations xs empty xs.domains ≡ Some all) where
+  module _ (consistent : IsConsistent xs) (all : Delegations) (e : IsAllOfRows xs all) where
     found : Gathered empty all xs.domains
     found = gathered xs.domains empty all e
 

@@ -8,6 +8,7 @@ pub mod NewRowLemmas
 pub mod FrameLemmas
 pub mod NameOrderLemmas
 pub mod DelegationLemmas
+pub mod PageLemmas
 pub mod BelowLemmas
 pub mod SponsorLemmas
 pub mod LeadingLemmas

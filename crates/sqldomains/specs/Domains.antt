@@ -17,6 +17,7 @@ use Rattle.sqltables.specs.Content.{Content}
 use Rattle.sqltables.specs.declared.domain.DomainRow.{DomainRow}
 use Rattle.sqltables.specs.Link.{link_with_domain}
 use Rattle.sqltables.specs.declared.link.LinkRow.{LinkRow}
+use Rattle.sqltables.specs.declared.transfer.TransferRow.{TransferRow}
 use Rattle.sqltables.specs.Transfer.{transfer_with_domain}
 use Rattle.sqlrows.specs.Read.{named}
 use Rattle.sqlobjects.specs.Changes.{contact_name_by_number, host_name_by_number}
@@ -77,21 +78,30 @@ are_dated due rows = list_all (λ (l : LinkRow). int_eq l.due due) rows
 abbrev pub dated : ℤ → List LinkRow → Option (List LinkRow)
 dated due rows = if are_dated due rows then Some rows else None
 
--- what the domain of a row names, if all rows of it read
-abbrev pub links_of : Content → DomainRow → Option Links
-links_of xs row = do
+-- what the domain of a row names, by these rows of links, if all read
+abbrev pub links_by : Content → DomainRow → List LinkRow → Option Links
+links_by xs row links = do
   registrant ← contact_name_by_number xs row.registrant
-  rows ← dated row.due (filter (link_with_domain row.id) xs.links)
+  rows ← dated row.due links
   with_links xs (registrant_alone registrant) rows
+
+-- the same by all rows of it
+abbrev pub links_of : Content → DomainRow → Option Links
+links_of xs row = links_by xs row (filter (link_with_domain row.id) xs.links)
 
 -- ---- domains
 
+-- the domain of a row, by these rows of its links and its transfers, if all read
+abbrev pub domain_by : Content → DomainRow → List LinkRow → List TransferRow → Option Domain
+domain_by xs row links transfers = do
+  links ← links_by xs row links
+  transfer ← last_transfer transfers
+  domain_of_columns row links transfer
+
 -- the domain of a row, if it, its links and its transfer read
 abbrev pub domain_read : Content → DomainRow → Option Domain
-domain_read xs row = do
-  links ← links_of xs row
-  transfer ← last_transfer (filter (transfer_with_domain row.id) xs.transfers)
-  domain_of_columns row links transfer
+domain_read xs row =
+    domain_by xs row (filter (link_with_domain row.id) xs.links) (filter (transfer_with_domain row.id) xs.transfers)
 
 abbrev pub domain_entry : Content → DomainRow → Option (List ℕ × Domain)
 domain_entry xs row = named row.name (domain_read xs row)

@@ -4,12 +4,10 @@ ghost use Rattle.std.specs.FinMap.{get};
 ghost use Rattle.sqlcolumns.specs.Domains.{domain_of_columns};
 ghost use Rattle.sqlrows.specs.Read.{IsRead, first_read};
 ghost use Rattle.sqldomains.specs.Domains as spec;
-ghost use Rattle.sqlobjects.specs.Objects as objects_spec;
 ghost use Rattle.sqltables.specs.Domain.{domain_with_name};
-ghost use Rattle.sqltables.specs.Transfer.{transfer_with_domain};
 ghost use Rattle.states.specs.States.{Finds, FindsSome};
 
-use crate::links::{links_of, number_of};
+use crate::links::{links_by, number_of};
 use basis::list::Seq;
 use basis::text::Text;
 use objects::{Domain, Links, Transfer};
@@ -17,7 +15,7 @@ use sqlcolumns::domain_of_row;
 use sqlite::Alter;
 use sqlobjects::last_transfer;
 use sqlrows::{only, or_fault};
-use sqltables::{DomainRow, RowStore};
+use sqltables::{DomainRow, LinkRow, RowStore, TransferRow};
 use states::BookFault;
 use std::alloc::Global;
 
@@ -61,23 +59,25 @@ pub fn domain_of<S: Alter>(
     ensures { FindsSome result (λ domain. spec.domain_read store.old.content row ≡ Some domain) store.old
         store.new }
 {
-    let links = links_of(store, alloc, &row)?;
-    let transfer = transfer_of(store, &row)?;
-    read_domain(alloc, row, links, transfer)
+    let links = store.links_by_domain(number_of(&row))?;
+    let transfers = store.transfers_by_domain(number_of(&row))?;
+    domain_by(store, alloc, row, links, transfers)
 }
 
-/// The last transfer of the domain of a row, if there was one.
-fn transfer_of<S: Alter>(
+/// The domain of a row, by the rows of its links and those of its transfers.
+pub(crate) fn domain_by<S: Alter>(
     store: &mut RowStore<S>,
-    row: &DomainRow,
-) -> Result<Option<Transfer>, BookFault>
-    ensures { FindsSome result (λ transfer. objects_spec.last_transfer
-        (filter (transfer_with_domain row.now.id) store.old.content.transfers) ≡ Some transfer)
+    alloc: Global,
+    row: DomainRow,
+    links: Seq<LinkRow>,
+    transfers: Seq<TransferRow>,
+) -> Result<Domain, BookFault>
+    ensures { FindsSome result (λ domain. spec.domain_by store.old.content row links transfers ≡ Some domain)
         store.old store.new }
 {
-    let number = number_of(row);
-    let rows = store.transfers_by_domain(number)?;
-    last_transfer(rows)
+    let links = links_by(store, alloc, &row, links)?;
+    let transfer = last_transfer(transfers)?;
+    read_domain(alloc, row, links, transfer)
 }
 
 fn read_domain(

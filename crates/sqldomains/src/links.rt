@@ -15,19 +15,18 @@ use sqltables::{DomainRow, LinkRow, RowStore};
 use states::BookFault;
 use std::alloc::{AllocError, Global};
 
-/// What the domain of a row names.
-pub(crate) fn links_of<S: Alter>(
+/// What the domain of a row names, by the rows of its links.
+pub(crate) fn links_by<S: Alter>(
     store: &mut RowStore<S>,
     alloc: Global,
     row: &DomainRow,
+    links: Seq<LinkRow>,
 ) -> Result<Links, BookFault>
-    ensures { FindsSome result (λ links. spec.links_of store.old.content row.now ≡ Some links) store.old
+    ensures { FindsSome result (λ all. spec.links_by store.old.content row.now links ≡ Some all) store.old
         store.new }
 {
     let registrant = contact_name(store, row.registrant)?;
-    let number = number_of(row);
-    let rows = store.links_by_domain(number)?;
-    let rows = dated(row, rows)?;
+    let rows = dated(row, links)?;
     with_links(store, registrant_alone(alloc, registrant), rows)
 }
 

@@ -8,16 +8,16 @@ use Rattle.sqlite_sql.specs.Ops.{binary}
 use Rattle.sqlite_typed.specs.Columns.{or_null}
 use Rattle.sqlite_typed.specs.Tests.{if_both}
 use Rattle.sqlite_typed.proofs.TestLemmas.{at_ints, at_nullable, then_term, last_term, truth_or}
-use Rattle.sqltables.specs.inner.Due.{falls_due, is_due_by}
+use Rattle.sqltables.specs.inner.Due.{falls_due, lies_within}
 
-within : (moment : ℤ) (due : Option ℤ) → (if_both false (λ a b. int_le b a) due (Some (pos 0)) && if_both false int_le due (Some moment)) ≡ is_due_by moment due
-within moment None = refl
-within moment (Some due) = refl
+within : (first last : ℤ) (v : Option ℤ) → (if_both false (λ a b. int_le b a) v (Some first) && if_both false int_le v (Some last)) ≡ lies_within first last v
+within first last None = refl
+within first last (Some v) = refl
 
-pub at_due : (due : Option ℤ) (moment : ℤ)
-    → (truth_or false (binary (Compare Ge Binary) (or_null Int due) (Int (pos 0))) && (truth_or false (binary (Compare Le Binary) (or_null Int due) (Int moment)) && true)) ≡ is_due_by moment due
-at_due due moment =
-    then_term (at_nullable Int false Ge (λ a b. int_le b a) (at_ints false Ge) due (Some (pos 0))) (last_term (at_nullable Int false Le int_le (at_ints false Le) due (Some moment))) ∙ within moment due
+pub at_within : (v : Option ℤ) (first last : ℤ)
+    → (truth_or false (binary (Compare Ge Binary) (or_null Int v) (Int first)) && (truth_or false (binary (Compare Le Binary) (or_null Int v) (Int last)) && true)) ≡ lies_within first last v
+at_within v first last =
+    then_term (at_nullable Int false Ge (λ a b. int_le b a) (at_ints false Ge) v (Some first)) (last_term (at_nullable Int false Le int_le (at_ints false Le) v (Some last))) ∙ within first last v
 
 ever : (due : Option ℤ) → if_both false (λ a b. int_le b a) due (Some (pos 0)) ≡ falls_due due
 ever None = refl

@@ -4,7 +4,7 @@ use Rattle.std.specs.Ordering.{ordering_then}
 use Rattle.sqlite_value.specs.declared.value.Value.TheVariants.{Int, Text}
 use Rattle.sqlite_value.specs.Order.{value_cmp}
 use Rattle.sqlite_value.proofs.OrderLemmas.{value_cmp-Int, value_cmp-Text}
-use Rattle.sqlite_sql.specs.declared.ops.CompareOp.TheVariants.{Eq, Le}
+use Rattle.sqlite_sql.specs.declared.ops.CompareOp.TheVariants.{Eq, Ge, Gt, Le}
 use Rattle.sqlite_sql.specs.Term.{col}
 use Rattle.sqlite_typed.specs.Columns.{or_null}
 use Rattle.sqlite_typed.proofs.TestLemmas.{at_ints, at_points_to, at_texts, then_term, last_term, then_key, last_key}
@@ -12,22 +12,22 @@ use Rattle.sqlite.specs.Listing.{understood}
 use Rattle.sqlite_tied.specs.Compute.{everything}
 use Rattle.sqlrows.specs.inner.Layouts.{IsSelect, by_then_key, select_query}
 use Rattle.sqlrows.proofs.SelectLemmas.{value_cmp-maybe_int}
-use Rattle.sqltables.specs.inner.Tables.{meta_all, account_all, account_by_id, contact_by_id, contact_by_name, contact_until_due, contact_first_until_due, contact_by_sponsor_until_due, domain_all, domain_by_id, domain_by_name, domain_first_by_registrant, domain_until_due, domain_first_until_due, domain_by_sponsor_until_due, domain_by_registrant_until_due, domain_by_roid, host_all, host_by_id, host_by_name, host_by_above, address_by_host, link_by_domain, link_first_by_contact, link_first_by_host, link_by_contact_until_due, link_by_host_until_due, line_by_account, line_by_object, message_first_by_account, message_same, transfer_by_contact, transfer_by_domain, transfer_pending_by_requester, transfer_pending_by_losing, days_all}
+use Rattle.sqltables.specs.inner.Tables.{meta_all, account_all, account_by_id, contact_by_id, contact_by_name, contact_until_due, contact_first_until_due, contact_by_sponsor_until_due, domain_all, domain_first, domain_after, domain_by_id, domain_by_name, domain_first_by_registrant, domain_until_due, domain_first_until_due, domain_by_sponsor_until_due, domain_by_registrant_until_due, domain_by_roid, host_all, host_by_id, host_by_name, host_by_above, address_by_host, link_by_domain, link_by_domains, link_first_by_contact, link_first_by_host, link_by_contact_until_due, link_by_host_until_due, line_by_account, line_by_object, message_first_by_account, message_same, transfer_by_contact, transfer_by_domain, transfer_by_domains, transfer_pending_by_requester, transfer_pending_by_losing, days_all}
 use Rattle.sqltables.specs.Tables.{registry}
 use Rattle.sqltables.specs.Meta.{meta_shown, metas}
 use Rattle.sqltables.specs.Account.{account_shown, accounts, account_with_id}
 use Rattle.sqltables.specs.Contact.{ContactRow, contact_shown, contacts, contact_with_id, contact_with_name, contact_within_due, contact_of_sponsor_within, by_due as contact_by_due, contacts_by_due}
-use Rattle.sqltables.specs.Domain.{DomainRow, domain_with_name, domain_shown, domains, domain_with_id, domain_with_registrant, domain_within_due, by_due as domain_by_due, domains_by_due, domain_of_sponsor_within, domain_of_registrant_within, domain_with_roid}
+use Rattle.sqltables.specs.Domain.{DomainRow, domain_with_name, domain_shown, domains, domain_after_id, domain_with_id, domain_with_registrant, domain_within_due, by_due as domain_by_due, domains_by_due, domain_of_sponsor_within, domain_of_registrant_within, domain_with_roid}
 use Rattle.sqltables.specs.Host.{host_shown, hosts, host_with_id, host_with_name, host_with_above}
 use Rattle.sqltables.specs.Address.{address_shown, addresses, address_with_host}
-use Rattle.sqltables.specs.Link.{link_shown, links, link_with_domain, link_with_contact, link_with_host, link_of_contact_within, link_of_host_within}
+use Rattle.sqltables.specs.Link.{link_shown, links, link_with_domain, link_of_domains, link_with_contact, link_with_host, link_of_contact_within, link_of_host_within}
 use Rattle.sqltables.specs.Line.{line_shown, lines, line_with_account, line_of_object}
 use Rattle.sqltables.specs.Message.{MessageRow, message_shown, messages, is_same_message, message_order, queue_of}
-use Rattle.sqltables.specs.Transfer.{transfer_shown, transfers, transfer_with_contact, transfer_with_domain, transfer_pending_by, transfer_pending_from}
+use Rattle.sqltables.specs.Transfer.{transfer_shown, transfers, transfer_with_contact, transfer_with_domain, transfer_of_domains, transfer_pending_by, transfer_pending_from}
 use Rattle.sqltables.specs.Day.{day_shown, days}
 use Rattle.sqltables.specs.inner.Statements.{Asks}
-use Rattle.sqltables.proofs.DueLemmas.{at_due, at_ever}
-use Rattle.sqltables.proofs.StatementLemmas.{all_columns, asks_all, asks_where, asks_first, asks_sorted, asks_first_sorted, equals, at_most, from_zero, given, one}
+use Rattle.sqltables.proofs.DueLemmas.{at_within, at_ever}
+use Rattle.sqltables.proofs.StatementLemmas.{all_columns, asks_all, asks_where, asks_first, asks_first_of_all, asks_sorted, asks_first_sorted, after, at_least, at_most, equals, from_zero, given, one}
 use Rattle.sqltables.proofs.TableLemmas.{meta_part, account_part, contact_part, domain_part, host_part, address_part, link_part, line_part, message_part, transfer_part, day_part}
 pub use Rattle.sqltables.proofs.TableLemmas.{asks-by, bound-last, bound-then}
 
@@ -106,18 +106,18 @@ contacts_by_name v = asks_where contact_part 19 (equals 2 0 ∷ []) (record { na
 pub contacts_until_due : (due : ℤ) → Asks contacts.tree contact_shown contact_until_due (Int due ∷ []) (λ c. contacts_by_due (filter (contact_within_due due) c.contacts))
 unfolding understood everything
 contacts_until_due due = asks_sorted contact_part 19 (from_zero 19 ∷ at_most 19 0 ∷ []) (col 1 19 ∷ []) contact_by_due (record { names = contact_titles; command = refl; plain = (refl, refl); unlisted = refl })
-    (λ x. at_due x.due due) (λ x. refl) contact_due_order
+    (λ x. at_within x.due (pos 0) due) (λ x. refl) contact_due_order
 
 pub first_contacts_until_due : (due : ℤ) (count : ℕ)
     → Asks contacts.tree contact_shown contact_first_until_due (Int due ∷ Int (pos count) ∷ []) (λ c. take count (contacts_by_due (filter (contact_within_due due) c.contacts)))
 unfolding understood everything
 first_contacts_until_due due count = asks_first_sorted contact_part 19 (from_zero 19 ∷ at_most 19 0 ∷ []) (col 1 19 ∷ []) contact_by_due (given 1) count refl (record { names = contact_titles; command = refl; plain = (refl, refl); unlisted = refl })
-    (λ x. at_due x.due due) (λ x. refl) contact_due_order
+    (λ x. at_within x.due (pos 0) due) (λ x. refl) contact_due_order
 
 pub contacts_by_sponsor_until_due : (sponsor due : ℤ) → Asks contacts.tree contact_shown contact_by_sponsor_until_due (Int sponsor ∷ Int due ∷ []) (λ c. filter (contact_of_sponsor_within sponsor due) c.contacts)
 unfolding understood everything
 contacts_by_sponsor_until_due sponsor due = asks_where contact_part 19 (equals 5 0 ∷ from_zero 19 ∷ at_most 19 1 ∷ []) (record { names = contact_titles; command = refl; plain = (refl, refl); unlisted = refl })
-    (λ x. then_term (at_ints false Eq x.sponsor sponsor) (at_due x.due due)) (λ x. refl)
+    (λ x. then_term (at_ints false Eq x.sponsor sponsor) (at_within x.due (pos 0) due)) (λ x. refl)
 
 -- ---- domain
 
@@ -127,6 +127,15 @@ domain_due_order x y = then_key (value_cmp-Int x.due y.due) (last_key (value_cmp
 pub all_domains : Asks domains.tree domain_shown domain_all [] (λ c. c.domains)
 unfolding understood everything
 all_domains = asks_all domain_part 14 (record { names = domain_titles; command = refl; plain = (refl, refl); unlisted = refl }) (λ x. refl)
+
+pub first_domains : (count : ℕ) → Asks domains.tree domain_shown domain_first (Int (pos count) ∷ []) (λ c. take count c.domains)
+unfolding understood everything
+first_domains count = asks_first_of_all domain_part 14 (given 0) count refl (record { names = domain_titles; command = refl; plain = (refl, refl); unlisted = refl }) (λ x. refl)
+
+pub domains_after : (v : ℤ) (count : ℕ) → Asks domains.tree domain_shown domain_after (Int v ∷ Int (pos count) ∷ []) (λ c. take count (filter (domain_after_id v) c.domains))
+unfolding understood everything
+domains_after v count = asks_first domain_part 14 (after 0 0 ∷ []) (given 1) count refl (record { names = domain_titles; command = refl; plain = (refl, refl); unlisted = refl })
+    (λ x. last_term (at_ints false Gt x.id v)) (λ x. refl)
 
 pub domains_by_id : (v : ℤ) → Asks domains.tree domain_shown domain_by_id (Int v ∷ []) (λ c. filter (domain_with_id v) c.domains)
 unfolding understood everything
@@ -204,6 +213,11 @@ unfolding understood everything
 links_by_domain v = asks_where link_part 5 (equals 2 0 ∷ []) (record { names = link_titles; command = refl; plain = (refl, refl); unlisted = refl })
     (λ x. last_term (at_ints false Eq x.domain v)) (λ x. refl)
 
+pub links_of_domains : (first last : ℤ) → Asks links.tree link_shown link_by_domains (Int first ∷ Int last ∷ []) (λ c. filter (link_of_domains first last) c.links)
+unfolding understood everything
+links_of_domains first last = asks_where link_part 5 (at_least 2 0 ∷ at_most 2 1 ∷ []) (record { names = link_titles; command = refl; plain = (refl, refl); unlisted = refl })
+    (λ x. then_term (at_ints false Ge x.domain first) (last_term (at_ints false Le x.domain last))) (λ x. refl)
+
 pub first_links_by_contact : (v : ℤ) → Asks links.tree link_shown link_first_by_contact (Int v ∷ []) (λ c. take 1 (filter (link_with_contact v) c.links))
 unfolding understood everything
 first_links_by_contact v = asks_first link_part 5 (equals 3 0 ∷ []) one 1 refl (record { names = link_titles; command = refl; plain = (refl, refl); unlisted = refl })
@@ -267,6 +281,11 @@ pub transfers_by_domain : (v : ℤ) → Asks transfers.tree transfer_shown trans
 unfolding understood everything
 transfers_by_domain v = asks_where transfer_part 8 (equals 3 0 ∷ []) (record { names = transfer_titles; command = refl; plain = (refl, refl); unlisted = refl })
     (λ x. last_term (at_points_to x.domain v)) (λ x. refl)
+
+pub transfers_of_domains : (first last : ℤ) → Asks transfers.tree transfer_shown transfer_by_domains (Int first ∷ Int last ∷ []) (λ c. filter (transfer_of_domains first last) c.transfers)
+unfolding understood everything
+transfers_of_domains first last = asks_where transfer_part 8 (at_least 3 0 ∷ at_most 3 1 ∷ []) (record { names = transfer_titles; command = refl; plain = (refl, refl); unlisted = refl })
+    (λ x. at_within x.domain first last) (λ x. refl)
 
 pub pending_transfers_by_requester : (requester : ℤ) → Asks transfers.tree transfer_shown transfer_pending_by_requester (Int requester ∷ []) (λ c. filter (transfer_pending_by requester) c.transfers)
 unfolding understood everything

@@ -4,7 +4,7 @@ use Rattle.std.specs.List.{list_all, take-map}
 use Rattle.sqlite_value.specs.declared.value.Value.TheVariants.{Null, Int}
 use Rattle.sqlite_value.specs.declared.keys.Collation.TheVariants.{Binary}
 use Rattle.sqlite_value.specs.Order.{Row}
-use Rattle.sqlite_sql.specs.declared.ops.CompareOp.TheVariants.{Eq, Ge, Le}
+use Rattle.sqlite_sql.specs.declared.ops.CompareOp.TheVariants.{Eq, Ge, Gt, Le}
 use Rattle.sqlite_sql.specs.declared.ops.BinaryOp.TheVariants.{Compare}
 use Rattle.sqlite_sql.specs.Query.{Query, as_count, limited, output, output_cmp}
 use Rattle.sqlite_sql.specs.Term.{Term, lit, col, op2, eval, eval_all, holds}
@@ -54,6 +54,12 @@ equals column param = op2 (Compare Eq Binary) (col 1 column) (col 0 param)
 abbrev pub at_most : ℕ → ℕ → Term
 at_most column param = op2 (Compare Le Binary) (col 1 column) (col 0 param)
 
+abbrev pub at_least : ℕ → ℕ → Term
+at_least column param = op2 (Compare Ge Binary) (col 1 column) (col 0 param)
+
+abbrev pub after : ℕ → ℕ → Term
+after column param = op2 (Compare Gt Binary) (col 1 column) (col 0 param)
+
 abbrev pub from_zero : ℕ → Term
 from_zero column = op2 (Compare Ge Binary) (col 1 column) (lit (Int (pos 0)))
 
@@ -89,6 +95,12 @@ module _ {X : Type 0} (T : Part X) where
   pub asks_all : {sql : List ℕ} {shown : X → Row} (n : ℕ) → IsSelect registry sql (select_query T.layout.tree [] (all_columns n)) → Shows [] (all_columns n) shown → Asks T.layout.tree shown sql [] T.rows
   asks_all {sql} {shown} n is shows = asks T shown sql [] _ (λ xs. xs) is refl (λ db xs rows h answer.
       selects T.layout [] (all_columns n) [] (λ _. true) shown (λ x. refl) shows db xs rows h answer ∙ ap (map shown) (filter_all (λ _. true) xs (all_of _ (λ x. refl) xs)))
+
+  pub asks_first_of_all : {sql : List ℕ} {params : Row} {shown : X → Row} (n : ℕ) (limit : Term) (count : ℕ) → Counts params limit count → IsSelect registry sql (limited_query T.layout.tree [] (all_columns n) limit)
+      → Shows params (all_columns n) shown → Asks T.layout.tree shown sql params (λ c. take count (T.rows c))
+  asks_first_of_all {sql} {params} {shown} n limit count counts is shows = asks T shown sql params _ (take count) is refl (λ db xs rows h answer.
+      limits T.layout [] (all_columns n) limit params (λ _. true) shown (λ x. refl) shows db xs rows h answer ∙ first-shown params limit count counts shown (filter (λ _. true) xs)
+      ∙ ap (λ ys. map shown (take count ys)) (filter_all (λ _. true) xs (all_of _ (λ x. refl) xs)))
 
   module _ {sql : List ℕ} {params : Row} {shown : X → Row} {p : X → Bool} (n : ℕ) (filters : List Term) where
     pub asks_where : IsSelect registry sql (select_query T.layout.tree filters (all_columns n)) → Tests params filters p → Shows params (all_columns n) shown

@@ -1,9 +1,13 @@
 -- What the statements that write rows of a table mean.
-use Rattle.std.proofs.Common.{ap, drop, refl, List, [], ◌∷◌, ℤ, false}
-use Rattle.sqlite_value.specs.declared.value.Value.TheVariants.{Null, Int}
+use Rattle.std.proofs.Common.{◌≡◌, ◌∙◌, ap, drop, refl, List, [], ◌∷◌, ℕ, ℤ, false, not, Option, Some, None, is_none, is_some}
+use Rattle.sqlite_value.specs.declared.value.Value.TheVariants.{Null, Int, Text}
+use Rattle.sqlite_value.specs.declared.keys.Collation.TheVariants.{Binary}
 use Rattle.sqlite_sql.specs.declared.ops.CompareOp.TheVariants.{Eq}
-use Rattle.sqlite_sql.specs.Term.{Term, lit, col}
-use Rattle.sqlite_typed.proofs.TestLemmas.{at_ints, at_points_to, last_term}
+use Rattle.sqlite_sql.specs.declared.ops.BinaryOp.TheVariants.{Is}
+use Rattle.sqlite_sql.specs.Term.{Term, lit, col, op2}
+use Rattle.sqlite_typed.specs.Columns.{or_null}
+use Rattle.sqlite_value.proofs.OrderLemmas.{value_cmp-Null}
+use Rattle.sqlite_typed.proofs.TestLemmas.{at_ints, at_is_null, at_points_to, at_texts, last_term, then_term}
 use Rattle.sqlite_keyed.specs.Keyed.{insert_by, next_key}
 use Rattle.sqlite_keyed.specs.Lists.{delete_where, update_where}
 use Rattle.sqlite.specs.Listing.{understood}
@@ -12,12 +16,12 @@ use Rattle.sqlrows.specs.inner.Layouts.{appended, writes_tables, IsUpdate}
 use Rattle.sqlrows.proofs.CastLemmas.{cast_int, cast_null, cast_text, cast_maybe_int, cast_maybe_text}
 use Rattle.sqlrows.proofs.UpdateLemmas.{updates}
 use Rattle.sqltables.specs.Tables.{registry}
-use Rattle.sqltables.specs.inner.Tables.{meta_put, meta_replace, account_put, account_replace, contact_put, contact_replace, contact_append, contact_remove_id, domain_put, domain_replace, domain_append, domain_remove_id, host_put, host_replace, host_append, host_remove_id, address_put, address_append, address_remove_host, link_put, link_append, link_remove_domain, link_update_due, line_put, line_append, line_remove_id, message_put, message_append, message_remove_id, transfer_put, transfer_append, transfer_remove_contact, transfer_remove_domain, days_append}
+use Rattle.sqltables.specs.inner.Tables.{meta_put, meta_replace, account_put, account_replace, contact_put, contact_replace, contact_append, contact_remove_id, domain_put, domain_replace, domain_append, domain_remove_id, host_put, host_replace, host_append, host_update_sponsor, host_remove_id, address_put, address_append, address_remove_host, link_put, link_append, link_remove_domain, link_update_due, line_put, line_append, line_remove_id, message_put, message_append, message_remove_id, transfer_put, transfer_append, transfer_remove_contact, transfer_remove_domain, days_append}
 use Rattle.sqltables.specs.Meta.{MetaRow, meta_shown, meta_with_id, metas}
 use Rattle.sqltables.specs.Account.{AccountRow, account_shown, account_with_id, accounts}
 use Rattle.sqltables.specs.Contact.{ContactRow, contact_shown, contacts, contact_with_id}
 use Rattle.sqltables.specs.Domain.{DomainRow, domain_shown, domains, domain_with_id}
-use Rattle.sqltables.specs.Host.{HostRow, host_shown, hosts, host_with_id}
+use Rattle.sqltables.specs.Host.{HostRow, host_shown, hosts, host_takes_sponsor, host_with_id}
 use Rattle.sqltables.specs.Address.{AddressRow, address_shown, addresses, address_with_host}
 use Rattle.sqltables.specs.Link.{LinkRow, link_shown, links, link_with_domain}
 use Rattle.sqltables.specs.Line.{LineRow, line_shown, lines, line_with_id}
@@ -99,6 +103,25 @@ replace_host x = replace_by host_part (host_with_id x.id) (λ y. record x { id =
 pub append_host : (x : HostRow) → Appends hosts.tree host_append (drop 1 (host_shown x)) (hosts_to (λ xs. appended hosts (λ id. record x { id = id }) xs)) (λ c. next_key hosts.key c.hosts)
 unfolding understood everything
 append_host = adds_by host_part host_shown (λ x id. record x { id = id }) 9 (record { command = refl; plain = (refl, refl) }) (record { values = λ x. refl; casts = λ x. simp (cast_int, cast_null, cast_text, cast_maybe_int, cast_maybe_text); row = λ x id. refl })
+
+abbrev updated_sponsor : List Term
+updated_sponsor = col 1 0 ∷ lit Null ∷ col 1 2 ∷ col 1 3 ∷ col 1 4 ∷ col 1 5 ∷ col 1 6 ∷ col 0 1 ∷ col 1 8 ∷ col 1 9 ∷ col 1 10 ∷ []
+
+update_sponsor_is : IsUpdate registry host_update_sponsor 4 7 (equals 5 0 ∷ op2 (Is Binary) (col 1 6) (lit Null) ∷ []) updated_sponsor
+unfolding understood everything
+update_sponsor_is = record { command = refl; plain = (refl, refl) }
+
+-- it is sponsored by nobody outside the zone
+no-sponsor : (v : Option ℤ) → is_none v ≡ not (is_some v)
+no-sponsor None = refl
+no-sponsor (Some v) = refl
+
+pub update_hosts_sponsor : (above : List ℕ) (sponsor : Option ℤ)
+    → Alters hosts.tree host_update_sponsor (Text above ∷ or_null Int sponsor ∷ []) (hosts_to (λ xs. update_where (host_takes_sponsor above) (λ x. record x { sponsor = sponsor }) xs))
+update_hosts_sponsor above sponsor = alters host_part host_update_sponsor (Text above ∷ or_null Int sponsor ∷ []) (λ xs. update_where (host_takes_sponsor above) (λ x. record x { sponsor = sponsor }) xs) update_sponsor_is.plain (ap writes_tables update_sponsor_is.command)
+    (updates hosts registry 4 host_part.table host_part.listed host_update_sponsor (Text above ∷ or_null Int sponsor ∷ []) _ updated_sponsor (host_takes_sponsor above) (λ x. record x { sponsor = sponsor })
+    (λ x. then_term (at_texts false Eq x.above above) (last_term (at_is_null Int false (λ a. value_cmp-Null (Int a)) x.external_sponsor ∙ no-sponsor x.external_sponsor)))
+    (record { row = λ x. refl; key = λ x. refl }) update_sponsor_is)
 
 pub remove_hosts_by_id : (v : ℤ) → Alters hosts.tree host_remove_id (Int v ∷ []) (hosts_to (λ xs. delete_where (host_with_id v) xs))
 unfolding understood everything

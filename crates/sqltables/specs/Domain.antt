@@ -1,5 +1,5 @@
 -- Domains, and how they lie in their table.
-use Rattle.std.specs.Prelude.{◌&&◌, Bool, int_le, ℕ, ℤ, List, [], ◌∷◌, refl}
+use Rattle.std.specs.Prelude.{◌&&◌, Bool, int_le, int_lt, ℕ, ℤ, List, [], ◌∷◌, refl}
 use Rattle.std.specs.declared.cmp.Ordering.{Ordering}
 use Rattle.std.specs.Ordering.{int_cmp, int_eq, on}
 use Rattle.sqlite_value.specs.declared.value.Value.TheVariants.{Int, Null, Text}
@@ -24,6 +24,9 @@ domains = record { tree = 5; key = λ x. x.id; to_row = domain_row; keyed = λ x
 
 abbrev pub domain_with_id : ℤ → DomainRow → Bool
 domain_with_id v x = int_eq x.id v
+
+abbrev pub domain_after_id : ℤ → DomainRow → Bool
+domain_after_id v x = int_lt v x.id
 
 abbrev pub domain_with_name : List ℕ → DomainRow → Bool
 domain_with_name v x = bytes_eq x.name v

@@ -1,5 +1,5 @@
 -- Hosts, and how they lie in their table.
-use Rattle.std.specs.Prelude.{Bool, ℕ, ℤ, List, [], ◌∷◌, refl}
+use Rattle.std.specs.Prelude.{◌&&◌, not, is_some, Bool, ℕ, ℤ, List, [], ◌∷◌, refl}
 use Rattle.std.specs.Ordering.{int_eq}
 use Rattle.sqlite_value.specs.declared.value.Value.TheVariants.{Int, Null, Text}
 use Rattle.sqlite_value.specs.Order.{Row}
@@ -27,3 +27,7 @@ host_with_name v x = bytes_eq x.name v
 
 abbrev pub host_with_above : List ℕ → HostRow → Bool
 host_with_above v x = bytes_eq x.above v
+
+-- it lies below this domain, and nobody sponsors it outside the zone
+abbrev pub host_takes_sponsor : List ℕ → HostRow → Bool
+host_takes_sponsor above x = host_with_above above x && not (is_some x.external_sponsor)

@@ -22,6 +22,9 @@ links = record { tree = 10; key = λ x. x.id; to_row = link_row; keyed = λ x. r
 abbrev pub link_with_domain : ℤ → LinkRow → Bool
 link_with_domain v x = int_eq x.domain v
 
+abbrev pub link_of_domains : ℤ → ℤ → LinkRow → Bool
+link_of_domains first last x = int_le first x.domain && int_le x.domain last
+
 abbrev pub link_with_contact : ℤ → LinkRow → Bool
 link_with_contact v x = points_to x.contact v
 

@@ -6,7 +6,7 @@ use Rattle.sqlite_value.specs.Order.{Row}
 use Rattle.sqlite_keyed.specs.Rules.{points_to}
 use Rattle.sqlite_typed.specs.Columns.{or_null}
 use Rattle.sqlrows.specs.Layouts.{Layout}
-use Rattle.sqltables.specs.inner.Due.{falls_due}
+use Rattle.sqltables.specs.inner.Due.{falls_due, lies_within}
 pub use Rattle.sqltables.specs.declared.transfer.TransferRow.{TransferRow}
 
 -- as it is stored: its key, NULL in the key's column, and then the others
@@ -25,6 +25,9 @@ transfer_with_contact v x = points_to x.contact v
 
 abbrev pub transfer_with_domain : ℤ → TransferRow → Bool
 transfer_with_domain v x = points_to x.domain v
+
+abbrev pub transfer_of_domains : ℤ → ℤ → TransferRow → Bool
+transfer_of_domains first last x = lies_within first last x.domain
 
 -- one that is pending, asked for by this account
 abbrev pub transfer_pending_by : ℤ → TransferRow → Bool

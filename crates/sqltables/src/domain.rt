@@ -5,7 +5,7 @@ ghost use Rattle.sqlite_keyed.specs.Lists.{delete_where, update_where};
 ghost use Rattle.sqltables.specs.inner.Content.{domains_to};
 ghost use Rattle.states.specs.States.{Finds, Makes};
 ghost use Rattle.sqlrows.specs.inner.Layouts.{appended};
-ghost use Rattle.sqltables.specs.Domain.{domain_with_name, domains, domain_with_id, domain_with_registrant, domain_within_due, domain_of_sponsor_within, domain_of_registrant_within, domain_with_roid, domains_by_due};
+ghost use Rattle.sqltables.specs.Domain.{domain_with_name, domains, domain_after_id, domain_with_id, domain_with_registrant, domain_within_due, domain_of_sponsor_within, domain_of_registrant_within, domain_with_roid, domains_by_due};
 
 use crate::store::RowStore;
 use basis::list::Seq;
@@ -20,6 +20,12 @@ const TREE: u64 = 5;
 
 const ALL: &str =
     "SELECT id, name, creator, serial, sponsor, created, years, transferred, updated, statuses, secret, registrant, deleted, restore_requested, due FROM domain ORDER BY id";
+
+const FIRST: &str =
+    "SELECT id, name, creator, serial, sponsor, created, years, transferred, updated, statuses, secret, registrant, deleted, restore_requested, due FROM domain ORDER BY id LIMIT ?1";
+
+const AFTER_ID: &str =
+    "SELECT id, name, creator, serial, sponsor, created, years, transferred, updated, statuses, secret, registrant, deleted, restore_requested, due FROM domain WHERE id > ?1 ORDER BY id LIMIT ?2";
 
 const BY_ID: &str =
     "SELECT id, name, creator, serial, sponsor, created, years, transferred, updated, statuses, secret, registrant, deleted, restore_requested, due FROM domain WHERE id = ?1 ORDER BY id";
@@ -114,6 +120,21 @@ impl<S: Alter> RowStore<S> {
         ensures { Finds result self.old.content.domains self.old self.new }
     {
         self.select(TREE, ALL, &[])
+    }
+
+    /// The first of them by their numbers, and no more than so many.
+    pub fn first_domains(&mut self, at_most: u32) -> Result<Seq<DomainRow>, BookFault>
+        ensures { Finds result (take at_most self.old.content.domains) self.old self.new }
+    {
+        self.select(TREE, FIRST, params![at_most])
+    }
+
+    /// Those after this number, by their numbers, and no more than so many.
+    pub fn domains_after(&mut self, id: Number, at_most: u32) -> Result<Seq<DomainRow>, BookFault>
+        ensures { Finds result (take at_most (filter (domain_after_id id) self.old.content.domains))
+            self.old self.new }
+    {
+        self.select(TREE, AFTER_ID, params![id, at_most])
     }
 
     /// Those with this number.

@@ -5,7 +5,7 @@ ghost use Rattle.sqlite_keyed.specs.Lists.{delete_where, update_where};
 ghost use Rattle.sqltables.specs.inner.Content.{hosts_to};
 ghost use Rattle.states.specs.States.{Finds, Makes};
 ghost use Rattle.sqlrows.specs.inner.Layouts.{appended};
-ghost use Rattle.sqltables.specs.Host.{hosts, host_with_id, host_with_name, host_with_above};
+ghost use Rattle.sqltables.specs.Host.{hosts, host_takes_sponsor, host_with_id, host_with_name, host_with_above};
 
 use crate::store::RowStore;
 use basis::list::Seq;
@@ -38,6 +38,9 @@ const REPLACE: &str =
 
 const APPEND: &str =
     "INSERT INTO host (name, creator, serial, above, external_sponsor, sponsor, created, updated, statuses) VALUES (?1, ?2, ?3, ?4, ?5, ?6, ?7, ?8, ?9)";
+
+const UPDATE_SPONSOR: &str =
+    "UPDATE host SET sponsor = ?2 WHERE above = ?1 AND external_sponsor IS NULL";
 
 const REMOVE_ID: &str = "DELETE FROM host WHERE id = ?1";
 
@@ -147,6 +150,23 @@ impl<S: Alter> RowStore<S> {
             → id ≡ next_key hosts.key self.old.content.hosts) }
     {
         self.run(TREE, APPEND, &host.params()[1..])
+    }
+
+    /// Those whose `above` is this, and that have no `external_sponsor`, have this `sponsor`.
+    pub fn update_hosts_sponsor(
+        &mut self,
+        above: &str,
+        sponsor: Option<i64>,
+    ) -> Result<(), BookFault>
+        requires { self.old.is_open ≡ true }
+        ensures { Makes result (hosts_to (update_where (host_takes_sponsor above.now)
+            (λ x. record x { sponsor = sponsor })) self.old.content) self.old self.new }
+    {
+        self.write(
+            TREE,
+            UPDATE_SPONSOR,
+            &[above.to_sql(), maybe_number(sponsor)],
+        )
     }
 
     /// Removes those whose `id` is this.

@@ -5,7 +5,7 @@ ghost use Rattle.sqlite_keyed.specs.Keyed.{insert_by};
 ghost use Rattle.sqltables.specs.inner.Content.{links_to};
 ghost use Rattle.states.specs.States.{Finds, Makes};
 ghost use Rattle.sqlrows.specs.inner.Layouts.{appended};
-ghost use Rattle.sqltables.specs.Link.{links, link_with_domain, link_with_contact, link_with_host, link_of_contact_within, link_of_host_within};
+ghost use Rattle.sqltables.specs.Link.{links, link_with_domain, link_of_domains, link_with_contact, link_with_host, link_of_contact_within, link_of_host_within};
 
 use crate::store::RowStore;
 use basis::list::Seq;
@@ -19,6 +19,9 @@ const TREE: u64 = 10;
 
 const BY_DOMAIN: &str =
     "SELECT id, domain, contact, host, role, due FROM link WHERE domain = ?1 ORDER BY id";
+
+const OF_DOMAINS: &str =
+    "SELECT id, domain, contact, host, role, due FROM link WHERE domain >= ?1 AND domain <= ?2 ORDER BY id";
 
 const FIRST_BY_CONTACT: &str =
     "SELECT id, domain, contact, host, role, due FROM link WHERE contact = ?1 ORDER BY id LIMIT 1";
@@ -89,6 +92,18 @@ impl<S: Alter> RowStore<S> {
             self.new }
     {
         self.select(TREE, BY_DOMAIN, params![domain])
+    }
+
+    /// Those whose `domain` is from the first of these numbers to the last.
+    pub fn links_of_domains(
+        &mut self,
+        first: Number,
+        last: Number,
+    ) -> Result<Seq<LinkRow>, BookFault>
+        ensures { Finds result (filter (link_of_domains first last) self.old.content.links) self.old
+            self.new }
+    {
+        self.select(TREE, OF_DOMAINS, params![first, last])
     }
 
     /// The first of those whose `contact` is this, by number, if there is any.

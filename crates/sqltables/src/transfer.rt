@@ -5,7 +5,7 @@ ghost use Rattle.sqlite_keyed.specs.Keyed.{insert_by};
 ghost use Rattle.sqltables.specs.inner.Content.{transfers_to};
 ghost use Rattle.states.specs.States.{Finds, Makes};
 ghost use Rattle.sqlrows.specs.inner.Layouts.{appended};
-ghost use Rattle.sqltables.specs.Transfer.{transfers, transfer_with_contact, transfer_with_domain, transfer_pending_by, transfer_pending_from};
+ghost use Rattle.sqltables.specs.Transfer.{transfers, transfer_with_contact, transfer_with_domain, transfer_of_domains, transfer_pending_by, transfer_pending_from};
 
 use crate::store::RowStore;
 use basis::list::Seq;
@@ -22,6 +22,9 @@ const BY_CONTACT: &str =
 
 const BY_DOMAIN: &str =
     "SELECT id, contact, domain, requester, losing, requested, ac_date, due, state FROM transfer WHERE domain = ?1 ORDER BY id";
+
+const OF_DOMAINS: &str =
+    "SELECT id, contact, domain, requester, losing, requested, ac_date, due, state FROM transfer WHERE domain >= ?1 AND domain <= ?2 ORDER BY id";
 
 const PENDING_BY_REQUESTER: &str =
     "SELECT id, contact, domain, requester, losing, requested, ac_date, due, state FROM transfer WHERE requester = ?1 AND due >= 0 ORDER BY id";
@@ -97,6 +100,18 @@ impl<S: Alter> RowStore<S> {
             self.old self.new }
     {
         self.select(TREE, BY_DOMAIN, params![domain])
+    }
+
+    /// Those whose `domain` is from the first of these numbers to the last.
+    pub fn transfers_of_domains(
+        &mut self,
+        first: Number,
+        last: Number,
+    ) -> Result<Seq<TransferRow>, BookFault>
+        ensures { Finds result (filter (transfer_of_domains first last) self.old.content.transfers)
+            self.old self.new }
+    {
+        self.select(TREE, OF_DOMAINS, params![first, last])
     }
 
     /// Those that are pending and whose `requester` is this.

@@ -72,6 +72,12 @@ domain_create = codes "CREATE TABLE domain (id INTEGER PRIMARY KEY, name TEXT NO
 abbrev pub domain_all : List ℕ
 domain_all = codes "SELECT id, name, creator, serial, sponsor, created, years, transferred, updated, statuses, secret, registrant, deleted, restore_requested, due FROM domain ORDER BY id"
 
+abbrev pub domain_first : List ℕ
+domain_first = codes "SELECT id, name, creator, serial, sponsor, created, years, transferred, updated, statuses, secret, registrant, deleted, restore_requested, due FROM domain ORDER BY id LIMIT ?1"
+
+abbrev pub domain_after : List ℕ
+domain_after = codes "SELECT id, name, creator, serial, sponsor, created, years, transferred, updated, statuses, secret, registrant, deleted, restore_requested, due FROM domain WHERE id > ?1 ORDER BY id LIMIT ?2"
+
 abbrev pub domain_by_id : List ℕ
 domain_by_id = codes "SELECT id, name, creator, serial, sponsor, created, years, transferred, updated, statuses, secret, registrant, deleted, restore_requested, due FROM domain WHERE id = ?1 ORDER BY id"
 
@@ -134,6 +140,9 @@ host_replace = codes "UPDATE host SET name = ?2, creator = ?3, serial = ?4, abov
 abbrev pub host_append : List ℕ
 host_append = codes "INSERT INTO host (name, creator, serial, above, external_sponsor, sponsor, created, updated, statuses) VALUES (?1, ?2, ?3, ?4, ?5, ?6, ?7, ?8, ?9)"
 
+abbrev pub host_update_sponsor : List ℕ
+host_update_sponsor = codes "UPDATE host SET sponsor = ?2 WHERE above = ?1 AND external_sponsor IS NULL"
+
 abbrev pub host_remove_id : List ℕ
 host_remove_id = codes "DELETE FROM host WHERE id = ?1"
 
@@ -161,6 +170,9 @@ link_create = codes "CREATE TABLE link (id INTEGER PRIMARY KEY, domain INTEGER N
 
 abbrev pub link_by_domain : List ℕ
 link_by_domain = codes "SELECT id, domain, contact, host, role, due FROM link WHERE domain = ?1 ORDER BY id"
+
+abbrev pub link_by_domains : List ℕ
+link_by_domains = codes "SELECT id, domain, contact, host, role, due FROM link WHERE domain >= ?1 AND domain <= ?2 ORDER BY id"
 
 abbrev pub link_first_by_contact : List ℕ
 link_first_by_contact = codes "SELECT id, domain, contact, host, role, due FROM link WHERE contact = ?1 ORDER BY id LIMIT 1"
@@ -236,6 +248,9 @@ transfer_by_contact = codes "SELECT id, contact, domain, requester, losing, requ
 
 abbrev pub transfer_by_domain : List ℕ
 transfer_by_domain = codes "SELECT id, contact, domain, requester, losing, requested, ac_date, due, state FROM transfer WHERE domain = ?1 ORDER BY id"
+
+abbrev pub transfer_by_domains : List ℕ
+transfer_by_domains = codes "SELECT id, contact, domain, requester, losing, requested, ac_date, due, state FROM transfer WHERE domain >= ?1 AND domain <= ?2 ORDER BY id"
 
 abbrev pub transfer_pending_by_requester : List ℕ
 transfer_pending_by_requester = codes "SELECT id, contact, domain, requester, losing, requested, ac_date, due, state FROM transfer WHERE requester = ?1 AND due >= 0 ORDER BY id"

@@ -1,5 +1,4 @@
 use Rattle.std.proofs.Common.{◌≡◌, true}
-use Rattle.std.specs.FinMap.{empty}
 use Rattle.states.specs.States.{Reads}
 use Rattle.sqldomains.specs.inner.Delegations as spec
 use Rattle.sqldomains.proofs.zone_rows.with_rows.Given as goal
@@ -8,4 +7,5 @@ use Rattle.sqldomains.proofs.zone_rows.with_rows.Given as goal
 abbrev pub invariant-loop-row : goal.invariant-loop-row
 invariant-loop-row g l =
     Reads l.fn.store l.store
-    × (l.store.is_clean ≡ true → spec.with_row_delegations l.fn.store.content l.all l.row-iterator.rest.items ≡ spec.with_row_delegations l.fn.store.content empty l.fn.rows)
+    × (l.store.is_clean ≡ true
+    → spec.with_rows (spec.domain_among l.fn.store.content l.fn.links l.fn.transfers) l.all l.row-iterator.rest.items ≡ spec.with_rows (spec.domain_among l.fn.store.content l.fn.links l.fn.transfers) l.fn.all l.fn.rows)
