@@ -1,12 +1,13 @@
 //! Hosts in the zone are sponsored by whoever sponsors the domain above them.
-ghost use Rattle.std.specs.Prelude.{◌≡◌, true, IfOk};
+ghost use Rattle.std.specs.Prelude.{◌≡◌, ◌||◌, true, is_some};
+ghost use Rattle.std.specs.List.{list_all};
 ghost use Rattle.sqlcolumns.specs.Transfers as columns;
 ghost use Rattle.sqlrows.specs.Meanings.{Changes};
 ghost use Rattle.sqlobjects.specs.Sponsors.{IsSponsorSetBelow};
-ghost use Rattle.sqlobjects.specs.inner.Stages.{AreHostsMoved, AreWritten, IsMoved, with_all_moved, with_moved};
+ghost use Rattle.sqltables.specs.declared.host.HostRow.{HostRow};
+ghost use Rattle.sqlobjects.specs.inner.Stages.{AreHostsMoved};
 
 use crate::sponsors::domain_sponsor;
-use basis::list::Seq;
 use basis::registrar::RegistrarNo;
 use basis::text::Text;
 use sqlcolumns::{is_same, maybe_registrar_column};
@@ -63,51 +64,20 @@ fn move_hosts<S: Alter>(
     requires { store.old.is_open ≡ true }
     ensures { Changes result (AreHostsMoved above.now sponsors.now) store.old store.new }
 {
-    store.show_consistent();
     let rows = store.hosts_by_above(above.as_str())?;
-    move_all(store, rows, sponsors)
-}
-
-/// The same of these rows.
-fn move_all<S: Alter>(
-    store: &mut RowStore<S>,
-    rows: Seq<HostRow>,
-    sponsors: &Sponsors,
-) -> Result<(), BookFault>
-    requires { store.old.is_open ≡ true }
-    ensures { Changes result (AreWritten (λ xs. with_all_moved sponsors.now xs rows)) store.old
-        store.new }
-{
-    for row in rows.into_vec() {
-        move_one(store, row, sponsors)?;
-    }
-    Ok(())
-}
-
-/// The same of one row, unless somebody sponsors the host outside the zone.
-fn move_one<S: Alter>(
-    store: &mut RowStore<S>,
-    row: HostRow,
-    sponsors: &Sponsors,
-) -> Result<(), BookFault>
-    requires { store.old.is_open ≡ true }
-    ensures { Changes result (AreWritten (λ xs. with_moved sponsors.now xs row)) store.old store.new }
-{
-    if row.external_sponsor.is_some() {
-        return Ok(());
-    }
-    let row = moved(row, sponsors)?;
-    store.put_host(&row)?;
-    Ok(())
-}
-
-fn moved(row: HostRow, sponsors: &Sponsors) -> Result<HostRow, BookFault>
-    ensures { IfOk result (λ after. IsMoved sponsors.now row after) }
-{
-    if !is_same(row.sponsor, sponsors.before) {
+    if !had_sponsor(rows.as_slice(), sponsors.before) {
         return Err(BookFault::Store);
     }
-    let mut row = row;
-    row.sponsor = sponsors.after;
-    Ok(row)
+    if rows.is_empty() {
+        return Ok(());
+    }
+    store.update_hosts_sponsor(above.as_str(), sponsors.after)
+}
+
+/// Whether each of these hosts has this sponsor, unless somebody sponsors it outside the zone.
+fn had_sponsor(rows: &[HostRow], sponsor: Option<i64>) -> bool
+    ensures { result ≡ list_all (λ (r : HostRow). is_some r.external_sponsor || columns.is_same r.sponsor sponsor)
+        rows.now }
+{
+    rows.iter().all(|row| row.external_sponsor.is_some() || is_same(row.sponsor, sponsor))
 }

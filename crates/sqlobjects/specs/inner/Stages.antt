@@ -207,30 +207,6 @@ pub record IsRowTaken (from : List ℕ) (h : Host) (row : HostRow) (old new : Co
 
 -- ---- hosts that take a domain's sponsor
 
--- a row had the sponsor before and has the one after
-pub record IsMoved (s : Sponsors) (row after : HostRow) : Type 0 where
-  pub had : is_same row.sponsor s.before ≡ true
-  pub has : after ≡ record row { sponsor = s.after }
-
--- the rows, with this one written with its new sponsor, unless its host is sponsored outside the zone; none
--- where it had another sponsor than the one before
-abbrev pub with_moved : Sponsors → List HostRow → HostRow
-    → Option (List HostRow)
-with_moved s xs row =
-    if is_some row.external_sponsor then Some xs
-    else (if is_same row.sponsor s.before then Some (insert_by host_table.hosts.key xs (record row { sponsor = s.after })) else None)
-
--- the same with each of these rows, one after another
-abbrev pub with_all_moved : Sponsors → List HostRow → List HostRow
-    → Option (List HostRow)
-with_all_moved s xs [] = Some xs
-with_all_moved s xs (row ∷ rows) = with_moved s xs row >>= (λ ys. with_all_moved s ys rows)
-
--- rows of hosts are these now, if there are any such, and nothing else is changed
-pub record AreWritten (made : List HostRow → Option (List HostRow)) (old new : Content) : Type 0 where
-  pub hosts : made old.hosts ≡ Some new.hosts
-  pub rest : new ≡ record old { hosts = new.hosts }
-
 -- the hosts that take a domain's sponsor have the one after in place of the one before
 pub record AreHostsMoved (above : List ℕ) (s : Sponsors) (old new : Content) : Type 0 where
   pub rows : AreMoved above s.before s.after old.hosts new.hosts

@@ -1,15 +1,27 @@
-use Rattle.sqlobjects.specs.inner.Stages.{AreHostsMoved, AreWritten, with_all_moved}
-use Rattle.sqlobjects.proofs.HostSponsorLemmas.{hosts-moved}
-use Rattle.sqlobjects.proofs.StepLemmas.{asked-turns}
+use Rattle.std.proofs.Common.{length, ap, sym, ◌∙◌}
+use Rattle.std.specs.List.{list_all}
+use Rattle.std.proofs.lemmas.List.{nil_from_length}
+use Rattle.std.proofs.lemmas.Bool.{eqb-true}
+use Rattle.sqlite_keyed.specs.Lists.{update_where}
+use Rattle.sqltables.specs.Host.{host_takes_sponsor}
+use Rattle.sqltables.specs.declared.host.HostRow.{HostRow}
+use Rattle.sqltables.specs.inner.Content.{hosts_to}
+use Rattle.sqlobjects.specs.inner.Stages.{AreHostsMoved}
+use Rattle.sqlobjects.proofs.HostSponsorLemmas.{Had, hosts-moved, none-below}
+use Rattle.sqlobjects.proofs.StepLemmas.{asked-makes, asked-stood}
 use Rattle.sqlobjects.proofs.host_sponsors.move_hosts.Goals as goal
+
+pub returns-then-is_empty : goal.returns-then-is_empty
+returns-then-is_empty g c =
+    let asked = c.in_ok-rows.ensures {u = tt} in
+    let tested = sym (c.had_sponsor.ensures ∙ ap (list_all (Had c.args.sponsors.now)) c.as_slice.ensures) ∙ c.if-not-had_sponsor.false in
+    asked-stood (AreHostsMoved c.args.above.now c.args.sponsors.now) c.args.store.now c.hosts_by_above.new.self asked.0 c.requires
+    (λ e. none-below c.args.store.now.content c.args.above.now c.as_str.result.now c.args.sponsors.now c.in_ok-rows.rows c.as_str.ensures (asked.1 e) tested (nil_from_length c.in_ok-rows.rows (eqb-true (length c.in_ok-rows.rows) 0 (sym c.is_empty.ensures ∙ c.if-is_empty.true))))
 
 pub returns : goal.returns
 returns g c =
-    let old = c.args.store.now in
-    let new = c.move_all.new.store in
-    let above = c.args.above.now in
-    let sponsors = c.args.sponsors.now in
-    let rows = c.in_ok-rows.rows in
     let asked = c.in_ok-rows.ensures {u = tt} in
-    asked-turns c.move_all.result (AreWritten (λ hosts. with_all_moved sponsors hosts rows)) (AreHostsMoved above sponsors) old c.hosts_by_above.new.self new asked.0 c.move_all.ensures
-    (λ clean made. hosts-moved old.content new.content above c.as_str.result.now sponsors rows (c.show_consistent.ensures (asked.0.clean clean)) c.as_str.ensures (asked.1 clean) made)
+    let tested = sym (c.had_sponsor.ensures ∙ ap (list_all (Had c.args.sponsors.now)) c.as_slice.ensures) ∙ c.if-not-had_sponsor.false in
+    asked-makes c.update_hosts_sponsor.result (hosts_to (update_where (host_takes_sponsor c.as_str-2.result.now) (λ (x : HostRow). record x { sponsor = c.args.sponsors.now.after }))) (AreHostsMoved c.args.above.now c.args.sponsors.now)
+    c.args.store.now c.hosts_by_above.new.self c.update_hosts_sponsor.new.self asked.0 c.update_hosts_sponsor.ensures
+    (λ e. hosts-moved c.args.store.now.content c.args.above.now c.as_str.result.now c.args.sponsors.now c.in_ok-rows.rows c.as_str.ensures (asked.1 e) tested c.as_str-2.result.now c.as_str-2.ensures)
