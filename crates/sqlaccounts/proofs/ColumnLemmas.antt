@@ -1,13 +1,15 @@
 -- What a message is in the columns of its row, and the order of rows.
-use Rattle.std.proofs.Common.{◌≡◌, ℕ, ℤ, pos, Bool, true, false, cond, ◌&&◌, List, Option, Some, None, refl, sym, ap, subst, ◌∙◌, int_cmp, int_eq, nat_lt, nat_eq, arith}
-use Rattle.std.proofs.lemmas.Bool.{and_from, and_parts}
-use Rattle.std.proofs.lemmas.Bool.Decides.{Decides-int_eq, nat_tests}
+use Rattle.std.proofs.Common.{◌≡◌, ℕ, ℤ, pos, true, false, ◌&&◌, List, Option, Some, None, inl, inr, refl, sym, ap, subst, ◌∙◌, int_cmp, int_eq, arith}
+use Rattle.std.proofs.lemmas.Bool.{and_from, and_parts, cases_Bool}
+use Rattle.std.proofs.lemmas.Bool.Decides.{nat_tests}
+use Rattle.std.proofs.lemmas.Int.{ints}
 use Rattle.std.specs.declared.cmp.Ordering.{Ordering}
 use Rattle.std.specs.declared.cmp.Ordering.TheVariants.{Less, Equal, Greater}
-use Rattle.std.specs.Cmp.{Equal-is, IsTotalOrder, int_cmp_total, on_total, then_total, tied_itself}
+use Rattle.std.specs.Cmp.{Equal-is, IsTotalOrder, int_cmp_total, on_total, then_total}
 use Rattle.std.specs.Cmp.Lexicographic.{nat_list_cmp_total, slice_cmp}
 use Rattle.std.specs.FinMap.{nat_cmp-IsAntisymmetric, slice_cmp-IsAntisymmetric}
-use Rattle.std.specs.Ordering.{is_eq, is_gt, nat_cmp, ordering_then}
+use Rattle.std.specs.Ordering.{is_gt, nat_cmp, ordering_then}
+use Rattle.sqlite_keyed.proofs.KeyedLemmas.{same_int}
 use Rattle.sqlite_typed.specs.Tests.{bytes_eq}
 use Rattle.calendar.specs.Moment.{IsMoment}
 use Rattle.accounts.specs.declared.message.Message.{Message}
@@ -16,6 +18,7 @@ use Rattle.accounts.specs.declared.message.Origin.TheVariants.{Lapse, Command}
 use Rattle.accounts.specs.Messages.{class_of, message_cmp, number_of, subject_rank, tie_of}
 use Rattle.sqltables.specs.Message as table
 use Rattle.sqltables.specs.declared.message.MessageRow.{MessageRow}
+use Rattle.sqltables.proofs.RowLemmas.{bytes_same}
 use Rattle.sqlrows.specs.inner.Layouts.{by_then_key}
 use Rattle.sqlcolumns.specs.Codes.{subject_in}
 use Rattle.sqlcolumns.specs.Messages.{command_made, command_notice_in, lapse_made, lapse_notice_in, message_of_columns, origin_columns, origin_in, row_of_message}
@@ -26,11 +29,9 @@ use Rattle.sqlcolumns.proofs.MessageLemmas.{command_notice_written, lapse_notice
 use Rattle.sqlcolumns.proofs.NumberLemmas.{exact_written, moment_written}
 use Rattle.sqlcolumns.proofs.ReadLemmas.{kept, same_some, step}
 use Rattle.sqlaccounts.specs.inner.QueueRows.{IsWritten}
+use Rattle.sqlaccounts.proofs.FindingLemmas.{equal}
 
 -- ---- columns
-
-same_int : (a b : ℤ) → int_eq a b ≡ true → a ≡ b
-same_int a b e = (Decides-int_eq a b).0 e
 
 abbrev origin_at : MessageRow → Option Origin
 origin_at row = origin_in (record { class = row.class; number = row.number; notice = row.notice })
@@ -55,15 +56,13 @@ command_shown row o class e =
     subst (IsOrigin row) same (record { class = class; number = sym is; notice = sym (command_notice_written row.notice notice.given notice.is) })
 
 origin_shown : (row : MessageRow) (o : Origin) → origin_at row ≡ Some o → IsOrigin row o
-origin_shown row o e = go (int_eq row.class (pos 0) && int_eq row.notice (pos 0)) (int_eq row.class (pos 1)) refl refl e
-  where
-    go : (a b : Bool) → (int_eq row.class (pos 0) && int_eq row.notice (pos 0)) ≡ a → int_eq row.class (pos 1) ≡ b
-        → cond a (lapse_made (lapse_notice_in row.number)) (cond b (command_made (exact_in row.number) (command_notice_in row.notice)) None) ≡ Some o → IsOrigin row o
-    go true b t f e =
-        let tests = and_parts (int_eq row.class (pos 0)) (int_eq row.notice (pos 0)) t in
-        lapse_shown row o (same_int row.class (pos 0) tests.0) (same_int row.notice (pos 0) tests.1) e
-    go false true t f e = command_shown row o (same_int row.class (pos 1) f) e
-    go false false t f e = cc
+origin_shown row o e = elim (cases_Bool (int_eq row.class (pos 0) && int_eq row.notice (pos 0))) [
+  | inl t ↦ let tests = and_parts (int_eq row.class (pos 0)) (int_eq row.notice (pos 0)) t in lapse_shown row o (same_int row.class (pos 0) tests.0) (same_int row.notice (pos 0) tests.1) (rw t at e)
+  | inr t ↦ elim (cases_Bool (int_eq row.class (pos 1))) [
+    | inl f ↦ command_shown row o (same_int row.class (pos 1) f) (rw (t, f) at e)
+    | inr f ↦ let never : ◌≡◌ {A = Option Origin} None (Some o) = rw (t, f) at e in cc
+  ]
+]
 
 -- the columns of a message's row
 pub record IsShown (row : MessageRow) (m : Message) : Type 0 where
@@ -99,14 +98,8 @@ written_row id account m row is e =
 
 -- ---- rows with the same columns
 
-equal_int : (a b : ℤ) → a ≡ b → int_eq a b ≡ true
-equal_int a b e = (Decides-int_eq a b).1 e
-
 same_name : (a b : List ℕ) → bytes_eq a b ≡ true → a ≡ b
 same_name a b e = slice_cmp-IsAntisymmetric nat_cmp-IsAntisymmetric a b ((Equal-is (slice_cmp nat_cmp a b)).0 e)
-
-equal_name : (a b : List ℕ) → a ≡ b → bytes_eq a b ≡ true
-equal_name a b e = ap (bytes_eq a) (sym e) ∙ ap is_eq (tied_itself nat_list_cmp_total a)
 
 -- rows with the same columns read as the same message
 pub same_read : (r x : MessageRow) (m : Message) → message_of_columns r ≡ Some m → table.is_same_message r x ≡ true → (message_of_columns x ≡ Some m) × (x.account ≡ r.account)
@@ -117,60 +110,34 @@ same_read r x m reads e =
     let fourth = and_parts _ _ third.1 in
     let fifth = and_parts _ _ fourth.1 in
     let sixth = and_parts _ _ fifth.1 in
-    let account : x.account ≡ r.account = same_int x.account r.account first.0 in
-    let moment : x.moment ≡ r.moment = same_int x.moment r.moment second.0 in
-    let class : x.class ≡ r.class = same_int x.class r.class third.0 in
-    let number : x.number ≡ r.number = same_int x.number r.number fourth.0 in
-    let name : x.name ≡ r.name = same_name x.name r.name fifth.0 in
-    let subject : x.subject ≡ r.subject = same_int x.subject r.subject sixth.0 in
-    let notice : x.notice ≡ r.notice = same_int x.notice r.notice sixth.1 in
-    ((λ i. message_of_columns (record x { moment = moment i; class = class i; number = number i; name = name i; subject = subject i; notice = notice i })) ∙ reads, account)
+    ((λ i. message_of_columns (record x { moment = same_int x.moment r.moment second.0 i; class = same_int x.class r.class third.0 i; number = same_int x.number r.number fourth.0 i; name = same_name x.name r.name fifth.0 i; subject = same_int x.subject r.subject sixth.0 i; notice = same_int x.notice r.notice sixth.1 i })) ∙ reads, same_int x.account r.account first.0)
 
 -- and rows of one account that read as the same message have the same columns
 pub same_columns : (r x : MessageRow) (m : Message) → x.account ≡ r.account → message_of_columns r ≡ Some m → message_of_columns x ≡ Some m → table.is_same_message r x ≡ true
 same_columns r x m account reads also =
     let a = shown x m also in
     let b = shown r m reads in
-    and_from _ _ (equal_int x.account r.account account)
-    (and_from _ _ (equal_int x.moment r.moment (a.moment ∙ sym b.moment))
-    (and_from _ _ (equal_int x.class r.class (a.class ∙ sym b.class))
-    (and_from _ _ (equal_int x.number r.number (a.number ∙ sym b.number))
-    (and_from _ _ (equal_name x.name r.name (a.name ∙ sym b.name))
-    (and_from _ _ (equal_int x.subject r.subject (a.subject ∙ sym b.subject))
-    (equal_int x.notice r.notice (a.notice ∙ sym b.notice)))))))
+    and_from _ _ (equal x.account r.account account)
+    (and_from _ _ (equal x.moment r.moment (a.moment ∙ sym b.moment))
+    (and_from _ _ (equal x.class r.class (a.class ∙ sym b.class))
+    (and_from _ _ (equal x.number r.number (a.number ∙ sym b.number))
+    (and_from _ _ (bytes_same x.name r.name (a.name ∙ sym b.name))
+    (and_from _ _ (equal x.subject r.subject (a.subject ∙ sym b.subject))
+    (equal x.notice r.notice (a.notice ∙ sym b.notice)))))))
 
 -- ---- the order of rows
 
-one_rank : (a b : ℕ) (x y z : Bool) → nat_lt a b ≡ x → nat_lt b a ≡ y → nat_eq a b ≡ z → cond x Less (cond y Greater Equal) ≡ cond x Less (cond z Equal Greater)
-one_rank a b true y z e f g = refl
-one_rank a b false true true e f g = absurd (grind (arith, nat_tests))
-one_rank a b false true false e f g = refl
-one_rank a b false false true e f g = refl
-one_rank a b false false false e f g = absurd (grind (arith, nat_tests))
+number_cmp : (a b : ℕ) → int_cmp (pos a) (pos b) ≡ nat_cmp a b
+number_cmp a b = grind (arith, ints, nat_tests)
 
 -- numbers are in the order of their columns
-pub number_cmp : (a b : ℕ) → int_cmp (pos a) (pos b) ≡ nat_cmp a b
-number_cmp a b = one_rank a b _ _ _ refl refl refl
+columns_cmp : {a b : ℤ} {m n : ℕ} → a ≡ pos m → b ≡ pos n → int_cmp a b ≡ nat_cmp m n
+columns_cmp {a} {b} {m} {n} e f = (λ i. int_cmp (e i) (f i)) ∙ number_cmp m n
 
-third : (a b c d : Ordering) → ordering_then a (ordering_then b (ordering_then c d)) ≡ ordering_then (ordering_then (ordering_then a b) c) d
-third Less b c d = refl
-third Greater b c d = refl
-third Equal Less c d = refl
-third Equal Greater c d = refl
-third Equal Equal c d = refl
-
-all_parts : (a b c d e f g : Ordering)
-    → ordering_then a (ordering_then b (ordering_then c (ordering_then d (ordering_then e (ordering_then f g)))))
-    ≡ ordering_then (ordering_then (ordering_then (ordering_then (ordering_then (ordering_then a b) c) d) e) f) g
-all_parts a b c d e f g =
-    third a b c (ordering_then d (ordering_then e (ordering_then f g)))
-    ∙ third (ordering_then (ordering_then a b) c) d e (ordering_then f g)
-    ∙ then_then (ordering_then (ordering_then (ordering_then (ordering_then a b) c) d) e) f g
-  where
-    then_then : (a b c : Ordering) → ordering_then a (ordering_then b c) ≡ ordering_then (ordering_then a b) c
-    then_then Less b c = refl
-    then_then Equal b c = refl
-    then_then Greater b c = refl
+then_then : (a b c : Ordering) → ordering_then a (ordering_then b c) ≡ ordering_then (ordering_then a b) c
+then_then Less b c = refl
+then_then Equal b c = refl
+then_then Greater b c = refl
 
 abbrev pub row_cmp : MessageRow → MessageRow → Ordering
 row_cmp = by_then_key table.messages table.message_order
@@ -180,20 +147,9 @@ pub row_order : (a b : MessageRow) (m n : Message) → message_of_columns a ≡ 
 row_order a b m n e f =
     let x = shown a m e in
     let y = shown b n f in
-    (λ i. ordering_then (int_cmp (x.moment i) (y.moment i))
-    (ordering_then (int_cmp (x.class i) (y.class i))
-    (ordering_then (int_cmp (x.number i) (y.number i))
-    (ordering_then (slice_cmp nat_cmp (x.name i) (y.name i))
-    (ordering_then (int_cmp (x.subject i) (y.subject i))
-    (ordering_then (int_cmp (x.notice i) (y.notice i)) (int_cmp a.id b.id)))))))
-    ∙ (λ i. ordering_then (number_cmp m.moment n.moment i)
-    (ordering_then (number_cmp (class_of m.origin) (class_of n.origin) i)
-    (ordering_then (number_cmp (number_of m.origin) (number_of n.origin) i)
-    (ordering_then (slice_cmp nat_cmp m.name n.name)
-    (ordering_then (number_cmp (subject_rank m.subject) (subject_rank n.subject) i)
-    (ordering_then (number_cmp (tie_of m.origin) (tie_of n.origin) i) (int_cmp a.id b.id)))))))
-    ∙ all_parts (nat_cmp m.moment n.moment) (nat_cmp (class_of m.origin) (class_of n.origin)) (nat_cmp (number_of m.origin) (number_of n.origin)) (slice_cmp nat_cmp m.name n.name)
-    (nat_cmp (subject_rank m.subject) (subject_rank n.subject)) (nat_cmp (tie_of m.origin) (tie_of n.origin)) (int_cmp a.id b.id)
+    (λ i. ordering_then (columns_cmp x.moment y.moment i) (ordering_then (columns_cmp x.class y.class i) (ordering_then (columns_cmp x.number y.number i)
+    (ordering_then (slice_cmp nat_cmp (x.name i) (y.name i)) (ordering_then (columns_cmp x.subject y.subject i) (ordering_then (columns_cmp x.notice y.notice i) (int_cmp a.id b.id)))))))
+    ∙ simp then_then
 
 pub row_cmp_total : IsTotalOrder row_cmp
 row_cmp_total =

@@ -1,41 +1,33 @@
 -- No row leads to an account that isn't there.
-use Rattle.std.proofs.Common.{◌≡◌, inl, inr, ℤ, Bool, true, false, cond, List, [], ◌∷◌, filter, Some, None, refl, sym, ap, ◌∙◌, int_eq}
+use Rattle.std.proofs.Common.{◌≡◌, ℕ, ℤ, true, false, cond, List, [], filter, Option, Some, None, refl, sym, ap, ◌∙◌, int_eq}
+use Rattle.std.proofs.lemmas.Bool.{false_from_ne_true}
+use Rattle.std.specs.FinMap.{get}
 use Rattle.std.specs.List.{filter_map}
+use Rattle.std.specs.Option.{option_map, unwrap_or}
 use Rattle.sqlite_keyed.specs.Keyed.{get_by}
-use Rattle.sqlite_keyed.proofs.KeyedLemmas.{same_int}
+use Rattle.sqlite_keyed.proofs.KeyedLemmas.{key-get_by, same_int}
 use Rattle.sqlite_keyed.proofs.ListLemmas.{filter_none}
-use Rattle.sqlite_rules.specs.Lists.{Has}
 use Rattle.sqlite_rules.proofs.ListLemmas.{all_from}
+use Rattle.accounts.specs.Account.{empty_account}
 use Rattle.accounts.specs.Lines.{in_order}
 use Rattle.basis.specs.Bag.{bag_of}
 use Rattle.sqlcolumns.specs.Lines.{line_of_columns}
 use Rattle.sqlcolumns.specs.Messages.{message_of_columns}
+use Rattle.sqlcolumns.specs.Numbers.{is_place, registrar_column}
 use Rattle.sqltables.specs.Account as account_table
+use Rattle.sqltables.specs.declared.account.AccountRow.{AccountRow}
 use Rattle.sqltables.specs.Content.{Content}
 use Rattle.sqltables.specs.declared.line.LineRow.{LineRow}
 use Rattle.sqltables.specs.declared.message.MessageRow.{MessageRow}
 use Rattle.sqltables.specs.inner.Consistent.{IsConsistent, LeadsTo}
-use Rattle.sqlaccounts.specs.Accounts.{lines_under, put_all, queue_under, row_of}
+use Rattle.sqlaccounts.specs.Accounts.{account_of_row, account_of_rows, accounts_of, lines_under, put_all, queue_under, row_of}
+use Rattle.sqlaccounts.proofs.AccountLemmas.{get-accounts_of, get-found}
 use Rattle.sqlaccounts.proofs.BagLemmas.{bag-nil}
-use Rattle.sqlaccounts.proofs.FindingLemmas.{equal}
+use Rattle.sqlaccounts.proofs.FindingLemmas.{equal, unmissed}
 
-module _ {X Y : Type 0} (key : Y → ℤ) (column : X → ℤ) where
-  -- what is there is found
-  there : (ys : List Y) (y : Y) (id : ℤ) → Has ys y → key y ≡ id → get_by key ys id ≡ None → ⊥
-  there [] y id h e none = absurd h
-  there (z ∷ ys) y id h e none = go (int_eq (key z) id) refl h none (λ k. there ys y id k e)
-    where
-      go : (b : Bool) → int_eq (key z) id ≡ b → Has (z ∷ ys) y → cond b (Some z) (get_by key ys id) ≡ None → (Has ys y → get_by key ys id ≡ None → ⊥) → ⊥
-      go true at k n later = cc
-      go false at (inl k) n later = let here : true ≡ false = sym (equal (key z) id (ap key (sym k) ∙ e)) ∙ at in cc
-      go false at (inr k) n later = later k n
-
-  none-with : (xs : List X) (ys : List Y) (id : ℤ) → LeadsTo xs (λ x. Some (column x)) ys key → get_by key ys id ≡ None → filter (λ x. int_eq (column x) id) xs ≡ []
-  none-with xs ys id leads none = filter_none (λ x. int_eq (column x) id) xs (all_from (λ x. int_eq (column x) id ≡ false) xs (λ x h. apart x h (int_eq (column x) id) refl))
-    where
-      apart : (x : X) → Has xs x → (b : Bool) → int_eq (column x) id ≡ b → int_eq (column x) id ≡ false
-      apart x h false e = e
-      apart x h true e = let it = leads x h id (ap Some (same_int (column x) id e)) in absurd (there ys it.0 id it.1 it.2 none)
+none-with : {X Y : Type 0} (key : Y → ℤ) (column : X → ℤ) (xs : List X) (ys : List Y) (id : ℤ) → LeadsTo xs (λ x. Some (column x)) ys key → get_by key ys id ≡ None → filter (λ x. int_eq (column x) id) xs ≡ []
+none-with key column xs ys id leads none = filter_none (λ x. int_eq (column x) id) xs (all_from (λ x. int_eq (column x) id ≡ false) xs (λ x has. false_from_ne_true (int_eq (column x) id) (λ e.
+    let it = leads x has id (ap Some (same_int (column x) id e)) in unmissed (λ y. int_eq (key y) id) ys it.0 it.1 (equal (key it.0) id it.2) none)))
 
 -- ---- of an account that isn't there
 
@@ -45,3 +37,16 @@ module _ (xs : Content) (id : ℤ) (consistent : IsConsistent xs) (none : row_of
 
   pub queue-of-none : queue_under xs id ≡ []
   queue-of-none = ap (λ rows. put_all (filter_map message_of_columns rows)) (none-with account_table.accounts.key (λ (x : MessageRow). x.account) xs.messages xs.accounts id consistent.linked.message_account none)
+
+-- an account's lines and messages, also where there is none
+pub parts-there : (xs : Content) (r : ℕ) → IsConsistent xs → is_place r ≡ true → ((account_of_rows r xs).lines ≡ lines_under xs (registrar_column r)) × ((account_of_rows r xs).queue ≡ queue_under xs (registrar_column r))
+parts-there xs r consistent place = go (row_of xs (registrar_column r)) refl
+  where
+    go : (o : Option AccountRow) → row_of xs (registrar_column r) ≡ o → ((account_of_rows r xs).lines ≡ lines_under xs (registrar_column r)) × ((account_of_rows r xs).queue ≡ queue_under xs (registrar_column r))
+    go (Some row) at =
+        let found = get-found xs r row place at in
+        let own = key-get_by account_table.accounts.key xs.accounts (registrar_column r) row at in
+        (ap (λ a. (unwrap_or a empty_account).lines) found ∙ ap (lines_under xs) own, ap (λ a. (unwrap_or a empty_account).queue) found ∙ ap (queue_under xs) own)
+    go None at =
+        let none : get (accounts_of xs) r ≡ None = get-accounts_of xs r ∙ (λ i. cond (place i) (option_map (account_of_row xs) (at i)) None) in
+        (ap (λ a. (unwrap_or a empty_account).lines) none ∙ sym (lines-of-none xs (registrar_column r) consistent at), ap (λ a. (unwrap_or a empty_account).queue) none ∙ sym (queue-of-none xs (registrar_column r) consistent at))

@@ -1,17 +1,17 @@
 -- Which rows of lines are found, and what is left without one of them.
 use Rattle.std.proofs.Common.{◌≡◌, inl, inr, ℕ, ℤ, ◌<ℤ◌, Bool, true, false, cond, not, ◌&&◌, ◌||◌, List, [], ◌∷◌, ◌++◌, filter, find, Option, Some, None, IfSome, refl, sym, ap, ◌∙◌, arith, int_eq, true≢false}
-use Rattle.std.proofs.lemmas.Bool.{and_from, and_parts}
+use Rattle.std.proofs.lemmas.Bool.{and_from, and_parts, cases_Bool, false_from_ne_true}
+use Rattle.std.proofs.lemmas.Bool.Decides.{Decides-int_eq, same_from_decides}
 use Rattle.std.proofs.lemmas.Int.{ints}
-use Rattle.std.specs.Cmp.{int_cmp_total, tied_itself}
 use Rattle.std.specs.Option.{option_map_or}
-use Rattle.std.specs.List.{AllByRecursion, cons_option, filter_map, list_any}
-use Rattle.std.specs.Ordering.{is_eq}
+use Rattle.std.specs.List.{cons_option, filter_map, list_any}
 use Rattle.sqlite_keyed.specs.Keyed.{IsKeyedBy}
 use Rattle.sqlite_keyed.specs.Lists.{delete_where}
 use Rattle.sqlite_keyed.specs.Rules.{points_to}
-use Rattle.sqlite_keyed.proofs.KeyedLemmas.{same_int}
+use Rattle.sqlite_keyed.proofs.KeyedLemmas.{int_eq_apart, same_int}
 use Rattle.sqlite_keyed.proofs.ListLemmas.{all_weaker, filter_all}
 use Rattle.sqlite_rules.specs.Lists.{Has}
+use Rattle.sqlite_rules.proofs.ListLemmas.{all_has, has_filtered, has_found, has_kept, some_has}
 use Rattle.objects.specs.declared.roid.ObjectKind.TheVariants.{Domain}
 use Rattle.objects.specs.declared.roid.Roid.{Roid}
 use Rattle.accounts.specs.declared.line.Line.{Line}
@@ -28,36 +28,27 @@ use Rattle.sqlcolumns.proofs.ReadLemmas.{same_some, some_read}
 use Rattle.sqlcolumns.proofs.RoidLemmas.{roid_read}
 use Rattle.sqltables.specs.Line.{line_with_account}
 use Rattle.sqltables.specs.declared.line.LineRow.{LineRow}
-use Rattle.sqltables.proofs.RowLemmas.{all_at}
 use Rattle.sqlaccounts.specs.inner.Finding.{IsDomainRoid, is_row_about, reads_as}
 
 pub equal : (a b : ℤ) → a ≡ b → int_eq a b ≡ true
-equal a b e = ap (λ z. int_eq z b) e ∙ ap is_eq (tied_itself int_cmp_total b)
-
-alike : (a b : Bool) → (a ≡ true → b ≡ true) → (b ≡ true → a ≡ true) → a ≡ b
-alike true true f g = refl
-alike false false f g = refl
-alike true false f g = sym (f refl)
-alike false true f g = g refl
+equal a b e = (Decides-int_eq a b).1 e
 
 -- ---- by the domain's columns
 
 module _ (roid : Roid) (is : IsDomainRoid roid) where
   here : roid_in Domain (registrar_column roid.creator) (counter_column roid.serial) ≡ Some roid
-  here =
-      (λ i. registrar_back roid.creator is.parts.creator i >>= (λ p. serial_back roid.serial is.parts.serial i >>= (λ n. Some (record roid { kind = Domain; creator = p; serial = n }))))
-      ∙ (λ i. Some (record roid { kind = sym is.kind i }))
+  here = rw (registrar_back roid.creator is.parts.creator, serial_back roid.serial is.parts.serial) (λ i. Some (record roid { kind = sym is.kind i }))
 
   same_columns : (c s : ℤ) (x : Roid) → roid_in Domain c s ≡ Some x → is_same_roid x roid ≡ (int_eq c (registrar_column roid.creator) && int_eq s (counter_column roid.serial))
   same_columns c s x read =
       let parts = roid_read Domain c s x read in
-      alike _ _
-      (λ e. let it : x ≡ roid = same-roids x roid e in and_from (int_eq c (registrar_column roid.creator)) (int_eq s (counter_column roid.serial))
-      (equal c _ (sym (registrar_written c x.creator parts.creator_is) ∙ ap (λ (r : Roid). registrar_column r.creator) it))
-      (equal s _ (sym (serial_written s x.serial parts.serial_is) ∙ ap (λ (r : Roid). counter_column r.serial) it)))
-      (λ e. let both = and_parts (int_eq c (registrar_column roid.creator)) (int_eq s (counter_column roid.serial)) e in
-      let it : x ≡ roid = same_some x roid (sym read ∙ (λ i. roid_in Domain (same_int c (registrar_column roid.creator) both.0 i) (same_int s (counter_column roid.serial) both.1 i)) ∙ here) in
-      ap (λ r. is_same_roid r roid) it ∙ itself-roid roid)
+      same_from_decides {P = x ≡ roid} _ _
+      (λ e. same-roids x roid e, λ it. ap (λ r. is_same_roid r roid) it ∙ itself-roid roid) (
+        λ e. let both = and_parts (int_eq c (registrar_column roid.creator)) (int_eq s (counter_column roid.serial)) e in
+            same_some x roid (sym read ∙ (λ i. roid_in Domain (same_int c (registrar_column roid.creator) both.0 i) (same_int s (counter_column roid.serial) both.1 i)) ∙ here),
+        λ it. and_from _ _ (equal c _ (sym (registrar_written c x.creator parts.creator_is) ∙ ap (λ (r : Roid). registrar_column r.creator) it))
+            (equal s _ (sym (serial_written s x.serial parts.serial_is) ∙ ap (λ (r : Roid). counter_column r.serial) it)),
+      )
 
   of_columns : (c s : Option ℤ) (o : Option Roid) → maybe_domain_in c s ≡ Some o → is_of roid o ≡ (points_to c (registrar_column roid.creator) && points_to s (counter_column roid.serial))
   of_columns None None None e = refl
@@ -78,56 +69,48 @@ about : (r : ℕ) (o : Option Roid) (row : LineRow) (line : Line) → line.roid 
 about r None row line at is own e = own
 about r (Some roid) row line at is own e = and_from _ _ own (sym (on-row roid is row line e) ∙ ap (is_of roid) at ∙ itself-roid roid)
 
+-- ---- what rows read as
+
+module _ {X Y : Type 0} (read : X → Option Y) where
+  -- a row that reads is there as what it reads as
+  pub has_read : (xs : List X) (x : X) (y : Y) → Has xs x → read x ≡ Some y → Has (filter_map read xs) y
+  has_read [] x y has e = absurd has
+  has_read (z ∷ zs) x y (inl is) e = rw (← is, e) (inl refl)
+  has_read (z ∷ zs) x y (inr has) e = elim (read z) as (λ o. Has (cons_option o (filter_map read zs)) y) [ None ↦ has_read zs x y has e | Some w ↦ inr (has_read zs x y has e) ]
+
+  -- and what is there is read from a row
+  pub read_from : (xs : List X) (y : Y) → Has (filter_map read xs) y → (x : X) × Has xs x × (read x ≡ Some y)
+  read_from [] y has = absurd has
+  read_from (x ∷ xs) y has = go (read x) refl has (read_from xs y)
+    where
+      go : (o : Option Y) → read x ≡ o → Has (cons_option o (filter_map read xs)) y → (Has (filter_map read xs) y → (z : X) × Has xs z × (read z ≡ Some y)) → (z : X) × Has (x ∷ xs) z × (read z ≡ Some y)
+      go None e has rest = let it = rest has in (it.0, inr it.1, it.2)
+      go (Some n) e (inl is) rest = (x, inl refl, e ∙ ap Some (sym is))
+      go (Some n) e (inr has) rest = let it = rest has in (it.0, inr it.1, it.2)
+
 -- ---- looked for
 
-found-at : {A : Type 0} (p q : A → Bool) (x row : A) (xs : List A) (b c : Bool) → q x ≡ b → p x ≡ c → find p (cond b (x ∷ filter q xs) (filter q xs)) ≡ Some row
-    → (find p (filter q xs) ≡ Some row → Has xs row × (p row ≡ true) × (q row ≡ true)) → Has (x ∷ xs) row × (p row ≡ true) × (q row ≡ true)
-found-at p q x row xs true true at is e ih =
-    let same : row ≡ x = same_some row x (sym e ∙ ap (λ t. cond t (Some x) (find p (filter q xs))) is) in
-    (inl same, ap p same ∙ is, ap q same ∙ at)
-found-at p q x row xs true false at is e ih = let it = ih (sym (ap (λ t. cond t (Some x) (find p (filter q xs))) is) ∙ e) in (inr it.0, it.1, it.2)
-found-at p q x row xs false c at is e ih = let it = ih e in (inr it.0, it.1, it.2)
-
 pub found : {A : Type 0} (p q : A → Bool) (row : A) (xs : List A) → find p (filter q xs) ≡ Some row → Has xs row × (p row ≡ true) × (q row ≡ true)
-found p q row [] e = cc
-found p q row (x ∷ xs) e = found-at p q x row xs (q x) (p x) refl refl e (found p q row xs)
+found p q row xs e = let passed = has_found p (filter q xs) row e in let there = has_filtered q xs row passed.0 in (there.0, passed.1, there.1)
 
-module _ (line : Line) (p q a : LineRow → Bool)
-    (hits : (x : LineRow) → a x ≡ true → (l : Line) → line_of_columns x ≡ Some l → same in_order line l ≡ true → (q x ≡ true) × (p x ≡ true)) where
-  abbrev lines : List LineRow → List Line
-  lines rows = filter_map line_of_columns (filter a rows)
-
-  later : (x : LineRow) (xs : List LineRow) (b c : Bool) → p x ≡ c → find p (cond b (x ∷ filter q xs) (filter q xs)) ≡ None → find p (filter q xs) ≡ None
-  later x xs true true is e = let no : Some x ≡ None = sym (ap (λ t. cond t (Some x) (find p (filter q xs))) is) ∙ e in cc
-  later x xs true false is e = sym (ap (λ t. cond t (Some x) (find p (filter q xs))) is) ∙ e
-  later x xs false c is e = e
-
-  hit : (x : LineRow) (xs : List LineRow) → q x ≡ true → p x ≡ true → find p (filter q (x ∷ xs)) ≡ Some x
-  hit x xs at is = ap (λ b. find p (cond b (x ∷ filter q xs) (filter q xs))) at ∙ ap (λ t. cond t (Some x) (find p (filter q xs))) is
-
-  not_this : (x : LineRow) (l : Line) (xs : List LineRow) (b : Bool) → same in_order line l ≡ b → a x ≡ true → line_of_columns x ≡ Some l → find p (filter q (x ∷ xs)) ≡ None
-      → list_any (same in_order line) (lines xs) ≡ false → (b || list_any (same in_order line) (lines xs)) ≡ false
-  not_this x l xs true s own reads e rest = let it = hits x own l reads s in let no : Some x ≡ None = sym (hit x xs it.0 it.1) ∙ e in cc
-  not_this x l xs false s own reads e rest = rest
-
-  missed-at : (x : LineRow) (xs : List LineRow) (b : Bool) (o : Option Line) → a x ≡ b → line_of_columns x ≡ o → find p (filter q (x ∷ xs)) ≡ None
-      → list_any (same in_order line) (lines xs) ≡ false → list_any (same in_order line) (filter_map line_of_columns (cond b (x ∷ filter a xs) (filter a xs))) ≡ false
-  missed-at x xs false o own reads e rest = rest
-  missed-at x xs true None own reads e rest = ap (λ m. list_any (same in_order line) (cons_option m (lines xs))) reads ∙ rest
-  missed-at x xs true (Some l) own reads e rest = ap (λ m. list_any (same in_order line) (cons_option m (lines xs))) reads ∙ not_this x l xs (same in_order line l) refl own reads e rest
-
-  missed : (rows : List LineRow) → find p (filter q rows) ≡ None → list_any (same in_order line) (lines rows) ≡ false
-  missed [] e = refl
-  missed (x ∷ xs) e = missed-at x xs (a x) (line_of_columns x) refl refl e (missed xs (later x xs (q x) (p x) refl e))
+-- what is there isn't missed
+pub unmissed : {A : Type 0} (p : A → Bool) (xs : List A) (x : A) → Has xs x → p x ≡ true → find p xs ≡ None → ⊥
+unmissed p [] x has is none = absurd has
+unmissed p (y ∷ ys) x has is none = elim (cases_Bool (p y)) [
+  | inl at ↦ let never : Some y ≡ None = rw at at none in cc
+  | inr out ↦ elim has [ inl e ↦ absurd (true≢false (sym is ∙ ap p e ∙ out)) | inr later ↦ unmissed p ys x later is (rw out at none) ]
+]
 
 -- where no row is found, no line is there
 pub none-there : (r : ℕ) (line : Line) (rows : List LineRow) → IfSome line.roid IsDomainRoid → find (reads_as line) (filter (is_row_about r line.roid) rows) ≡ None
     → list_any (same in_order line) (filter_map line_of_columns (filter (line_with_account (registrar_column r)) rows)) ≡ false
-none-there r line rows is e =
-    missed line (reads_as line) (is_row_about r line.roid) (line_with_account (registrar_column r))
-    (λ x own l reads s. let it : line_of_columns x ≡ Some line = reads ∙ ap Some (sym (same-in_order line l s)) in
-    (about r line.roid x line refl is own it, ap (λ (o : Option Line). option_map_or (is_line line) o false) reads ∙ line-told line l ∙ s))
-    rows e
+none-there r line rows is none = false_from_ne_true _ (λ any.
+    let some = some_has (same in_order line) _ any in
+    let row = read_from line_of_columns (filter (line_with_account (registrar_column r)) rows) some.0 some.1 in
+    let own = has_filtered (line_with_account (registrar_column r)) rows row.0 row.1 in
+    let it : line_of_columns row.0 ≡ Some line = row.2 ∙ ap Some (sym (same-in_order line some.0 some.2)) in
+    unmissed (reads_as line) (filter (is_row_about r line.roid) rows) row.0 (has_kept (is_row_about r line.roid) rows row.0 own.0 (about r line.roid row.0 line refl is own.1 it))
+    (ap (λ (o : Option Line). option_map_or (is_line line) o false) row.2 ∙ line-told line some.0 ∙ some.2) none)
 
 -- what reads as a line
 pub reads : (line : Line) (row : LineRow) (o : Option Line) → line_of_columns row ≡ o → option_map_or (is_line line) o false ≡ true → line_of_columns row ≡ Some line
@@ -147,27 +130,17 @@ pub record Parts {X : Type 0} (key : X → ℤ) (xs : List X) (x : X) : Type 0 w
   pub consistent : xs ≡ front ++ x ∷ rest
   pub without : delete_where (λ y. int_eq (key y) (key x)) xs ≡ front ++ rest
 
-module _ {X : Type 0} (key : X → ℤ) where
-  at-head : (x y : X) (xs : List X) → x ≡ y → AllByRecursion (λ z. key y <ℤ key z) xs → delete_where (λ z. int_eq (key z) (key x)) (y ∷ xs) ≡ xs
-  at-head x y xs e up =
-      ap (λ b. cond (not b) (y ∷ delete_where (λ z. int_eq (key z) (key x)) xs) (delete_where (λ z. int_eq (key z) (key x)) xs)) (equal (key y) (key x) (ap key (sym e)))
-      ∙ filter_all (λ z. not (int_eq (key z) (key x))) xs
-      (all_weaker (λ z. key y <ℤ key z) (λ z. not (int_eq (key z) (key x)) ≡ true) (λ z below. let same : key x ≡ key y = ap key e in let apart : int_eq (key z) (key x) ≡ false = grind (arith, ints, below, same) in ap not apart) xs up)
-
-  past-head : (x y : X) (xs : List X) → key y <ℤ key x → delete_where (λ z. int_eq (key z) (key x)) (y ∷ xs) ≡ y ∷ delete_where (λ z. int_eq (key z) (key x)) xs
-  past-head x y xs below =
-      let apart : int_eq (key y) (key x) ≡ false = grind (arith, ints, below) in
-      ap (λ b. cond (not b) (y ∷ delete_where (λ z. int_eq (key z) (key x)) xs) (delete_where (λ z. int_eq (key z) (key x)) xs)) apart
-
-  -- a row by its number
-  pub parts : (xs : List X) (x : X) → IsKeyedBy key xs → Has xs x → Parts key xs x
-  parts [] x up has = absurd has
-  parts (y ∷ xs) x up (inl e) = record { front = []; rest = xs; consistent = ap (λ z. z ∷ xs) (sym e); without = at-head x y xs e up.0 }
-  parts (y ∷ xs) x up (inr has) =
-      let it = parts xs x up.1 has in
-      record {
-        front = y ∷ it.front;
-        rest = it.rest;
-        consistent = ap (λ zs. y ∷ zs) it.consistent;
-        without = past-head x y xs (all_at (λ z. key y <ℤ key z) xs x up.0 has) ∙ ap (λ zs. y ∷ zs) it.without;
-      }
+-- a row by its number
+pub parts : {X : Type 0} (key : X → ℤ) (xs : List X) (x : X) → IsKeyedBy key xs → Has xs x → Parts key xs x
+parts key [] x up has = absurd has
+parts key (y ∷ xs) x up (inl e) = record {
+  front = [];
+  rest = xs;
+  consistent = ap (λ z. z ∷ xs) (sym e);
+  without = rw (equal (key y) (key x) (ap key (sym e)))
+      (filter_all (λ z. not (int_eq (key z) (key x))) xs (all_weaker (λ z. key y <ℤ key z) _ (λ z below. let same : key x ≡ key y = ap key e in ap not (int_eq_apart (key z) (key x) (λ at. absurd (omega (arith, ints, below, same, at))))) xs up.0));
+}
+parts key (y ∷ xs) x up (inr has) =
+    let it = parts key xs x up.1 has in
+    let below : key y <ℤ key x = all_has (λ z. key y <ℤ key z) xs x up.0 has in
+    record { front = y ∷ it.front; rest = it.rest; consistent = ap (λ zs. y ∷ zs) it.consistent; without = rw (int_eq_apart (key y) (key x) (λ at. absurd (omega (arith, ints, below, at))), it.without) }

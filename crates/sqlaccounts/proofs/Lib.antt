@@ -6,13 +6,10 @@ pub mod LineLemmas
 pub mod LinesOnLemmas
 pub mod OpeningLemmas
 pub mod SwapLemmas
-pub mod TakingLemmas
 pub mod ConsistencyLemmas
 pub mod ColumnLemmas
 pub mod MessageLemmas
 pub mod QueueLemmas
 pub mod SortLemmas
-pub mod PlaceLemmas
 pub mod PostingLemmas
 pub mod StepLemmas
-pub mod UnderwayLemmas

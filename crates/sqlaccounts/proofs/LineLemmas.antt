@@ -1,35 +1,47 @@
--- What another balance means, and one line more.
-use Rattle.std.proofs.Common.{◌≡◌, ℕ, ℤ, pos, ◌+ℤ◌, ◌-ℤ◌, Bool, true, false, cond, ◌&&◌, length, List, [], ◌∷◌, ◌++◌, filter, Option, Some, None, refl, sym, ap, ◌∙◌, arith, int_eq, true≢false, append-nil}
+-- What another balance means, and one line more or less.
+use Rattle.std.proofs.Common.{◌≡◌, ◌⊎◌, inl, inr, ℕ, ℤ, pos, ◌+ℤ◌, ◌-ℤ◌, Bool, true, false, cond, ◌&&◌, length, List, [], ◌∷◌, ◌++◌, filter, find, Option, Some, None, IfSome, refl, sym, ap, subst, ◌∙◌, arith, int_eq, append-nil}
 use Rattle.std.proofs.lemmas.Int.{ints}
 use Rattle.std.proofs.lemmas.List.Elements.{filter-append, filter_map-append}
-use Rattle.std.specs.List.{cons_option, filter_map}
-use Rattle.sqlite_keyed.specs.Keyed.{insert_by, next_key}
-use Rattle.sqlite_keyed.proofs.KeyedLemmas.{int_eq_apart, key-get_by, same_int}
+use Rattle.std.specs.List.{cons_option, filter_map, list_any}
+use Rattle.std.specs.Option.{option_map}
+use Rattle.sqlite_keyed.specs.Keyed.{IsKeyedBy, next_key}
+use Rattle.sqlite_keyed.specs.Lists.{delete_where}
+use Rattle.sqlite_rules.specs.Lists.{Has}
+use Rattle.sqlite_rules.proofs.ListLemmas.{has_either, has_filtered}
+use Rattle.accounts.specs.declared.account.Account.{Account}
 use Rattle.accounts.specs.declared.line.Line.{Line}
+use Rattle.accounts.specs.declared.line.LineSwap.{LineSwap}
 use Rattle.accounts.specs.Entries.{with_lines}
-use Rattle.accounts.specs.Lines.{amount, balance, in_order}
+use Rattle.accounts.specs.Lines.{amount, balance, in_order, swapped_all}
 use Rattle.accounts.proofs.LineLaws.{balance-add, lines_in_order}
-use Rattle.basis.specs.Bag.{add, bag_of}
+use Rattle.basis.specs.Bag.{add, bag_of, remade, same, taken}
+use Rattle.basis.proofs.BagLaws.{any-bag_of, taken-absent, taken-add}
+use Rattle.policy.specs.declared.schedule.Schedule.{Schedule}
 use Rattle.sqlcolumns.specs.inner.Lines.{domain_columns, line_row_with, row_of_line}
 use Rattle.sqlcolumns.specs.Lines.{line_of_columns}
-use Rattle.sqlcolumns.specs.Messages.{message_of_columns}
-use Rattle.sqlcolumns.specs.Numbers.{counter_in, exact_column, is_place}
+use Rattle.sqlcolumns.specs.Numbers.{counter_in, exact_column, maybe_moment_column}
 use Rattle.sqlcolumns.specs.Steps.{◌>>=◌}
 use Rattle.sqlcolumns.proofs.ReadLemmas.{same_some}
 use Rattle.sqlrows.specs.inner.Layouts.{appended}
-use Rattle.sqltables.specs.Account as account_table
 use Rattle.sqltables.specs.declared.account.AccountRow.{AccountRow}
 use Rattle.sqltables.specs.Content.{Content}
-use Rattle.sqltables.specs.inner.Content.{accounts_to, lines_to}
+use Rattle.sqltables.specs.inner.Content.{lines_to}
 use Rattle.sqltables.specs.Line as table
 use Rattle.sqltables.specs.declared.line.LineRow.{LineRow}
-use Rattle.sqltables.specs.Line.{line_with_account}
-use Rattle.sqltables.specs.Message.{message_with_account}
-use Rattle.sqlaccounts.specs.Accounts.{balance_in, ident_and_held, lines_under, put_all, queue_under, row_of}
-use Rattle.sqlaccounts.specs.inner.Changes.{AreOthersKept, IsChange, IsBalanceChanged, IsWritten}
-use Rattle.sqlaccounts.proofs.AccountLemmas.{changed}
+use Rattle.sqltables.specs.Line.{line_with_account, line_with_id}
+use Rattle.sqlaccounts.specs.Accounts.{account_of_row, account_of_rows, balance_in, ident_and_held, lines_under, queue_under}
+use Rattle.sqlaccounts.specs.Graces.{maybe_grace_end}
+use Rattle.sqlaccounts.specs.inner.Changes.{IsBalanceChanged, IsWritten}
+use Rattle.sqlaccounts.specs.inner.Finding.{IsDomainRoid, is_row_about, reads_as}
+use Rattle.sqlaccounts.specs.inner.Posting.{HasEnd, IsPosted, IsRowOf}
 use Rattle.sqlaccounts.proofs.BagLemmas.{bag-middle}
-use Rattle.sqlaccounts.proofs.FindingLemmas.{equal}
+use Rattle.sqlaccounts.proofs.FindingLemmas.{equal, found, none-there, own-row, parts, reads}
+use Rattle.sqlaccounts.proofs.PostingLemmas.{own-lines, posted-as, posted-rows, posted-still}
+
+-- ---- swaps
+
+abbrev pub with_swaps : List LineSwap → Account → Account
+with_swaps swaps = with_lines (swapped_all swaps)
 
 -- ---- written
 
@@ -61,60 +73,99 @@ lines-with p front rest x line e reads =
 
 -- ---- sums
 
-back_from : (x y a : ℤ) → x +ℤ a ≡ a +ℤ y → x ≡ y
-back_from x y a e = omega (arith, ints, e)
-
-there_to : (x y a : ℤ) → x ≡ y → x +ℤ a ≡ a +ℤ y
-there_to x y a e = omega (arith, ints, e)
-
-added-at : (x y a : ℤ) (b : Bool) → int_eq x y ≡ b → int_eq (x +ℤ a) (a +ℤ y) ≡ b
-added-at x y a true e = equal _ _ (there_to x y a (same_int x y e))
-added-at x y a false e = int_eq_apart _ _ (λ s. true≢false (sym (equal x y (back_from x y a s)) ∙ e))
-
 -- two sums to which the same is added
-pub both-added : (x y a : ℤ) → int_eq (x +ℤ a) (a +ℤ y) ≡ int_eq x y
-both-added x y a = added-at x y a _ refl
+both-added : (x y a : ℤ) → int_eq (x +ℤ a) (a +ℤ y) ≡ int_eq x y
+both-added x y a = grind (arith, ints)
 
 -- and of which the same is taken off
-pub both-less : (x y a : ℤ) → int_eq (x +ℤ (pos 0 -ℤ a)) y ≡ int_eq x (a +ℤ y)
-both-less x y a =
-    let back : (x +ℤ (pos 0 -ℤ a)) +ℤ a ≡ x = omega (arith, ints) in
-    sym (both-added (x +ℤ (pos 0 -ℤ a)) y a) ∙ ap (λ z. int_eq z (a +ℤ y)) back
+both-less : (x y a : ℤ) → int_eq (x +ℤ (pos 0 -ℤ a)) y ≡ int_eq x (a +ℤ y)
+both-less x y a = grind (arith, ints)
 
--- ---- another balance beside other lines
+-- ---- what is found
 
-pub repaid : (xs ys : Content) (r : ℕ) (change : List Line → List Line) (cents : ℤ) (row new : AccountRow) → is_place r ≡ true → Some row ≡ row_of xs (pos r) → IsBalanceChanged cents row new
-    → ys.accounts ≡ insert_by account_table.accounts.key xs.accounts new → ys.messages ≡ xs.messages → ((id : ℤ) → int_eq (pos r) id ≡ false → lines_under ys id ≡ lines_under xs id)
-    → lines_under ys (pos r) ≡ change (lines_under xs (pos r)) → int_eq (balance_in row.balance +ℤ cents) (balance (lines_under ys (pos r))) ≡ int_eq (balance_in row.balance) (balance (lines_under xs (pos r)))
-    → AreOthersKept xs ys → IsChange r (with_lines change) xs ys
-repaid xs ys r change cents row new place found paid put messages elsewhere here sums others =
-    let id : new.id ≡ row.id = ap (λ (a : AccountRow). a.id) paid.rest in
-    let at : row.id ≡ pos r = key-get_by account_table.accounts.key xs.accounts (pos r) row (sym found) in
-    let now : new.id ≡ pos r = id ∙ at in
-    let lines : lines_under ys new.id ≡ change (lines_under xs row.id) = ap (lines_under ys) now ∙ here ∙ ap (λ k. change (lines_under xs k)) (sym at) in
-    let queue : queue_under ys new.id ≡ queue_under xs row.id = λ i. put_all (filter_map message_of_columns (filter (message_with_account (id i)) (messages i))) in
-    let right : int_eq (balance_in new.balance) (balance (lines_under ys new.id)) ≡ int_eq (balance_in row.balance) (balance (lines_under xs row.id)) =
-    (λ i. int_eq (paid.sum i) (balance (lines_under ys (now i)))) ∙ sums ∙ ap (λ k. int_eq (balance_in row.balance) (balance (lines_under xs k))) (sym at) in
-    changed xs ys r (with_lines change) row new place (sym found) put id (ap ident_and_held paid.rest) elsewhere
-    (λ k e. ap (λ ms. put_all (filter_map message_of_columns (filter (message_with_account k) ms))) messages)
-    (λ i. record { lines = lines i; queue = queue i; commands = counter_in (paid.rest i).commands; messages = counter_in (paid.rest i).messages; serial = counter_in (paid.rest i).serial })
-    (λ i. right i && int_eq (paid.rest i).waiting (pos (length (queue i))))
-    others
+mapped : {X Y : Type 0} (f : X → Y) (o : Option X) (y : Y) → Some y ≡ option_map f o → (x : X) × (o ≡ Some x) × (f x ≡ y)
+mapped f None y e = cc
+mapped f (Some x) y e = (x, refl, same_some (f x) y (sym e))
 
--- ---- one line more
+unmapped : {X Y : Type 0} (f : X → Y) (o : Option X) → None ≡ option_map f o → o ≡ None
+unmapped f None e = refl
+unmapped f (Some x) e = cc
 
-pub added : (xs : Content) (r : ℕ) (line : Line) (ends : Option ℤ) (row new : AccountRow) (it : LineRow) → is_place r ≡ true → Some row ≡ row_of xs (pos r)
-    → IsBalanceChanged (amount line) row new → IsWritten r line ends it
-    → IsChange r (with_lines (add in_order line)) xs (lines_to (appended table.lines (λ id. record it { id = id })) (accounts_to (λ rows. insert_by account_table.accounts.key rows new) xs))
-added xs r line ends row new it place found paid written =
-    let x : LineRow = record it { id = next_key (λ (y : LineRow). y.id) xs.lines } in
-    let ys : Content = lines_to (appended table.lines (λ id. record it { id = id })) (accounts_to (λ rows. insert_by account_table.accounts.key rows new) xs) in
-    let lines : lines_under ys (pos r) ≡ add in_order line (lines_under xs (pos r)) =
-    lines-with (line_with_account (pos r)) xs.lines [] x line (equal _ _ written.account) written.reads
-    ∙ ap (λ rows. add in_order line (bag_of in_order (filter_map line_of_columns (filter (line_with_account (pos r)) rows)))) (append-nil xs.lines) in
-    repaid xs ys r (add in_order line) (amount line) row new place found paid refl refl
-    (λ k e. ap (λ rows. bag_of in_order (filter_map line_of_columns rows))
-    (filter-without (line_with_account k) xs.lines [] x (ap (λ a. int_eq a k) written.account ∙ e) ∙ ap (filter (line_with_account k)) (append-nil xs.lines)))
-    lines
-    (ap (int_eq (balance_in row.balance +ℤ amount line)) (ap balance lines ∙ balance-add line (lines_under xs (pos r))) ∙ both-added (balance_in row.balance) (balance (lines_under xs (pos r))) (amount line))
-    (record { metas = refl; days = refl; contacts = refl; domains = refl; hosts = refl; addresses = refl; links = refl; transfers = refl })
+-- ---- an account's lines, of these rows
+
+abbrev lines_in : List LineRow → ℤ → List Line
+lines_in rows id = bag_of in_order (filter_map line_of_columns (filter (line_with_account id) rows))
+
+module _ (days : Option Schedule) (r : ℕ) (row : AccountRow) (xs : Content) (is : IsRowOf r row xs) where
+  -- another balance beside other lines
+  repaid : (change : List Line → List Line) (cents : ℤ) (changed : AccountRow) (ls : List LineRow) → IsBalanceChanged cents row changed → ((id : ℤ) → int_eq (pos r) id ≡ false → lines_in ls id ≡ lines_in xs.lines id)
+      → lines_in ls row.id ≡ change (lines_in xs.lines row.id) → int_eq (balance_in row.balance +ℤ cents) (balance (lines_in ls row.id)) ≡ int_eq (balance_in row.balance) (balance (lines_in xs.lines row.id))
+      → ((line : LineRow) → Has ls line → Has xs.lines line ⊎ HasEnd days line) → IsPosted days r (with_lines change) row changed xs (lines_to (λ _. ls) xs)
+  repaid change cents changed ls paid elsewhere here sums ends =
+      let id : changed.id ≡ row.id = ap (λ (a : AccountRow). a.id) paid.rest in
+      let lines : lines_in ls changed.id ≡ change (lines_in xs.lines row.id) = ap (lines_in ls) id ∙ here in
+      posted-rows days r row xs is (with_lines change) changed ls xs.messages id (ap ident_and_held paid.rest) elsewhere (λ k e. refl)
+      (λ i. record { lines = lines i; queue = queue_under xs (id i); commands = counter_in (paid.rest i).commands; messages = counter_in (paid.rest i).messages; serial = counter_in (paid.rest i).serial })
+      ((λ i. int_eq (paid.sum i) (balance (lines_in ls (id i))) && int_eq (paid.rest i).waiting (pos (length (queue_under xs (id i))))) ∙ ap (λ b. b && int_eq row.waiting (pos (length (queue_under xs row.id)))) sums)
+      ends
+
+  -- a line more
+  pub line-posted : (line : Line) (ends : Option ℤ) (changed : AccountRow) (it : LineRow) → IsBalanceChanged (amount line) row changed → IsWritten r line ends it → ends ≡ maybe_moment_column (maybe_grace_end days line)
+      → IsPosted days r (with_lines (add in_order line)) row changed xs (lines_to (appended table.lines (λ id. record it { id = id })) xs)
+  line-posted line ends changed it paid written ended =
+      let x : LineRow = record it { id = next_key (λ (y : LineRow). y.id) xs.lines } in
+      let lines : lines_in (xs.lines ++ x ∷ []) row.id ≡ add in_order line (lines_in xs.lines row.id) =
+      lines-with (line_with_account row.id) xs.lines [] x line (equal _ _ (written.account ∙ sym is.id)) written.reads ∙ ap (λ rows. add in_order line (lines_in rows row.id)) (append-nil xs.lines) in
+      repaid (add in_order line) (amount line) changed (xs.lines ++ x ∷ []) paid
+      (λ k e. ap (λ rows. bag_of in_order (filter_map line_of_columns rows))
+      (filter-without (line_with_account k) xs.lines [] x (ap (λ a. int_eq a k) written.account ∙ e) ∙ ap (filter (line_with_account k)) (append-nil xs.lines)))
+      lines
+      (ap (int_eq (balance_in row.balance +ℤ amount line)) (ap balance lines ∙ balance-add line (lines_in xs.lines row.id)) ∙ both-added (balance_in row.balance) (balance (lines_in xs.lines row.id)) (amount line))
+      (λ y has. elim (has_either xs.lines (x ∷ []) y has) [
+        | inl there ↦ inl there
+        | inr (inl e) ↦ inr (subst (HasEnd days) (sym e) (record { line = line; reads = written.reads; ends = written.grace_end ∙ ended }))
+        | inr (inr none) ↦ absurd none
+      ])
+
+  removed : (line : Line) (changed : AccountRow) (it : LineRow) → IsKeyedBy (λ (x : LineRow). x.id) xs.lines → IsBalanceChanged (pos 0 -ℤ amount line) row changed → find (reads_as line) (filter (is_row_about r line.roid) xs.lines) ≡ Some it
+      → IsPosted days r (with_lines (taken in_order line)) row changed xs (lines_to (delete_where (line_with_id it.id)) xs)
+  removed line changed it keyed paid finds =
+      let ls : List LineRow = delete_where (line_with_id it.id) xs.lines in
+      let seen = found (reads_as line) (is_row_about r line.roid) it xs.lines finds in
+      let owner : it.account ≡ pos r = own-row r line.roid it seen.2 in
+      let ps = parts (λ (x : LineRow). x.id) xs.lines it keyed seen.0 in
+      let before : lines_in xs.lines row.id ≡ add in_order line (lines_in ls row.id) =
+      ap (λ rows. lines_in rows row.id) ps.consistent
+      ∙ lines-with (line_with_account row.id) ps.front ps.rest it line (equal _ _ (owner ∙ sym is.id)) (reads line it (line_of_columns it) refl seen.1)
+      ∙ ap (λ rows. add in_order line (lines_in rows row.id)) (sym ps.without) in
+      repaid (taken in_order line) (pos 0 -ℤ amount line) changed ls paid
+      (λ k e. ap (λ rows. bag_of in_order (filter_map line_of_columns rows))
+      (ap (filter (line_with_account k)) ps.without ∙ sym (filter-without (line_with_account k) ps.front ps.rest it (ap (λ a. int_eq a k) owner ∙ e)) ∙ ap (filter (line_with_account k)) (sym ps.consistent)))
+      (sym (ap (taken in_order line) before ∙ taken-add in_order lines_in_order line (lines_in ls row.id)))
+      (both-less (balance_in row.balance) (balance (lines_in ls row.id)) (amount line) ∙ ap (int_eq (balance_in row.balance)) (sym (ap balance before ∙ balance-add line (lines_in ls row.id))))
+      (λ x has. inl (has_filtered _ xs.lines x has).0)
+
+  -- a line less, by the number that was found
+  pub line-taken : (line : Line) (changed : AccountRow) (rows : List LineRow) (id : ℤ) → IsKeyedBy (λ (x : LineRow). x.id) xs.lines → IsBalanceChanged (pos 0 -ℤ amount line) row changed
+      → rows ≡ filter (is_row_about r line.roid) xs.lines → Some id ≡ option_map (λ (x : LineRow). x.id) (find (reads_as line) rows)
+      → IsPosted days r (with_lines (taken in_order line)) row changed xs (lines_to (delete_where (line_with_id id)) xs)
+  line-taken line changed rows id keyed paid are finds =
+      let it = mapped (λ (x : LineRow). x.id) (find (reads_as line) rows) id finds in
+      subst (λ k. IsPosted days r (with_lines (taken in_order line)) row changed xs (lines_to (delete_where (line_with_id k)) xs)) it.2 (removed line changed it.0 keyed paid (ap (find (reads_as line)) (sym are) ∙ it.1))
+
+  -- and where none was
+  pub line-left : (line : Line) (rows : List LineRow) → IfSome line.roid IsDomainRoid → rows ≡ filter (is_row_about r line.roid) xs.lines → None ≡ option_map (λ (x : LineRow). x.id) (find (reads_as line) rows)
+      → IsPosted days r (with_lines (taken in_order line)) row row xs xs
+  line-left line rows domain are finds =
+      let none = none-there r line xs.lines domain (ap (find (reads_as line)) (sym are) ∙ unmapped (λ (x : LineRow). x.id) (find (reads_as line) rows) finds) in
+      posted-still days r row xs is (with_lines (taken in_order line))
+      (ap (λ ls. record (account_of_row xs row) { lines = ls })
+      (taken-absent in_order line (lines_under xs row.id) (ap (λ k. list_any (same in_order line) (lines_under xs k)) is.id ∙ any-bag_of in_order (same in_order line) _ ∙ none)))
+
+  -- lines that are swapped
+  pub swaps-posted : (f : Line → Line) (swaps : List LineSwap) (changed : AccountRow) (ys : Content) → swapped_all swaps (account_of_rows r xs).lines ≡ remade in_order f (account_of_rows r xs).lines
+      → IsPosted days r (with_lines (swapped_all swaps)) row changed xs ys → IsPosted days r (with_lines (remade in_order f)) row changed xs ys
+  swaps-posted f swaps changed ys same it =
+      let own = own-lines r row xs is in
+      posted-as days r (with_lines (swapped_all swaps)) (with_lines (remade in_order f)) row changed xs ys is
+      (ap (λ (ls : List Line). let a : Account = record (account_of_row xs row) { lines = ls } in a) (ap (swapped_all swaps) (sym own) ∙ same ∙ ap (remade in_order f) own)) it

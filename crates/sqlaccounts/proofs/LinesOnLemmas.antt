@@ -1,9 +1,9 @@
 -- The lines that rows of one domain read as.
-use Rattle.std.proofs.Common.{◌≡◌, ℕ, pos, Bool, true, false, cond, ◌&&◌, List, [], ◌∷◌, ◌++◌, filter, Option, Some, None, refl, sym, ap, subst, ◌∙◌}
+use Rattle.std.proofs.Common.{◌≡◌, ℕ, pos, Bool, true, false, cond, ◌&&◌, List, [], ◌∷◌, ◌++◌, filter, Option, Some, None, inl, inr, refl, sym, ap, subst, ◌∙◌}
+use Rattle.std.proofs.lemmas.Bool.{cases_Bool}
 use Rattle.std.proofs.lemmas.List.Elements.{filter_map-append}
 use Rattle.std.specs.List.{cons_option, filter_map}
 use Rattle.std.specs.Option.{option_map, unwrap_or}
-use Rattle.sqlite_keyed.proofs.KeyedLemmas.{key-get_by}
 use Rattle.objects.specs.declared.roid.Roid.{Roid}
 use Rattle.accounts.specs.declared.account.Account.{Account}
 use Rattle.accounts.specs.declared.line.Line.{Line}
@@ -14,18 +14,17 @@ use Rattle.basis.specs.Bag.{add, bag_of}
 use Rattle.basis.proofs.BagLaws.{bag_of-push, filter-bag_of}
 use Rattle.sqlcolumns.specs.Lines.{line_of_columns}
 use Rattle.sqlcolumns.specs.Numbers.{is_place, registrar_column}
-use Rattle.sqltables.specs.Account as account_table
 use Rattle.sqltables.specs.declared.account.AccountRow.{AccountRow}
 use Rattle.sqltables.specs.Content.{Content}
 use Rattle.sqltables.specs.Line.{line_with_account}
 use Rattle.sqltables.specs.declared.line.LineRow.{LineRow}
 use Rattle.sqltables.specs.inner.Consistent.{IsConsistent}
-use Rattle.sqlaccounts.specs.Accounts.{account_of_row, account_of_rows, lines_under, row_of}
+use Rattle.sqlaccounts.specs.Accounts.{account_of_row, account_of_rows, row_of}
 use Rattle.sqlaccounts.specs.inner.Finding.{IsDomainRoid, is_row_on}
-use Rattle.sqlaccounts.proofs.AccountLemmas.{get-accounts_of, get-found}
+use Rattle.sqlaccounts.proofs.AccountLemmas.{get-accounts_of}
 use Rattle.sqlaccounts.proofs.BagLemmas.{bag-again, bag-nil}
+use Rattle.sqlaccounts.proofs.ConsistencyLemmas.{parts-there}
 use Rattle.sqlaccounts.proofs.FindingLemmas.{on-row}
-use Rattle.sqlaccounts.proofs.ConsistencyLemmas.{lines-of-none}
 
 -- one row more
 pub read-more : (rows : List LineRow) (row : LineRow) (line : Line) → line_of_columns row ≡ Some line
@@ -38,41 +37,20 @@ read-more rows row line e =
 
 module _ (p : Line → Bool) (a b : LineRow → Bool) (agree : (x : LineRow) (l : Line) → line_of_columns x ≡ Some l → b x ≡ (a x && p l)) where
   unread : (x : LineRow) (c : Bool) (xs : List LineRow) → line_of_columns x ≡ None → filter_map line_of_columns (cond c (x ∷ xs) xs) ≡ filter_map line_of_columns xs
-  unread x true xs e = ap (λ o. cons_option o (filter_map line_of_columns xs)) e
+  unread x true xs e = rw e
   unread x false xs e = refl
-
-  readable : (x : LineRow) (l : Line) (c : Bool) (xs : List LineRow) → line_of_columns x ≡ Some l → filter_map line_of_columns (cond c (x ∷ xs) xs) ≡ cond c (l ∷ filter_map line_of_columns xs) (filter_map line_of_columns xs)
-  readable x l true xs e = ap (λ o. cons_option o (filter_map line_of_columns xs)) e
-  readable x l false xs e = refl
-
-  passes : (l : Line) (c : Bool) (ls ms : List Line) → filter p ls ≡ ms → filter p (cond c (l ∷ ls) ls) ≡ cond (c && p l) (l ∷ ms) ms
-  passes l true ls ms e = ap (λ ns. cond (p l) (l ∷ ns) ns) e
-  passes l false ls ms e = e
-
-  part-at : (x : LineRow) (xs : List LineRow) (o : Option Line) → line_of_columns x ≡ o → filter p (filter_map line_of_columns (filter a xs)) ≡ filter_map line_of_columns (filter b xs)
-      → filter p (filter_map line_of_columns (filter a (x ∷ xs))) ≡ filter_map line_of_columns (filter b (x ∷ xs))
-  part-at x xs None e ih = ap (filter p) (unread x (a x) (filter a xs) e) ∙ ih ∙ sym (unread x (b x) (filter b xs) e)
-  part-at x xs (Some l) e ih =
-      ap (filter p) (readable x l (a x) (filter a xs) e)
-      ∙ passes l (a x) (filter_map line_of_columns (filter a xs)) (filter_map line_of_columns (filter b xs)) ih
-      ∙ ap (λ c. cond c (l ∷ filter_map line_of_columns (filter b xs)) (filter_map line_of_columns (filter b xs))) (sym (agree x l e))
-      ∙ sym (readable x l (b x) (filter b xs) e)
 
   part : (xs : List LineRow) → filter p (filter_map line_of_columns (filter a xs)) ≡ filter_map line_of_columns (filter b xs)
   part [] = refl
-  part (x ∷ xs) = part-at x xs (line_of_columns x) refl (part xs)
+  part (x ∷ xs) = go (line_of_columns x) (a x) refl refl (part xs)
+    where
+      go : (o : Option Line) (c : Bool) → line_of_columns x ≡ o → a x ≡ c → filter p (filter_map line_of_columns (filter a xs)) ≡ filter_map line_of_columns (filter b xs)
+          → filter p (filter_map line_of_columns (cond c (x ∷ filter a xs) (filter a xs))) ≡ filter_map line_of_columns (filter b (x ∷ xs))
+      go None c e own ih = ap (filter p) (unread x c (filter a xs) e) ∙ ih ∙ sym (unread x (b x) (filter b xs) e)
+      go (Some l) false e own ih = rw (agree x l e, own) ih
+      go (Some l) true e own ih = elim (cases_Bool (p l)) [ inl t ↦ rw (agree x l e, own, e, t, e, ih) | inr t ↦ rw (agree x l e, own, e, t) ih ]
 
 -- ---- of an account, also where there is none
-
-lines-at : (xs : Content) (r : ℕ) (o : Option AccountRow) → IsConsistent xs → is_place r ≡ true → row_of xs (pos r) ≡ o → (account_of_rows r xs).lines ≡ lines_under xs (pos r)
-lines-at xs r (Some row) consistent place at =
-    ap (λ a. (unwrap_or a empty_account).lines) (get-found xs r row place at) ∙ ap (lines_under xs) (key-get_by account_table.accounts.key xs.accounts (pos r) row at)
-lines-at xs r None consistent place at =
-    ap (λ a. (unwrap_or a empty_account).lines) (get-accounts_of xs r ∙ (λ i. cond (place i) (option_map (account_of_row xs) (at i)) None))
-    ∙ sym (lines-of-none xs (pos r) consistent at)
-
-pub lines-there : (xs : Content) (r : ℕ) → IsConsistent xs → is_place r ≡ true → (account_of_rows r xs).lines ≡ lines_under xs (pos r)
-lines-there xs r consistent place = lines-at xs r (row_of xs (pos r)) consistent place refl
 
 pub lines-read : (xs : Content) (r : ℕ) (roid : Roid) → IsConsistent xs → is_place r ≡ true → IsDomainRoid roid
     → bag_of in_order (filter_map line_of_columns (filter (is_row_on r roid) xs.lines)) ≡ filter (is_on roid) (account_of_rows r xs).lines
@@ -80,7 +58,7 @@ lines-read xs r roid consistent place is =
     ap (bag_of in_order) (sym (part (is_on roid) (line_with_account (registrar_column r)) (is_row_on r roid)
     (λ x l e. ap (λ c. line_with_account (registrar_column r) x && c) (sym (on-row roid is x l e))) xs.lines))
     ∙ sym (filter-bag_of in_order lines_in_order (is_on roid) (filter_map line_of_columns (filter (line_with_account (registrar_column r)) xs.lines)))
-    ∙ ap (filter (is_on roid)) (sym (lines-there xs r consistent place))
+    ∙ ap (filter (is_on roid)) (sym (parts-there xs r consistent place).0)
 
 -- an account's lines are a bag
 bag-at : (xs : Content) (b : Bool) (o : Option AccountRow)

@@ -28,14 +28,10 @@ module _ (xs : Content) (r : ℕ) (consistent : IsConsistent xs) (place : is_pla
   abbrev ys : Content
   ys = accounts_to (λ rows. insert_by account_table.accounts.key rows new) xs
 
-  empty : account_of_row ys new ≡ empty_account
-  empty = λ i. record { lines = lines-of-none xs (pos r) consistent none i; queue = queue-of-none xs (pos r) consistent none i; commands = 0; messages = 0; serial = 0 }
-
-  nothing : get (accounts_of xs) r ≡ None
-  nothing = get-accounts_of xs r ∙ (λ i. cond (place i) (option_map (account_of_row xs) (none i)) None)
-
   here : account_of_row ys new ≡ unwrap_or (get (accounts_of xs) r) empty_account
-  here = empty ∙ sym (ap (λ a. unwrap_or a empty_account) nothing)
+  here =
+      (λ i. record { lines = lines-of-none xs (pos r) consistent none i; queue = queue-of-none xs (pos r) consistent none i; commands = 0; messages = 0; serial = 0 })
+      ∙ sym (ap (λ a. unwrap_or a empty_account) (get-accounts_of xs r ∙ (λ i. cond (place i) (option_map (account_of_row xs) (none i)) None)))
 
   right : is_right ys new ≡ has_right_sums xs (pos r)
   right =
@@ -54,22 +50,18 @@ module _ (xs : Content) (r : ℕ) (consistent : IsConsistent xs) (place : is_pla
     messages = refl;
   }
 
--- where it was there
-still : (xs : Content) (r : ℕ) (row : AccountRow) → is_place r ≡ true → row_of xs (pos r) ≡ Some row → IsOpened r xs xs
-still xs r row place there = record {
-  accounts = kept_accounts xs r (λ a. a) row place there refl;
+-- and where it was
+pub still-open : (xs : Content) (r : ℕ) (o : Option AccountRow) → is_place r ≡ true → o ≡ row_of xs (pos r) → is_some o ≡ true → IsOpened r xs xs
+still-open xs r None place found e = cc
+still-open xs r (Some row) place found e = record {
+  accounts = kept_accounts xs r (λ a. a) row place (sym found) refl;
   sums = refl;
-  own = there ∙ sym (ap (λ o. Some (unwrap_or o (opened_row r))) there);
+  own = sym found ∙ ap (λ o. Some (unwrap_or o (opened_row r))) found;
   rows = λ id e. refl;
   others = record { metas = refl; days = refl; contacts = refl; domains = refl; hosts = refl; addresses = refl; links = refl; transfers = refl };
   lines = refl;
   messages = refl;
 }
-
--- by what is found of it
-pub still-open : (xs : Content) (r : ℕ) (o : Option AccountRow) → is_place r ≡ true → o ≡ row_of xs (pos r) → is_some o ≡ true → IsOpened r xs xs
-still-open xs r None place found e = cc
-still-open xs r (Some row) place found e = still xs r row place (sym found)
 
 pub opened-now : (xs : Content) (r : ℕ) (o : Option AccountRow) → IsConsistent xs → is_place r ≡ true → o ≡ row_of xs (pos r) → is_some o ≡ false
     → IsOpened r xs (accounts_to (λ rows. insert_by account_table.accounts.key rows (opened_row r)) xs)

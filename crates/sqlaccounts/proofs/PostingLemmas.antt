@@ -1,21 +1,28 @@
--- What posts make of an account whose row isn't written yet, and what that is once it is written.
-use Rattle.std.proofs.Common.{◌≡◌, ◌⊎◌, inl, inr, ℕ, ℤ, Bool, true, false, cond, List, Option, Some, Result, Ok, Err, refl, sym, ap, subst, ◌∙◌}
+-- What posts make of an account whose row isn't written yet.
+use Rattle.std.proofs.Common.{◌≡◌, ◌⊎◌, inl, inr, ℕ, ℤ, pos, ◌<ℤ◌, Bool, true, false, cond, List, [], ◌∷◌, Option, Some, None, Result, Ok, Err, Ordering, Less, Equal, Greater, int_cmp, int_eq, refl, sym, ap, subst, ◌∙◌, arith}
+use Rattle.std.proofs.lemmas.Bool.{cases_Bool}
+use Rattle.std.proofs.lemmas.Cmp.{int_ranked}
+use Rattle.std.proofs.lemmas.Int.{ints}
 use Rattle.std.specs.Cmp.{eq_by_cmp_equiv, nat_cmp_total}
 use Rattle.std.specs.FinMap.{FinMap, get, get-insert, insert, nat_cmp-IsAntisymmetric, same_map}
-use Rattle.std.specs.Option.{unwrap_or}
-use Rattle.std.specs.Ordering.{eq_by_cmp, nat_cmp}
-use Rattle.sqlite_keyed.specs.Keyed.{insert_by}
-use Rattle.sqlite_keyed.proofs.KeyedLemmas.{key-get_by}
+use Rattle.std.specs.Option.{option_map, option_map_or, unwrap_or}
+use Rattle.std.specs.Ordering.{eq_by_cmp, is_eq, match_ordering, nat_cmp}
+use Rattle.sqlite_keyed.specs.Keyed.{IsKeyedBy, get_by, insert_by}
+use Rattle.sqlite_keyed.proofs.KeyedLemmas.{key-get_by, none_past}
+use Rattle.sqlite_keyed.proofs.ListLemmas.{all_weaker}
 use Rattle.sqlite_rules.specs.Lists.{Has}
+use Rattle.sqlite_rules.proofs.ListLemmas.{has_found}
 use Rattle.std.specs.Result.{IsErr}
-use Rattle.states.specs.States.{Reads, StateOf, Stays, Writes}
+use Rattle.states.specs.States.{Reads, StateOf, Stays}
 use Rattle.states.specs.declared.fault.BookFault.{BookFault}
 use Rattle.states.proofs.LeavingLemmas.{leaves-on}
 use Rattle.accounts.specs.declared.account.Account.{Account}
+use Rattle.accounts.specs.declared.counters.Counters.{Counters}
 use Rattle.accounts.specs.Account.{empty_account}
+use Rattle.accounts.specs.Counters.{with_counters}
 use Rattle.policy.specs.declared.schedule.Schedule.{Schedule}
 use Rattle.sqlcolumns.specs.Numbers.{is_place, registrar_column}
-use Rattle.sqlrows.proofs.StateLemmas.{stays-on, then-became}
+use Rattle.sqlrows.proofs.StateLemmas.{reads-same, stays-on, then-became}
 use Rattle.sqlrows.specs.Meanings.{HasChanged}
 use Rattle.sqltables.specs.Account as account_table
 use Rattle.sqltables.specs.declared.account.AccountRow.{AccountRow}
@@ -23,17 +30,21 @@ use Rattle.sqltables.specs.Content.{Content}
 use Rattle.sqltables.specs.inner.Consistent.{IsConsistent}
 use Rattle.sqltables.specs.inner.Content.{accounts_to}
 use Rattle.sqltables.specs.declared.line.LineRow.{LineRow}
-use Rattle.sqlaccounts.specs.Accounts.{account_of_row, account_of_rows, accounts_of, ident_and_held, lines_under, queue_under, row_of}
-use Rattle.sqlaccounts.specs.inner.Changes.{IsChange, with_account_changed}
-use Rattle.sqlaccounts.specs.inner.Posting.{HasEnd, IsPosted, IsRowOf, PostsTo, with_row}
-use Rattle.sqlaccounts.proofs.AccountLemmas.{get-found, row_here, unchanged}
-use Rattle.sqlaccounts.proofs.CallLemmas.{stays-after}
-use Rattle.sqlaccounts.proofs.FindingLemmas.{equal}
+use Rattle.sqltables.specs.declared.message.MessageRow.{MessageRow}
 use Rattle.sqltables.proofs.PuttingLemmas.{consistent-with as put-consistent, put-twice}
-use Rattle.sqlaccounts.proofs.PlaceLemmas.{has-found, put-there}
+use Rattle.sqlaccounts.specs.Accounts.{account_of_row, account_of_rows, accounts_of, has_right_sums, ident_and_held, is_right, lines_under, queue_under, row_of}
+use Rattle.sqlaccounts.specs.inner.Changes.{HasNewCounters, IsChange, with_account_changed}
+use Rattle.sqlaccounts.specs.inner.Posting.{HasEnd, IsPosted, IsRowOf, PostsTo, with_row}
+use Rattle.sqlaccounts.proofs.AccountLemmas.{accounts-put, get-found, row_here, row_there, sums-put}
+use Rattle.sqlaccounts.proofs.CallLemmas.{stays-after, then-kept}
+use Rattle.sqlaccounts.proofs.FindingLemmas.{equal}
 
 abbrev key : AccountRow → ℤ
 key = account_table.accounts.key
+
+-- the content with these rows of lines and messages
+abbrev pub beside : List LineRow → List MessageRow → Content → Content
+beside ls ms xs = record xs { lines = ls; messages = ms }
 
 -- ---- the rows with one that isn't written
 
@@ -41,18 +52,26 @@ key = account_table.accounts.key
 pub row-found : (r : ℕ) (row : AccountRow) (xs : Content) → is_place r ≡ true → Some row ≡ row_of xs (registrar_column r) → IsRowOf r row xs
 row-found r row xs place found = record { place = place; id = key-get_by key xs.accounts (registrar_column r) row (sym found); own = row; there = sym found; ident = refl }
 
--- also in a store that was asked for it
-pub row-asked : (r : ℕ) (row : AccountRow) (a b : StateOf Content) → is_place r ≡ true → Reads a b × (b.is_clean ≡ true → Some row ≡ row_of a.content (registrar_column r)) → b.is_clean ≡ true → IsRowOf r row b.content
-row-asked r row a b place asked clean = subst (IsRowOf r row) (sym (asked.0.content clean)) (row-found r row a.content place (asked.1 clean))
+-- one that is there already stays where it is
+put-there : (xs : List AccountRow) (row : AccountRow) (id : ℤ) → IsKeyedBy key xs → row.id ≡ id → get_by key xs id ≡ Some row → insert_by key xs row ≡ xs
+put-there [] row id up at e = cc
+put-there (x ∷ xs) row id up at e = go (int_cmp x.id row.id) refl (put-there xs row id up.1 at)
+  where
+    head : (o : Ordering) → int_cmp x.id row.id ≡ o → cond (is_eq o) (Some x) (get_by key xs id) ≡ Some row
+    head o is = ap (λ r. cond (is_eq r) (Some x) (get_by key xs id)) (sym is ∙ ap (int_cmp x.id) at) ∙ e
+
+    go : (o : Ordering) → int_cmp x.id row.id ≡ o → (get_by key xs id ≡ Some row → insert_by key xs row ≡ xs) → match_ordering o (x ∷ insert_by key xs row) (row ∷ xs) (row ∷ x ∷ xs) ≡ x ∷ xs
+    go Less is more = ap (λ ys. x ∷ ys) (more (head Less is))
+    go Equal is more = let first : Some x ≡ Some row = head Equal is in cc
+    go Greater is more =
+        let above : id <ℤ x.id = rw at at (int_ranked x.id row.id Greater (sym is)) in
+        let none : get_by key xs id ≡ None = none_past key xs id (all_weaker _ (λ (y : AccountRow). id <ℤ y.id) (λ y h. omega (arith, ints, above, h)) xs up.0) in
+        let rest : get_by key xs id ≡ Some row = head Greater is in cc
 
 -- it changes nothing
 pub with-found : (r : ℕ) (row : AccountRow) (xs : Content) → IsConsistent xs → Some row ≡ row_of xs (registrar_column r) → with_row row xs ≡ xs
 with-found r row xs consistent found =
-    ap (λ rows. accounts_to (λ _. rows) xs) (put-there key xs.accounts row (registrar_column r) consistent.keyed.accounts (key-get_by key xs.accounts (registrar_column r) row (sym found)) (sym found))
-
--- one row after another under one number
-pub with-again : (row changed : AccountRow) (xs : Content) → changed.id ≡ row.id → with_row changed (with_row row xs) ≡ with_row changed xs
-with-again row changed xs same = ap (λ rows. accounts_to (λ _. rows) xs) (put-twice key xs.accounts row changed (sym same))
+    ap (λ rows. accounts_to (λ _. rows) xs) (put-there xs.accounts row (registrar_column r) consistent.keyed.accounts (key-get_by key xs.accounts (registrar_column r) row (sym found)) (sym found))
 
 -- what was posted is the row of the account too
 pub row-posted : (days : Option Schedule) (r : ℕ) (f : Account → Account) (row changed : AccountRow) (old new : Content) → IsRowOf r row old → IsPosted days r f row changed old new → IsRowOf r changed new
@@ -86,18 +105,57 @@ module _ (r : ℕ) (row : AccountRow) (xs : Content) (is : IsRowOf r row xs) whe
 
   -- the rows are as consistent with it
   pub consistent-with : IsConsistent xs → IsConsistent (with_row row xs)
-  consistent-with it = put-consistent xs row is.own it (has-found key xs.accounts (registrar_column r) is.own is.there) own_id is.ident
+  consistent-with it = put-consistent xs row is.own it (has_found (λ (a : AccountRow). int_eq a.id (registrar_column r)) xs.accounts is.own is.there).0 own_id is.ident
+
+module _ (days : Option Schedule) (r : ℕ) (row : AccountRow) (xs : Content) (is : IsRowOf r row xs) where
+  -- other rows of lines and messages, as if both rows of account were written
+  pub posted-rows : (f : Account → Account) (changed : AccountRow) (ls : List LineRow) (ms : List MessageRow) → changed.id ≡ row.id → ident_and_held changed ≡ ident_and_held row
+      → ((id : ℤ) → int_eq (pos r) id ≡ false → lines_under (beside ls ms xs) id ≡ lines_under xs id) → ((id : ℤ) → int_eq (pos r) id ≡ false → queue_under (beside ls ms xs) id ≡ queue_under xs id)
+      → account_of_row (beside ls ms xs) changed ≡ f (account_of_row xs row) → is_right (beside ls ms xs) changed ≡ is_right xs row → ((line : LineRow) → Has ls line → Has xs.lines line ⊎ HasEnd days line)
+      → IsPosted days r f row changed xs (beside ls ms xs)
+  posted-rows f changed ls ms id stands lines queues here right ends =
+      let old : Content = with_row row xs in
+      let new : Content = with_row changed (beside ls ms xs) in
+      let at : changed.id ≡ pos r = id ∙ is.id in
+      let put : new.accounts ≡ insert_by key old.accounts changed = sym (put-twice key xs.accounts row changed (sym id)) in
+      let value : account_of_row new changed ≡ f (unwrap_or (get (accounts_of old) r) empty_account) = here ∙ sym (ap (λ a. f (unwrap_or a empty_account)) (account-seen r row xs is)) in
+      let kept : is_right new changed ≡ has_right_sums old (pos r) = right ∙ sym (ap (λ o. option_map_or (is_right old) o true) (row-seen r row xs is)) in
+      record {
+        change = record {
+          there = (account_of_row xs row, account-seen r row xs is);
+          accounts = accounts-put old new r f changed is.place put at lines queues value kept;
+          sums = sums-put old new r f changed is.place put at lines queues value kept;
+          idents_and_held = λ k. elim (cases_Bool (int_eq (pos r) k)) [
+            | inl e ↦ ap (option_map ident_and_held) (row_here old new r changed put at k e) ∙ ap Some stands ∙ sym (ap (option_map ident_and_held) (row_here xs old r row refl is.id k e))
+            | inr e ↦ ap (option_map ident_and_held) (row_there old new r changed put at k e)
+          ];
+          others = record { metas = refl; days = refl; contacts = refl; domains = refl; hosts = refl; addresses = refl; links = refl; transfers = refl };
+        };
+        unwritten = refl;
+        id = id;
+        stands = stands;
+        ends = ends;
+      }
+
+  -- other counters
+  pub counts-posted : (f : Account → Account) (x : Counters) (changed : AccountRow) → with_counters x (account_of_row xs row) ≡ f (account_of_row xs row) → HasNewCounters x row changed → IsPosted days r f row changed xs xs
+  counts-posted f x changed same it =
+      posted-rows f changed xs.lines xs.messages (ap (λ (a : AccountRow). a.id) it.rest) (ap ident_and_held it.rest) (λ id e. refl) (λ id e. refl)
+      ((λ i. record { lines = lines_under xs (it.rest i).id; queue = queue_under xs (it.rest i).id; commands = (it.back i).commands; messages = (it.back i).messages; serial = (it.back i).serial }) ∙ same)
+      (ap (is_right xs) it.rest) (λ line has. inl has)
+
+  -- nothing is changed
+  pub posted-still : (f : Account → Account) → f (account_of_row xs row) ≡ account_of_row xs row → IsPosted days r f row row xs xs
+  posted-still f still = posted-rows f row xs.lines xs.messages refl refl (λ id e. refl) (λ id e. refl) (sym still) refl (λ line has. inl has)
 
 -- ---- one change, and another
 
+covered : (c : Bool) (a b : Account) (o : Option Account) → cond c (Some b) (cond c (Some a) o) ≡ cond c (Some b) o
+covered c a b o = grind arith
+
 put-put : (m : FinMap nat_cmp Account) (r : ℕ) (a b : Account) → insert (insert m r a) r b ≡ insert m r b
 put-put m r a b = same_map nat_cmp_total nat_cmp-IsAntisymmetric _ _ (λ q.
-    get-insert nat_cmp_total (insert m r a) r b q ∙ ap (cond (eq_by_cmp nat_cmp q r) (Some b)) (get-insert nat_cmp_total m r a q)
-    ∙ covered (eq_by_cmp nat_cmp q r) (get m q) ∙ sym (get-insert nat_cmp_total m r b q))
-  where
-    covered : (c : Bool) (o : Option Account) → cond c (Some b) (cond c (Some a) o) ≡ cond c (Some b) o
-    covered true o = refl
-    covered false o = refl
+    rw (get-insert nat_cmp_total (insert m r a) r b q, get-insert nat_cmp_total m r a q, get-insert nat_cmp_total m r b q) (covered (eq_by_cmp nat_cmp q r) a b (get m q)))
 
 now-there : (m : FinMap nat_cmp Account) (r : ℕ) (a : Account) → get (insert m r a) r ≡ Some a
 now-there m r a = get-insert nat_cmp_total m r a r ∙ ap (λ b. cond b (Some a) (get m r)) ((eq_by_cmp_equiv nat_cmp_total).refl r)
@@ -153,25 +211,6 @@ module _ (days : Option Schedule) (r : ℕ) where
     ends = it.ends;
   }
 
-  -- nothing is changed
-  pub posted-none : (f : Account → Account) (row : AccountRow) (xs : Content) → IsChange r f (with_row row xs) (with_row row xs) → IsPosted days r f row row xs xs
-  posted-none f row xs it = record { change = it; unwritten = refl; id = refl; stands = refl; ends = λ line has. inl has }
-
-  pub posted-still : (f : Account → Account) (row : AccountRow) (xs : Content) → IsRowOf r row xs → f (account_of_row xs row) ≡ account_of_row xs row → IsPosted days r f row row xs xs
-  posted-still f row xs is still = posted-none f row xs (unchanged (with_row row xs) r f row is.place (row-seen r row xs is) still)
-
-  -- as if both rows were written
-  pub posted-by : (f : Account → Account) (row changed : AccountRow) (old new : Content) → changed.id ≡ row.id → ident_and_held changed ≡ ident_and_held row → new.accounts ≡ old.accounts
-      → ((line : LineRow) → Has new.lines line → Has old.lines line ⊎ HasEnd days line)
-      → IsChange r f (with_row row old) (accounts_to (λ _. insert_by key (insert_by key old.accounts row) changed) new) → IsPosted days r f row changed old new
-  posted-by f row changed old new id stands unwritten ends it = record {
-    change = subst (λ rows. IsChange r f (with_row row old) (accounts_to (λ _. rows) new)) (put-twice key old.accounts row changed (sym id) ∙ ap (λ rows. insert_by key rows changed) (sym unwritten)) it;
-    unwritten = unwritten;
-    id = id;
-    stands = stands;
-    ends = ends;
-  }
-
 -- the same behind a look at the store, by what else it makes of the account
 pub posts-behind : (result : Result AccountRow BookFault) (days : Option Schedule) (r : ℕ) (f g : Account → Account) (row : AccountRow) (a b c : StateOf Content) → Reads a b
     → (b.is_clean ≡ true → (changed : AccountRow) (ys : Content) → IsPosted days r f row changed a.content ys → IsPosted days r g row changed a.content ys) → PostsTo result days r f row b c → PostsTo result days r g row a c
@@ -193,36 +232,40 @@ posts-then (Ok changed) days r f g row mid a b c one two =
     (λ clean first second. posted-on days r f g row mid changed a.content b.content c.content first second)
 posts-then (Err fault) days r f g row mid a b c one two = stays-after (IsPosted days r f row mid) a b c one two
 
--- whatever answer it is that has failed
-pub refused-posts : (result : Result AccountRow BookFault) (days : Option Schedule) (r : ℕ) (f : Account → Account) (row : AccountRow) (old new : StateOf Content) → IsErr result → Stays old new → PostsTo result days r f row old new
-refused-posts (Err fault) days r f row old new failed stays = stays
-refused-posts (Ok changed) days r f row old new failed stays = cc
+-- ---- one after another
 
--- ---- once it is written
+-- some are made, and those that are left make of the account what all of them do
+pub record IsUnderway {X : Type 0} (days : Option Schedule) (r : ℕ) (make : List X → Account → Account) (all left : List X) (row changed : AccountRow) (old new : StateOf Content) : Type 0 where
+  pub made : Account → Account
+  pub together : (a : Account) → make left (made a) ≡ make all a
+  pub posted : HasChanged (IsPosted days r made row changed) old new
 
--- the row that was found, posted to and written
-pub posted-written : (days : Option Schedule) (r : ℕ) (f : Account → Account) (row changed : AccountRow) (old new : Content) → IsConsistent old → Some row ≡ row_of old (registrar_column r)
-    → IsPosted days r f row changed old new → IsChange r f old (with_row changed new)
-posted-written days r f row changed old new consistent found it = subst (λ xs. IsChange r f xs (with_row changed new)) (with-found r row old consistent found) it.change
-
--- as consistent as what is written
-pub posted-consistent : (days : Option Schedule) (r : ℕ) (f : Account → Account) (row changed : AccountRow) (old new : Content) → is_place r ≡ true → Some row ≡ row_of old (registrar_column r)
-    → IsPosted days r f row changed old new → IsConsistent new → IsConsistent (with_row changed new)
-posted-consistent days r f row changed old new place found it = consistent-with r changed new (row-posted days r f row changed old new (row-found r row old place found) it)
-
--- the same in a store
-pub then-written : (days : Option Schedule) (r : ℕ) (f : Account → Account) (row changed : AccountRow) (a b c d : StateOf Content)
-    → Reads a b × (b.is_clean ≡ true → Some row ≡ row_of a.content (registrar_column r)) → (a.is_clean ≡ true → IsConsistent a.content)
-    → HasChanged (IsPosted days r f row changed) b c → Writes (with_row changed c.content) c d → HasChanged (IsChange r f) a d
-then-written days r f row changed a b c d found consistent posts writes = record {
-  clean = λ e. found.0.clean (posts.clean (writes.clean e));
-  before = λ e. writes.before e ∙ posts.before (writes.clean e) ∙ found.0.before (posts.clean (writes.clean e));
-  opened = writes.opened;
-  content = λ e.
-      let clean = posts.clean (writes.clean e) in
-      subst (IsChange r f a.content) (sym (writes.content e))
-      (posted-written days r f row changed a.content c.content (consistent (found.0.clean clean)) (found.1 clean)
-      (subst (λ xs. IsPosted days r f row changed xs c.content) (found.0.content clean) (posts.content (writes.clean e))));
-  answers = λ was. writes.answers (posts.answers (found.0.answers was));
-  leaves = leaves-on a c d (leaves-on a b c found.0.leaves posts.leaves) writes.leaves;
+pub at-first : {X : Type 0} (days : Option Schedule) (r : ℕ) (make : List X → Account → Account) (all left : List X) (row : AccountRow) (a : StateOf Content) → (a.is_clean ≡ true → IsRowOf r row a.content)
+    → a.is_open ≡ true → left ≡ all → IsUnderway days r make all left row row a a
+at-first days r make all left row a is begun e = record {
+  made = λ x. x;
+  together = λ x. ap (λ items. make items x) e;
+  posted = then-kept (IsPosted days r (λ x. x) row row) a a (reads-same a) begun (λ clean. posted-still days r row a.content (is clean) (λ x. x) refl);
 }
+
+module _ {X : Type 0} {days : Option Schedule} {r : ℕ} {make : List X → Account → Account} {all now : List X} {row mid : AccountRow} {a b : StateOf Content} (it : IsUnderway days r make all now row mid a b) where
+  -- the row is the account's
+  pub row-underway : (a.is_clean ≡ true → IsRowOf r row a.content) → b.is_clean ≡ true → IsRowOf r mid b.content
+  row-underway is clean = row-posted days r it.made row mid a.content b.content (is (it.posted.clean clean)) (it.posted.content clean)
+
+  pub then-one : {f : Account → Account} {x : X} {left : List X} {changed : AccountRow} {c : StateOf Content} → now ≡ x ∷ left → HasChanged (IsPosted days r f mid changed) b c → ((y : Account) → make left (f y) ≡ make (x ∷ left) y)
+      → IsUnderway days r make all left row changed a c
+  then-one {f} {x} {left} {changed} {c} e one step = record {
+    made = λ y. f (it.made y);
+    together = λ y. step (it.made y) ∙ sym (ap (λ items. make items (it.made y)) e) ∙ it.together y;
+    posted = then-became (IsPosted days r it.made row mid) (IsPosted days r f mid changed) (IsPosted days r (λ y. f (it.made y)) row changed) a b c it.posted one
+        (λ clean first second. posted-on days r it.made f row mid changed a.content b.content c.content first second);
+  }
+
+  pub refused-on : (result : Result AccountRow BookFault) (c : StateOf Content) → IsErr result → Stays b c → PostsTo result days r (make all) row a c
+  refused-on (Err fault) c failed stays = stays-after (IsPosted days r it.made row mid) a b c it.posted stays
+  refused-on (Ok changed) c failed stays = cc
+
+  pub at-last : now ≡ [] → ((y : Account) → make [] y ≡ y) → HasChanged (IsPosted days r (make all) row mid) a b
+  at-last e none =
+      subst (λ (f : Account → Account). HasChanged (IsPosted days r f row mid) a b) (λ i y. (sym (none (it.made y)) ∙ sym (ap (λ items. make items (it.made y)) e) ∙ it.together y) i) it.posted

@@ -1,6 +1,6 @@
 -- What is swapped among the lines of one domain is swapped among all.
-use Rattle.std.proofs.Common.{◌≡◌, Bool, true, false, cond, not, ◌||◌, List, [], ◌∷◌, ◌++◌, map, filter, refl, sym, ap, ◌∙◌, true≢false}
-use Rattle.std.proofs.lemmas.Bool.{and_parts}
+use Rattle.std.proofs.Common.{◌≡◌, true, false, not, List, [], ◌∷◌, ◌++◌, map, filter, inl, inr, refl, sym, ap, ◌∙◌}
+use Rattle.std.proofs.lemmas.Bool.{and_parts, cases_Bool, false_from_ne_true, or_from}
 use Rattle.std.proofs.lemmas.List.{map-append}
 use Rattle.std.specs.List.{list_all, list_any}
 use Rattle.objects.specs.declared.roid.Roid.{Roid}
@@ -16,16 +16,13 @@ module _ (roid : Roid) where
   abbrev others : List Line → List Line
   others ls = filter (λ l. not (is_on roid l)) ls
 
-  elsewhere : (x l : Line) (ls : List Line) (b c : Bool) → is_on roid x ≡ true → is_on roid l ≡ b → same in_order x l ≡ c → list_any (same in_order x) (others ls) ≡ false
-      → list_any (same in_order x) (cond (not b) (l ∷ others ls) (others ls)) ≡ false
-  elsewhere x l ls true c on at is ih = ih
-  elsewhere x l ls false true on at is ih = absurd (true≢false (sym on ∙ ap (is_on roid) (same-in_order x l is) ∙ at))
-  elsewhere x l ls false false on at is ih = ap (λ b. b || list_any (same in_order x) (others ls)) is ∙ ih
-
   -- a line on the domain isn't among the others
   apart : (x : Line) (ls : List Line) → is_on roid x ≡ true → list_any (same in_order x) (others ls) ≡ false
   apart x [] on = refl
-  apart x (l ∷ ls) on = elsewhere x l ls (is_on roid l) (same in_order x l) on refl refl (apart x ls on)
+  apart x (l ∷ ls) on = elim (cases_Bool (is_on roid l)) [
+    | inl at ↦ rw at (apart x ls on)
+    | inr at ↦ rw at (or_from _ _ (false_from_ne_true (same in_order x l) (λ is. let never : true ≡ false = sym on ∙ ap (is_on roid) (same-in_order x l is) ∙ at in cc)) (apart x ls on))
+  ]
 
   swapped-on : (s : LineSwap) (on ls : List Line) → is_on roid s.from ≡ true → swapped (bag_of in_order (on ++ others ls)) s ≡ bag_of in_order (swapped on s ++ others ls)
   swapped-on s on ls is =

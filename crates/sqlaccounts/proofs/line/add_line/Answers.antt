@@ -6,7 +6,7 @@ use Rattle.sqlcolumns.specs.Numbers.{maybe_moment_column}
 use Rattle.sqltables.specs.inner.Content.{lines_to}
 use Rattle.sqltables.specs.Line.{lines}
 use Rattle.sqlaccounts.specs.inner.Changes.{IsBalanceChanged}
-use Rattle.sqlaccounts.proofs.StepLemmas.{line-posted}
+use Rattle.sqlaccounts.proofs.LineLemmas.{line-posted}
 use Rattle.sqlaccounts.proofs.line.add_line.Goals as goal
 
 pub returns : goal.returns

@@ -5,7 +5,7 @@ use Rattle.sqltables.specs.inner.Consistent.{IsConsistent}
 use Rattle.sqltables.specs.inner.Content.{lines_to}
 use Rattle.sqltables.specs.Line.{line_with_id}
 use Rattle.sqlaccounts.proofs.CallLemmas.{then-kept}
-use Rattle.sqlaccounts.proofs.StepLemmas.{line-left, line-taken}
+use Rattle.sqlaccounts.proofs.LineLemmas.{line-left, line-taken}
 use Rattle.sqlaccounts.proofs.line.take_line.Goals as goal
 
 pub returns : goal.returns

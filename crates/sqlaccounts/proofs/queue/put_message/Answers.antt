@@ -4,7 +4,7 @@ use Rattle.sqltables.specs.inner.Content.{messages_to}
 use Rattle.sqltables.specs.Message.{messages}
 use Rattle.sqlrows.proofs.StateLemmas.{then-made}
 use Rattle.sqlaccounts.proofs.CallLemmas.{then-kept}
-use Rattle.sqlaccounts.proofs.StepLemmas.{message-posted, message-there}
+use Rattle.sqlaccounts.proofs.MessageLemmas.{message-posted, message-there}
 use Rattle.sqlaccounts.proofs.queue.put_message.Goals as goal
 
 pub returns-then-is_there : goal.returns-then-is_there

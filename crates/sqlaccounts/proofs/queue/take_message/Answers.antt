@@ -10,7 +10,7 @@ use Rattle.sqlrows.proofs.StateLemmas.{then-made}
 use Rattle.sqlrows.specs.Read.{rows_of}
 use Rattle.sqlaccounts.specs.inner.Posting.{IsPosted}
 use Rattle.sqlaccounts.proofs.CallLemmas.{then-kept}
-use Rattle.sqlaccounts.proofs.StepLemmas.{message-left, message-taken}
+use Rattle.sqlaccounts.proofs.MessageLemmas.{message-left, message-taken}
 use Rattle.sqlaccounts.proofs.queue.take_message.Goals as goal
 
 pub returns-in_default : goal.returns-in_default

@@ -4,7 +4,7 @@ use Rattle.accounts.specs.Lines.{in_order}
 use Rattle.basis.specs.Bag.{bag_of}
 use Rattle.sqlcolumns.specs.Lines.{line_of_columns}
 use Rattle.sqltables.specs.inner.Consistent.{IsConsistent}
-use Rattle.sqlaccounts.proofs.LinesOnLemmas.{lines-there}
+use Rattle.sqlaccounts.proofs.ConsistencyLemmas.{parts-there}
 use Rattle.sqlaccounts.proofs.reading_lines.lines.Goals as goal
 
 pub returns : goal.returns
@@ -13,5 +13,5 @@ returns g c =
       found.0,
       λ clean.
           c.in_ok-lines.ensures {u = tt} ∙ ap (λ rows. bag_of in_order (filter_map line_of_columns rows)) (c.as_slice.ensures ∙ found.1 clean)
-          ∙ sym (lines-there c.args.store.now.content c.args.registrar (subst IsConsistent (found.0.content clean) (c.show_consistent.ensures clean)) c.in_ok-rows.ensures.place),
+          ∙ sym (parts-there c.args.store.now.content c.args.registrar (subst IsConsistent (found.0.content clean) (c.show_consistent.ensures clean)) c.in_ok-rows.ensures.place).0,
     )

@@ -1,7 +1,7 @@
 use Rattle.accounts.specs.Entries.{with_lines}
 use Rattle.accounts.specs.Lines.{swapped_all}
+use Rattle.sqlaccounts.proofs.LineLemmas.{swaps-posted}
 use Rattle.sqlaccounts.proofs.PostingLemmas.{posts-behind}
-use Rattle.sqlaccounts.proofs.StepLemmas.{swaps-posted}
 use Rattle.sqlaccounts.proofs.swapping.swap_lines.Goals as goal
 
 pub returns : goal.returns
