@@ -1,11 +1,10 @@
 -- What holds of the changes of a command holds where it was refused, or where it wasn't.
 use Rattle.std.proofs.Common.{◌≡◌, ℕ, Bool, true, false, cond, List, [], Option, Some, None, refl, sym, subst}
-use Rattle.decisions.proofs.Words.{Asked, Change, domain_seen, Facts, name_of, PolicyRules, Request, TransferOp, changes_of}
+use Rattle.decisions.proofs.Words.{Asked, Change, changes_of, domain_seen, Facts, name_of, PolicyRules, Request, TransferOp}
 use Rattle.decisions.proofs.Words.{code_granted, code_of_transfer, DeleteDomain, goes_at_once, granted, is_accepted, judged}
 use Rattle.decisions.proofs.Words.{PollRequest, refusal_of, refusing, TransferContact, TransferDomain, unless_refused}
 use Rattle.facts.specs.declared.facts.OldestMessage.{OldestMessage}
-use Rattle.protocol.specs.declared.code.Code.{Code}
-use Rattle.protocol.specs.declared.code.Code.TheVariants.{Completed, CompletedActionPending}
+use Rattle.protocol.specs.declared.{code.Code.Code, code.Code.TheVariants.Completed, code.Code.TheVariants.CompletedActionPending}
 use Rattle.protocol.specs.declared.transfer.TransferOp.TheVariants as ops
 use Rattle.rules.specs.Poll.{code_of_poll}
 

@@ -1,10 +1,9 @@
 -- What a command that isn't refused is known to find.
 use Rattle.std.proofs.Common.{◌≡◌, ℕ, nat_lt, ◌==◌, Bool, true, false, cond, not, ◌&&◌, ◌||◌, List, [], ◌∷◌, map, find, Option, Some, None, option_and_then, option_map, refl, sym, ap, ◌∙◌, eqb-true, pos, int_lt}
-use Rattle.decisions.proofs.Words.{account_of, Asked, balance, bytes_decides, bytes_eq, Command, Contact, contact_as, Domain, domain_seen}
-use Rattle.decisions.proofs.Words.{domain_sight, domain_sponsor, DomainFace, Facts, facts, Full, FullDomain, get, RequestedName, is_party, lookups}
-use Rattle.decisions.proofs.Words.{name_of, PolicyRules, presented, Public, Registry, Request, Seen, standing_of, Transfer, TransferParty}
-use Rattle.decisions.proofs.Words.{authorizes, cond_both, contact_face_of, ContactFace, ContactFacts, DomainFacts, face_of}
-use Rattle.decisions.proofs.Words.{HostFacts, is_anothers, names, not-false, or_parts, refusal_of, seen_by_outsider}
+use Rattle.decisions.proofs.Words.{bytes_decides, contact_face_of, ContactFacts, domain_sight, domain_sponsor, RequestedName, seen_by_outsider, TransferParty}
+use Rattle.decisions.proofs.Words.{account_of, authorizes, cond_both, contact_as, ContactFace, domain_seen, DomainFacts, is_anothers, PolicyRules, standing_of}
+use Rattle.decisions.proofs.Words.{bytes_eq, DomainFace, Full, FullDomain, is_party, not-false, or_parts, presented, refusal_of, Registry, Transfer}
+use Rattle.decisions.proofs.Words.{Asked, balance, Command, Contact, Domain, face_of, Facts, facts, get, lookups, name_of, names, Public, Request, Seen}
 use Rattle.facts.specs.Facts.{contact_at, contact_facts, contact_seen, domain_at, domain_facts, host_at, host_facts}
 use Rattle.protocol.specs.Requests.{contacts_asked, domains_asked, hosts_asked, presented_contact}
 use Rattle.decisions.proofs.SightLemmas.{full_as}
@@ -81,9 +80,7 @@ module _ (p : PolicyRules) (r : ℕ) (cl_trid : Option (List ℕ)) (s : Registry
       ∙ at-itself (name_of name) (domain_facts (lookups p r asked s) asked (name_of name))
 
   pub host-at : (name : RequestedName) → hosts_asked q ≡ name ∷ [] → host_at known (name_of name) ≡ Some (host_facts (lookups p r asked s) asked (name_of name))
-  host-at name only =
-      ap (λ (names : List RequestedName). find (λ (it : HostFacts). bytes_eq it.name (name_of name)) (map (λ n. host_facts (lookups p r asked s) asked (name_of n)) names)) only
-      ∙ at-itself (name_of name) (host_facts (lookups p r asked s) asked (name_of name))
+  host-at name only = rw only (at-itself (name_of name) (host_facts (lookups p r asked s) asked (name_of name)))
 
   -- what holds of nothing seen, and of what is seen in part, and of an object that is seen in full where it stands
   pub where-contact : (Q : ContactSight → Type 0) (name : List ℕ) → contacts_asked q ≡ name ∷ [] → Q None → ((face : ContactFace) (x : Transfer) → Q (Some (TransferParty face x))) → ((face : ContactFace) → Q (Some (Public face)))

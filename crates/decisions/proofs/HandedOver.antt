@@ -1,13 +1,12 @@
 -- A domain that is handed over by a pending transfer begins with the grace of the transfer alone (RFC
 -- 3915, 3.1; RFC 5730, 2.9.3.4).
-use Rattle.std.proofs.Common.{◌≡◌, ◌≢◌, ℕ, ◌≤◌, ◌<◌, ◌==◌, nat_lt, nat_le, Bool, true, false, cond, not, ◌&&◌, List, Option, Some, None, is_some, refl, ap, subst, ◌∙◌, arith, eqb-true}
+use Rattle.std.proofs.Common.{◌≡◌, ◌≢◌, ℕ, ◌≤◌, ◌<◌, ◌==◌, Bool, true, false, cond, not, ◌&&◌, List, Option, Some, None, is_some, refl, ap, subst, ◌∙◌, arith, eqb-true}
 use Rattle.std.proofs.Common.{⊎_elim}
 use Rattle.std.proofs.lemmas.Bool.{and_cases, and_left, and_parts, and_right}
-use Rattle.decisions.proofs.Words.{account_of, begins_after, Domain, end, get, Graces, is_begun_after, is_for_transfer, is_kind, is_on}
-use Rattle.decisions.proofs.Words.{is_pending_state, IsLater, IsSound, Line, LineKind, list_any, MeetsStandards, PolicyRules, Registry, remade}
-use Rattle.decisions.proofs.Words.{Roid, runs, Transfer, transfer_started, TransferStart, waits, and-false, any-of-one}
-use Rattle.decisions.proofs.Words.{begins_by, day-count, gives, graces, IfSome, in_order, IsStandardRequest}
-use Rattle.decisions.proofs.Words.{IsTransferRecord, kind_rank, nat_tests, none-remade, period_of, runs_from}
+use Rattle.decisions.proofs.Words.{account_of, and-false, any-of-one, begins_after, begins_by, day-count, Domain, get, gives, Graces, graces, IfSome}
+use Rattle.decisions.proofs.Words.{in_order, is_begun_after, is_for_transfer, is_kind, is_on, is_pending_state, IsLater, IsSound, IsStandardRequest}
+use Rattle.decisions.proofs.Words.{IsTransferRecord, kind_rank, Line, LineKind, list_any, MeetsStandards, nat_tests, none-remade, period_of, PolicyRules}
+use Rattle.decisions.proofs.Words.{Registry, remade, Roid, runs, runs_from, Transfer, transfer_started, TransferStart, waits}
 use Rattle.accounts.specs.declared.line.LineKind.TheVariants as kinds
 use Rattle.policy.specs.declared.days.Period.{Period}
 use Rattle.policy.specs.declared.days.Period.TheVariants as periods
@@ -22,9 +21,7 @@ transfer_alone = record { add = false; auto_renew = false; renew = false; transf
 module _ (p : PolicyRules) (t : ℕ) (roid : Roid) (last : Option ℕ) (past : IsLater t last) where
   earlier-ended : (start : ℕ) (period : Option Period) → start < t → runs_from p t (Some t) (Some start) period ≡ false
   earlier-ended start None lt = refl
-  earlier-ended start (Some period) lt =
-      let before : nat_le t start ≡ false = grind (arith, nat_tests, lt) in
-      ap (λ (b : Bool). nat_le start t && (b && nat_lt t (end period start p))) before ∙ and-false (nat_le start t) false refl
+  earlier-ended start (Some period) lt = grind (arith, nat_tests, lt)
 
   begun-ended : (since started : Option ℕ) (period : Option Period) → IsLater t since → is_begun_after since started ≡ false → runs_from p t (Some t) started period ≡ false
   begun-ended since None period late none = refl
@@ -67,11 +64,7 @@ module _ (p : PolicyRules) (t : ℕ) (roid : Roid) (last : Option ℕ) (past : I
         by l.started l.kind whole.1 kinds_are.0 rest.0 rest.1
       where
         run : runs_from p t (Some t) (Some t) (Some periods.Transfer) ≡ true
-        run =
-            let least = (day-count periods.Transfer t p.days sound.days_in_range).0 in
-            let here : nat_le t t ≡ true = grind (arith, nat_tests) in
-            let ahead : nat_lt t (end periods.Transfer t p) ≡ true = grind (arith, nat_tests, least) in
-            λ i. here i && (here i && ahead i)
+        run = grind (arith, nat_tests, (day-count periods.Transfer t p.days sound.days_in_range).0)
 
         runs-by : (kind : LineKind) → is_kind kind kinds.Transfer ≡ true → runs_from p t (Some t) (Some t) (period_of kind) ≡ true
         runs-by kinds.Transfer e = run

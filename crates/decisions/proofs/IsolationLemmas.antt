@@ -1,13 +1,10 @@
 -- Who can't tell two registries apart is answered alike, and can't tell them apart afterwards. No
 -- command is named here: facts are a function of the view, and each change commutes with it.
 use Rattle.std.proofs.Common.{◌≡◌, ℕ, ◌≤◌, max, sym, ap, subst, ◌∙◌}
-use Rattle.decisions.proofs.Words.{account_of, changed_all, Command, decision, effect, facts, IsSound, lapsed, last_clock, MeetsStandards, now}
-use Rattle.decisions.proofs.Words.{PolicyRules, Registry, view, answer, decided, lapsed-is-settled}
-use Rattle.decisions.proofs.Words.{registries-meet-standards, reply_of, settled-is-now, view_for}
+use Rattle.decisions.proofs.Words.{account_of, answer, changed_all, Command, decided, decision, effect, facts, IsSound, lapsed, lapsed-is-settled, last_clock}
+use Rattle.decisions.proofs.Words.{MeetsStandards, now, PolicyRules, registries-meet-standards, Registry, reply_of, settled-is-now, view, view_for}
 use Rattle.decisions.specs.Isolation.{IsIsolated}
-use Rattle.decisions.proofs.RegistryLemmas.{registry-lapsed}
-use Rattle.decisions.proofs.MeetingLemmas.{meets-decided}
-use Rattle.decisions.proofs.SettledLemmas.{settled-effect}
+use Rattle.decisions.proofs.{RegistryLemmas.registry-lapsed, TransferLemmas.meets-decided, SettledLemmas.settled-effect}
 use Rattle.decisions.proofs.ViewLemmas.{AllMeet, same_facts, same_view, same_changed_all}
 use Rattle.protocol.specs.declared.reply.Reply.{Reply}
 

@@ -1,17 +1,14 @@
 -- Each change keeps a registry well formed, where what it puts or takes away fits.
 use Rattle.std.proofs.Common.{◌≡◌, ◌≢◌, ◌↔◌, ◌⊎◌, inl, inr, ⊎_elim, ℕ, ◌≤◌, Bool, true, false, cond, not, List, filter, Some, IsSome, is_some, refl, sym, ap, subst, ◌∙◌, arith}
 use Rattle.std.proofs.lemmas.Bool.{and_parts, not-true, or_cases}
-use Rattle.decisions.proofs.Words.{cond_both, host_renamed, may_rename, Account, account_of, AreApart, bytes_decides, bytes_eq, changed, Contact, Domain, domain_roid, DropContact}
-use Rattle.decisions.proofs.Words.{DropDomain, DropHost, eq_by_cmp, eq_by_cmp_equiv, Equal-is, FinMap, get, get-insert, has_name, HasObjects}
-use Rattle.decisions.proofs.Words.{Host, insert, IsContactOf, IsDomainOf, IsHostOf, IsRegistrar, map_values, names_contact, names_host, nat_cmp}
-use Rattle.decisions.proofs.Words.{nat_cmp-IsAntisymmetric, nat_cmp_total, PolicyRules, precedes, PutContact, PutDomain, PutHost, Registry}
-use Rattle.decisions.proofs.Words.{remove, renamed, RenameHost, Roid, slice_cmp, superordinate_of, with_account, with_host_renamed}
-use Rattle.decisions.proofs.Words.{add, any-add, contact_roid, host_roid, links_with_host_renamed}
+use Rattle.decisions.proofs.Words.{Account, account_of, AreApart, bytes_decides, bytes_eq, changed, cond_both, Contact, Domain, domain_roid, DropContact, host_renamed, may_rename}
+use Rattle.decisions.proofs.Words.{add, any-add, contact_roid, DropDomain, DropHost, eq_by_cmp, eq_by_cmp_equiv, Equal-is, FinMap, get, get-insert, has_name}
+use Rattle.decisions.proofs.Words.{HasObjects, Host, host_roid, insert, IsContactOf, IsDomainOf, IsHostOf, IsRegistrar, links_with_host_renamed, map_values}
+use Rattle.decisions.proofs.Words.{names_contact, names_host, nat_cmp, nat_cmp-IsAntisymmetric, nat_cmp_total, PolicyRules, precedes, PutContact, PutDomain}
+use Rattle.decisions.proofs.Words.{PutHost, Registry, remove, renamed, RenameHost, Roid, slice_cmp, superordinate_of, with_account, with_host_renamed}
 use Rattle.decisions.proofs.GrowthLemmas.{Grows, contact-grown, domain-grown, host-grown, host-grown-below}
-use Rattle.decisions.proofs.LinkLemmas.{has_name-filter}
+use Rattle.decisions.proofs.{LinkLemmas.has_name-filter, NamedLemmas.at-put, ViewLemmas.account-keep}
 use Rattle.decisions.proofs.NamedLemmas.{drop-cases, drop-keeps, drop-there, is-there, put-cases, put-is, put-keeps, put-there, remade-cases, remade-keeps}
-use Rattle.decisions.proofs.NamedLemmas.{at-put}
-use Rattle.decisions.proofs.ViewLemmas.{account-keep}
 
 -- ---- the clock and the accounts
 
@@ -21,12 +18,7 @@ pub kept-grown : (p q : PolicyRules) (s : Registry) (accounts : FinMap nat_cmp A
 kept-grown p q s accounts clock grows places is =
     let t : Registry = record s { accounts = accounts; clock = clock } in
     record {
-      identities = record {
-        accounts = places;
-        contact_roids = is.identities.contact_roids;
-        host_roids = is.identities.host_roids;
-        domain_roids = is.identities.domain_roids;
-      };
+      identities = search places;
       contacts = λ name c at. contact-grown p q s t grows name c (is.contacts name c at);
       hosts = λ name h at. host-grown p q s t grows (λ domain there. there) name h (is.hosts name h at);
       domains = λ name d at. let k = is.domains name d at in domain-grown p q s t grows name d d.links (λ host there. inl there) k.is_at.contacts k.is_at.hosts k;
@@ -218,12 +210,7 @@ module _ (p : PolicyRules) (s : Registry) (is : HasObjects p s) where
       (renamed-listed old h.name d.links.hosts host named))
       k in
       record {
-        identities = record {
-          accounts = is.identities.accounts;
-          contact_roids = is.identities.contact_roids;
-          host_roids = apart-put host_roid left apart h.name h own;
-          domain_roids = apart-remade domain_roid s.domains is.identities.domain_roids (with_host_renamed old h.name) (λ d. refl);
-        };
+        identities = search (apart-put host_roid left apart h.name h own, apart-remade domain_roid s.domains is.identities.domain_roids (with_host_renamed old h.name) (λ d. refl));
         contacts = λ n c at. contact-grown p p s t grows n c (is.contacts n c at);
         hosts = at-put (IsHostOf p t) left h.name h (host-grown p p s t grows there h.name h fits) (λ n x at. host-grown p p s t grows there n x (is.hosts n x (drop-cases s.hosts old n x at).1));
         domains = λ n d at. let before = remade-cases (with_host_renamed old h.name) s.domains n d at in subst (IsDomainOf p t n) before.2 (one n before.0 before.1);

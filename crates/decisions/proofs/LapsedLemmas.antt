@@ -1,18 +1,16 @@
 -- What time alone makes of a well-formed registry is well formed.
-use Rattle.std.proofs.Common.{◌≡◌, inl, ℕ, ◌≤◌, ◌+◌, max, Bool, true, false, cond, nat_lt, List, [], Option, Some, None, IsSome, is_some, refl, sym, ap, subst, ◌∙◌, arith}
+use Rattle.std.proofs.Common.{◌≡◌, inl, ℕ, ◌≤◌, ◌+◌, max, List, Option, Some, None, IsSome, is_some, refl, sym, ap, subst, ◌∙◌, arith}
 use Rattle.std.specs.Option.{option_map_or}
-use Rattle.decisions.proofs.Words.{account_of, AreApart, Contact, contact_completed, Deletion, Domain, domain_roid, due_by, FinMap, get}
-use Rattle.decisions.proofs.Words.{HasObjects, IsContactOf, IsDeletion, IsDomainOf, IsTransfer, lapse_by, lapse_contact, lapsed, leaves, lived}
-use Rattle.decisions.proofs.Words.{moved, nat_cmp, nat_list_cmp_total, PolicyRules, posted, postings, purge_at, purged, raised, Registry}
-use Rattle.decisions.proofs.Words.{Roid, slice_cmp, superordinate_of, Transfer, turns, approved, contact_moved}
-use Rattle.decisions.proofs.Words.{contact_roid, fold, lapse, Lapsed, left, left-of, names_apart, same_Some}
+use Rattle.decisions.proofs.Words.{account_of, approved, AreApart, Contact, contact_completed, contact_moved, contact_roid, Deletion, Domain, domain_roid}
+use Rattle.decisions.proofs.Words.{due_by, FinMap, fold, get, HasObjects, IsContactOf, IsDeletion, IsDomainOf, IsTransfer, lapse, lapse_by, lapse_contact}
+use Rattle.decisions.proofs.Words.{Lapsed, lapsed, left, left-of, lived, moved, names_apart, nat_cmp, nat_list_cmp_total, PolicyRules, posted}
+use Rattle.decisions.proofs.Words.{postings, raised, Registry, Roid, same_Some, slice_cmp, superordinate_of, Transfer, turns}
 use Rattle.basis.specs.Sweeps.{kept}
 use Rattle.basis.proofs.ApartLaws.{get-kept}
 use Rattle.model.specs.Lapse.{accounts_at, contacts_at, domains_at, lapse as lapse_registry}
-use Rattle.decisions.proofs.GrowthLemmas.{Grows, contact-grown, domain-grown, domain-with, host-grown-below, contact-stands}
-use Rattle.decisions.proofs.KeepingLemmas.{kept-grown}
-use Rattle.decisions.proofs.NamedLemmas.{is-there, there-is}
-use Rattle.decisions.proofs.PostingLemmas.{due-is, due-transfer, kept-posted, postings-to, serial-posted}
+use Rattle.decisions.proofs.GrowthLemmas.{Grows, contact-grown, domain-grown, host-grown-below}
+use Rattle.decisions.proofs.{KeepingLemmas.kept-grown, NamedLemmas.is-there, NamedLemmas.there-is}
+use Rattle.decisions.proofs.PostingLemmas.{due-is, due-transfer, kept-posted, postings-to, serial-posted, lapse-cases}
 
 -- ---- what is left of a domain
 
@@ -30,20 +28,12 @@ transferred_by x d = moved x (raised (turns d x.ac_date) d)
 
 module _ (p : PolicyRules) (t : ℕ) (d : Domain) (P : Domain → Type 0) (deleted : (x : Deletion) → d.deletion ≡ Some x → P d) (aged : d.deletion ≡ None → P (raised (turns d t) d))
     (transferred : d.deletion ≡ None → (x : Transfer) → due_by t d.transfer ≡ Some x → P (raised (turns (transferred_by x d) t) (transferred_by x d))) where
-  by-purge : (x : Deletion) (b : Bool) (e : Domain) → d.deletion ≡ Some x → (cond b (leaves d []) (purged p x d)).object ≡ Some e → P e
-  by-purge x true e gone found = subst P (same_Some d e found) (deleted x gone)
-  by-purge x false e gone found = cc
-
-  by-transfer : (o : Option Transfer) (e : Domain) → d.deletion ≡ None → due_by t d.transfer ≡ o → (lived p t o d).object ≡ Some e → P e
-  by-transfer None e alive due found = subst P (same_Some (raised (turns d t) d) e found) (aged alive)
-  by-transfer (Some x) e alive due found = subst P (same_Some (raised (turns (transferred_by x d) t) (transferred_by x d)) e found) (transferred alive x due)
-
-  by-deletion : (o : Option Deletion) (e : Domain) → d.deletion ≡ o → (lapse_by p t o d).object ≡ Some e → P e
-  by-deletion None e alive found = by-transfer (due_by t d.transfer) e alive refl found
-  by-deletion (Some x) e gone found = by-purge x (nat_lt t (purge_at p x)) e gone found
+  by-transfer : d.deletion ≡ None → (o : Option Transfer) → due_by t d.transfer ≡ o → (e : Domain) → (lived p t o d).object ≡ Some e → P e
+  by-transfer alive None due e found = subst P (same_Some (raised (turns d t) d) e found) (aged alive)
+  by-transfer alive (Some x) due e found = subst P (same_Some (raised (turns (transferred_by x d) t) (transferred_by x d)) e found) (transferred alive x due)
 
   pub domain-lapsed : (e : Domain) → (lapse p t d).object ≡ Some e → P e
-  domain-lapsed e found = by-deletion d.deletion e refl found
+  domain-lapsed = lapse-cases p t d (λ (l : Lapsed Domain). (e : Domain) → l.object ≡ Some e → P e) (λ x gone e found. subst P (same_Some d e found) (deleted x gone)) (λ x past e found. absurd (cc)) by-transfer
 
 -- a deleted one as it was, and any other with other years, perhaps transferred
 pub domain-left : (p : PolicyRules) (t : ℕ) (d : Domain) (P : Domain → Type 0) → ((x : Deletion) → d.deletion ≡ Some x → P d) → (d.deletion ≡ None → (years : ℕ) → P (with_years years d))
@@ -95,17 +85,7 @@ module _ (p : PolicyRules) (t : ℕ) (s : Registry) (past : t ≤ s.clock) (is :
 
   -- the transfer is over
   ended : (created : ℕ) (transferred : Option ℕ) (x : Transfer) → x.ac_date ≤ t → IsTransfer p after created transferred x → IsTransfer p after created (Some x.ac_date) (approved x)
-  ended created transferred x due k = record {
-    recorded = record {
-      requester = k.recorded.requester;
-      losing_registrar = k.recorded.losing_registrar;
-      requested = k.recorded.requested;
-      acted = λ over. omega (arith, due, past);
-    };
-    begun = k.begun;
-    next = λ pending. absurd cc;
-    due = k.due;
-  }
+  ended created transferred x due k = search arith
 
   contact-fits : (name : List ℕ) (c e : Contact) → IsContactOf p s name c → (lapse_contact t c).object ≡ Some e → IsContactOf p after name e
   contact-fits name c e of =
@@ -113,12 +93,8 @@ module _ (p : PolicyRules) (t : ℕ) (s : Registry) (past : t ≤ s.clock) (is :
       contact-left t c (IsContactOf p after name) k (λ x due.
       let transfer = due-transfer p after t c.created c.transferred c.transfer x due k.transfer in
       let come = (due-is t c.transfer x due).1 in
-      record {
-        is_at = contact-stands p after name c _ k.is_at refl refl refl transfer.recorded.requester
-            (omega (arith, come, past)) k.is_at.updated;
-        transfer = ended c.created c.transferred x come transfer;
-        losing = λ pending. absurd (let never : false ≡ true = pending in cc);
-      }) e
+      let over = ended c.created c.transferred x come transfer in
+      search arith) e
 
   contact-there : (name : List ℕ) → IsSome (get s.contacts name) → IsSome (get after.contacts name)
   contact-there name there =
@@ -130,12 +106,12 @@ module _ (p : PolicyRules) (t : ℕ) (s : Registry) (past : t ≤ s.clock) (is :
       let k : IsDomainOf p after name d = domain-grown p p s after grows name d d.links (λ host there. inl there) (λ contact named. contact-there contact (of.is_at.contacts contact named)) of.is_at.hosts of in
       let undeleted : (f : Domain) → d.deletion ≡ None → IsDeletion p after f d.deletion = λ f alive. subst (IsDeletion p after f) (sym alive) tt in
       domain-left p t d (IsDomainOf p after name) (λ x gone. k)
-      (λ alive years. domain-with p after name d (with_years years d) k refl refl refl refl k.is_at.sponsor k.is_at.transferred k.is_at.updated (undeleted (with_years years d) alive) k.transfer)
+      (λ alive years. search (undeleted (with_years years d) alive))
       (λ alive x due years.
       let transfer = due-transfer p after t d.created d.transferred d.transfer x due k.transfer in
       let come = (due-is t d.transfer x due).1 in
-      domain-with p after name d (taken_over x years d) k refl refl refl refl transfer.recorded.requester (omega (arith, come, past)) k.is_at.updated (undeleted (taken_over x years d) alive)
-      (ended d.created d.transferred x come transfer)) e
+      let over = ended d.created d.transferred x come transfer in
+      search (arith, undeleted (taken_over x years d) alive)) e
 
   -- a domain that a host lies below isn't deleted, so it stays
   below-stays : (host : List ℕ) → IsSome (get s.hosts host) → (name : List ℕ) (d : Domain) → get s.domains name ≡ Some d → superordinate_of p.zone host ≡ Some name → (o : Option Deletion) → d.deletion ≡ o → IsSome (lapse_by p t o d).object

@@ -8,9 +8,7 @@ pub mod GrowthLemmas
 pub mod KeepingLemmas
 pub mod LinkLemmas
 pub mod CommandLemmas
-pub mod CreationLemmas
 pub mod WellFormedLemmas
-pub mod MeetingLemmas
 pub mod PostingLemmas
 pub mod LapsedLemmas
 pub mod SettledLemmas
@@ -25,8 +23,6 @@ pub mod IsolationLemmas
 pub mod LineTransferLemmas
 pub mod TransferLemmas
 pub mod AcceptedLemmas
-pub mod TransferCases
 pub mod CommandCases
-pub mod OrderCases
 pub mod MoneyCommandLemmas
 pub mod MoneyLaws

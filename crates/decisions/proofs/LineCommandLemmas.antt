@@ -2,21 +2,19 @@
 use Rattle.std.proofs.Common.{◌≡◌, ◌⊎◌, inl, inr, ⊎_elim, ℕ, ◌≤◌, ◌<◌, ◌+◌, Bool, true, false, cond, not, ◌&&◌, min, List, [], ◌∷◌, Option, Some, None, is_some, refl, sym, ap, subst, ◌∙◌, arith}
 use Rattle.decisions.proofs.Lemmas.{AsksFor, been-grown, begins-asks, CommandCases, Grows, IsItsOwn, known, order-cases}
 use Rattle.decisions.proofs.Lemmas.{OrderCases, put-cases, put-is, request-cases, roid-grown, waits-asks}
-use Rattle.decisions.proofs.Words.{account_of, AreApart, Asked, Bad, begins_after, Change, changed, changed_all, Charge, charge, charge_line}
-use Rattle.decisions.proofs.Words.{ClientApproved, ClientCancelled, ClientRejected, Command, deleted_domain, Deletion, Domain, domain_roid}
-use Rattle.decisions.proofs.Words.{effect, ended, expiry, Facts, facts, FinMap, gained, get, Post, HasBeen, HasLines, HasLinesOn, HasObjects}
-use Rattle.decisions.proofs.Words.{HasRoid, insert, is_kind, is_of, is_on, is_pending, is_pending_state, is_same_roid, IsDeletion, IsLineOf}
-use Rattle.decisions.proofs.Words.{IsRegistrar, IsRegistry, IsSettled, IsSound, last_clock, Line, list_any, name_of, nat_cmp, new_domain}
-use Rattle.decisions.proofs.Words.{NewDomain, Order, order_decision, order_effect, ordered, PolicyRules, PutDomain, Registry, renewed_domain}
-use Rattle.decisions.proofs.Words.{Request, restored_domain, restoring_domain, Roid, slice_cmp, TakeSerial, Transfer, updated_domain, waits}
-use Rattle.decisions.proofs.Words.{WasGiven, with_account, with_command, and-false, changes_after, count-none}
-use Rattle.decisions.proofs.Words.{false_from_ne_true, none-by, recursion_from_All, same-roids, same_Some}
+use Rattle.decisions.proofs.Words.{account_of, and-false, Asked, Bad, Change, changed, changed_all, changes_after, Charge, charge, charge_line}
+use Rattle.decisions.proofs.Words.{ClientApproved, Command, count-none, deleted_domain, Deletion, Domain, domain_roid, effect, ended, expiry, Facts, facts}
+use Rattle.decisions.proofs.Words.{false_from_ne_true, gained, get, HasBeen, HasLines, HasLinesOn, HasObjects, HasRoid, is_kind, is_of, is_on, is_pending}
+use Rattle.decisions.proofs.Words.{is_pending_state, is_same_roid, IsDeletion, IsLineOf, IsRegistrar, IsRegistry, IsSettled, IsSound, last_clock, Line}
+use Rattle.decisions.proofs.Words.{list_any, name_of, new_domain, NewDomain, none-by, Order, order_decision, order_effect, PolicyRules, Post, Status}
+use Rattle.decisions.proofs.Words.{PutDomain, recursion_from_All, Registry, renewed_domain, Request, restored_domain, restoring_domain, Roid, same-roids}
+use Rattle.decisions.proofs.Words.{same_Some, TakeSerial, Transfer, updated_domain, waits, WasGiven, with_account, with_command}
 use Rattle.accounts.specs.declared.line.LineKind.TheVariants as lines
 use Rattle.lifecycle.specs.Lapse.{completes_at, due_at, due_of, earlier}
 use Rattle.objects.specs.declared.roid.ObjectKind.TheVariants as kinds
 use Rattle.protocol.specs.declared.command.Request.TheVariants as requests
-use Rattle.decisions.proofs.CreationLemmas.{has-given, kept-counted, ungiven}
-use Rattle.decisions.proofs.LineKeepingLemmas.{AllFitLines, IsAsBefore, IsChargeIn, IsCharged, as-before, begun-by, lines-changed_all, lines-counted, lines-stay, on-as-before, on-same, rises}
+use Rattle.decisions.proofs.WellFormedLemmas.{has-given, kept-counted, ungiven}
+use Rattle.decisions.proofs.LineKeepingLemmas.{AllFitLines, in_place, IsChargeIn, IsCharged, begun-by, lines-changed_all, lines-counted, lines-stay, on-again, on-same, rises}
 use Rattle.decisions.proofs.LineTransferLemmas.{asked-kept, lines-ended, lines-handed-over, post}
 
 -- ---- a charge for a domain that is the registrar's own
@@ -54,10 +52,6 @@ own-charge p t r name d line at own has sponsor ahead of kind recorded started r
         inr (subst (IsCharged r line) is charged)
     by n e there false other = inl (ap (is_of e.roid) of ∙ other)
 
--- a domain that stands in for another at its name has its ROID for its own
-own-put : (m : FinMap (slice_cmp nat_cmp) Domain) (name : List ℕ) (d new : Domain) → AreApart domain_roid m → get m name ≡ Some d → d.name ≡ name → new.name ≡ d.name → new.roid ≡ d.roid → IsItsOwn domain_roid (insert m new.name new) new.name new.roid
-own-put m name d new apart at named called same n x there alike = ⊎_elim (λ put. put.0) (λ before. apart n name x d before at (alike ∙ same) ∙ sym named ∙ sym called) (put-cases m new.name new n x there)
-
 -- ---- commands
 
 module _ (p : PolicyRules) (r : ℕ) (cl_trid : Option (List ℕ)) (s : Registry) (place : IsRegistrar p r) (is : HasObjects p s) (has : HasLines p s) (settled : IsSettled p s) (sound : IsSound p) (early : s.clock ≤ last_clock) where
@@ -72,30 +66,21 @@ module _ (p : PolicyRules) (r : ℕ) (cl_trid : Option (List ℕ)) (s : Registry
   has-counted = lines-counted p s r with_command (λ a. refl) (λ a. omega arith) has
 
   -- a domain stands where it stood, with the same sponsor, ROID and transfers
-  put-again : (name : List ℕ) (d new : Domain) → get s.domains name ≡ Some d → IsAsBefore d new → HasLinesOn counted new
-  put-again name d new at same = on-as-before counted d new same (has-counted.domains name d at)
+  put-again : (name : List ℕ) (d e : Domain) → get s.domains name ≡ Some d → HasLinesOn counted (in_place d e)
+  put-again name d e at = on-again counted d e (has-counted.domains name d at)
 
   -- and is charged for
-  put-charged : (name : List ℕ) (d new : Domain) (line : Line) → get s.domains name ≡ Some d → new.name ≡ d.name → IsAsBefore d new → r ≡ d.sponsor → line.roid ≡ Some d.roid → is_kind line.kind lines.Transfer ≡ false → line.recorded ≤ s.clock → HasBeen s line.started → HasBeen s line.refunded
-      → AllFitLines p (PutDomain new ∷ Post r (Charge line) ∷ []) counted
-  put-charged name d new line at called same sponsor of kind recorded started refunded =
+  put-charged : (name : List ℕ) (d e : Domain) (line : Line) → get s.domains name ≡ Some d → r ≡ d.sponsor → line.roid ≡ Some d.roid → is_kind line.kind lines.Transfer ≡ false → line.recorded ≤ s.clock → HasBeen s line.started → HasBeen s line.refunded
+      → AllFitLines p (PutDomain (in_place d e) ∷ Post r (Charge line) ∷ []) counted
+  put-charged name d e line at sponsor of kind recorded started refunded =
       let k = is.domains name d at in
-      let t : Registry = changed p (PutDomain new) counted in
+      let t : Registry = changed p (PutDomain (in_place d e)) counted in
       let rise = rises s r with_command (λ a. omega arith) in
-      let grown : Grows p p s t = record { zone = refl; place = λ q is. is; clock = omega arith; serial = rise } in (
-        put-again name d new at same,
-        (
-          own-charge p t r new.name new line (put-is counted.domains new.name new)
-              (own-put s.domains name d new is.identities.domain_roids at k.is_at.named called same.roid)
-              (roid-grown p p s t grown kinds.Domain new.roid
-              (subst (HasRoid p s kinds.Domain) (sym same.roid) k.is_at.roid))
-              (sponsor ∙ sym same.sponsor)
-              (λ x e pending. awaited-ahead p s d k.is_at.deletion (settled.domains name d at) x (sym same.transfer ∙ e) pending)
-              (of ∙ ap (λ (roid : Roid). Some roid) (sym same.roid)) kind recorded
-              (been-grown p p s t grown line.started started) (been-grown p p s t grown line.refunded refunded),
-          tt,
-        ),
-      )
+      let grown : Grows p p s t = record { zone = refl; place = λ q is. is; clock = omega arith; serial = rise } in
+      let own : IsItsOwn domain_roid t.domains d.name d.roid = λ n x there alike. ⊎_elim (λ put. put.0) (λ before. is.identities.domain_roids n name x d before at alike ∙ sym k.is_at.named) (put-cases s.domains d.name (in_place d e) n x there) in
+      let charged = own-charge p t r d.name (in_place d e) line (put-is counted.domains d.name (in_place d e)) own (roid-grown p p s t grown kinds.Domain d.roid k.is_at.roid) sponsor
+      (awaited-ahead p s d k.is_at.deletion (settled.domains name d at)) of kind recorded (been-grown p p s t grown line.started started) (been-grown p p s t grown line.refunded refunded) in
+      (put-again name d e at, (charged, tt))
 
   -- ---- a new domain
 
@@ -122,28 +107,16 @@ module _ (p : PolicyRules) (r : ℕ) (cl_trid : Option (List ℕ)) (s : Registry
     none-listed test asks q = none-by (IsLineOf p s) test (λ l k. asks l (unlisted l k)) (account_of q s).lines (recursion_from_All (IsLineOf p s) (account_of q s).lines (has.each q))
 
     made-on : HasLinesOn counted made
-    made-on = on-same s counted (lines-stay s r with_command (λ a. refl)) made (record {
-      elsewhere = λ q other. none-listed (begins_after made.roid None) (begins-asks made.roid None) q;
-      waiting = λ q. count-none (waits made.roid) (account_of q s).lines (none-listed (waits made.roid) (waits-asks made.roid) q);
-      awaited = tt;
-    })
+    made-on = on-same s counted (lines-stay s r with_command (λ a. refl)) made (search (none-listed, begins-asks, waits-asks, count-none))
 
     created : AllFitLines p (PutDomain made ∷ Post r TakeSerial ∷ charge lines.Create p r s.clock made.roid request f ∷ []) counted
     created =
         let t : Registry = changed_all p (PutDomain made ∷ Post r TakeSerial ∷ []) counted in
-        let given = has-given p r s place is cl_trid small kinds.Domain request in (
-          made-on,
-          (
-            tt,
-            (
-              own-charge p t r made.name made (charge_line lines.Create p s.clock made.roid request f) (put-is s.domains made.name made)
-                  (λ n x there alike. ⊎_elim (λ put. put.0) (λ before. absurd (ungiven p r s place is cl_trid small kinds.Domain request kinds.Domain x.roid (is.domains n x before).is_at.roid alike)) (put-cases s.domains made.name made n x there))
-                  (record { kind_is = given.kind_is; creator = given.creator; serial = given.serial })
-                  refl (λ x e pending. absurd cc) refl refl (omega arith) (omega arith) tt,
-              tt,
-            ),
-          ),
-        )
+        let given = has-given p r s place is cl_trid small kinds.Domain request in
+        let charged = own-charge p t r made.name made (charge_line lines.Create p s.clock made.roid request f) (put-is s.domains made.name made)
+        (λ n x there alike. ⊎_elim (λ put. put.0) (λ before. absurd (ungiven p r s place is cl_trid small kinds.Domain request kinds.Domain x.roid (is.domains n x before).is_at.roid alike)) (put-cases s.domains made.name made n x there))
+        (search (arith, given)) refl (λ x e pending. absurd cc) refl refl (omega arith) (omega arith) tt in
+        (made-on, (tt, (charged, tt)))
 
   -- ---- each command
 
@@ -153,36 +126,22 @@ module _ (p : PolicyRules) (r : ℕ) (cl_trid : Option (List ℕ)) (s : Registry
 
   commands-keep-lines : (account_of r s).serial < 4_611_686_018_427_387_904 → CommandCases p r cl_trid s (λ q. Kept)
   commands-keep-lines small = record {
+    contacts = search inl;
+    hosts = search inl;
     none = λ q. inl tt;
     acknowledged = λ id. inl (tt, tt);
-    contact_created = λ new. inl (tt, (tt, tt));
     domain_created = λ new kept fit linked paid. inl (created small new);
-    host_created = λ new kept fit based. inl (tt, (tt, tt));
-    contact_dropped = λ name free. inl (tt, tt);
     domain_dropped = λ name d it. inl (tt, (omega arith, tt));
-    domain_deleted = λ name d years it. inl (put-again (name_of name) d (deleted_domain s.clock years d) it.at (as-before refl refl refl refl refl), (omega arith, tt));
-    host_dropped = λ name free. inl (tt, tt);
-    contact_updated = λ u c at. inl (tt, tt);
-    domain_updated = λ u d it linked. inl (put-again (name_of u.name) d (updated_domain s.clock u d) it.at (as-before refl refl refl refl refl), tt);
-    host_updated = λ u h it. inl (tt, tt);
-    host_renamed = λ u name h it free based. inl (tt, tt);
-    renewed = λ name expires years d it fits.
-        let q : Request = requests.RenewDomain name expires years in
-        inl (put-charged (name_of name) d (renewed_domain s.clock years d) (charge_line lines.Renew p s.clock d.roid q (known p r cl_trid s q)) it.at refl (as-before refl refl refl refl refl) it.own refl refl (omega arith) (omega arith) tt);
-    restoring = λ name d at. inl (put-again (name_of name) d (restoring_domain s.clock d) at (as-before refl refl refl refl refl), tt);
-    restored = λ name del_time res_time d it.
-        let q : Request = requests.ReportRestore name del_time res_time in
-        inl (put-charged (name_of name) d (restored_domain s.clock d) (charge_line lines.Restore p s.clock d.roid q (known p r cl_trid s q)) it.at refl (as-before refl refl refl refl refl) it.own refl refl (omega arith) tt tt);
-    contact_asked = λ q n c at. inl (tt, (tt, tt));
-    contact_approved = λ q n c at y last. inl (tt, (tt, tt));
-    contact_rejected = λ q n c at y last. inl (tt, (tt, tt));
-    contact_cancelled = λ q n c at y last. inl (tt, (tt, tt));
+    domain_deleted = λ name d years it. inl (put-again (name_of name) d (deleted_domain s.clock years d) it.at, (omega arith, tt));
+    domain_updated = λ u d it linked. inl (put-again (name_of u.name) d (updated_domain s.clock u d) it.at, tt);
+    renewed = λ name expires years d it fits. inl (put-charged (name_of name) d (renewed_domain s.clock years d) _ it.at it.own refl refl (omega arith) (omega arith) tt);
+    restoring = λ name d at. inl (put-again (name_of name) d (restoring_domain s.clock d) at, tt);
+    restored = λ name del_time res_time d it. inl (put-charged (name_of name) d (restored_domain s.clock d) _ it.at it.own refl refl (omega arith) tt tt);
     domain_asked = λ q n d at askable paid. inr (post p d.sponsor _ _ (asked-kept p sound r s early objects has-counted q (known p r cl_trid s q) n d at askable));
     domain_approved = λ q n d at y last pending own.
         inr (post p y.requester _ _ (lines-handed-over p counted objects has-counted n d at (ended ClientApproved s.clock y) y last pending refl refl refl (d.years + gained d s.clock) (gained d s.clock)));
-    domain_rejected = λ q n d at y last pending. inr (post p y.requester _ _ (lines-ended p counted objects has-counted n d at (ended ClientRejected s.clock y) y last pending refl refl s.clock (omega arith)));
-    domain_cancelled = λ q n d at y last pending.
-        inr (post p y.losing_registrar _ _ (lines-ended p counted objects has-counted n d at (ended ClientCancelled s.clock y) y last pending refl refl s.clock (omega arith)));
+    domain_turned_down = λ q n d at y last pending state to notice over down side.
+        inr (post p to _ _ (lines-ended p counted objects has-counted n d at (ended state s.clock y) y last pending refl over s.clock (omega arith)));
   }
 
   -- together with the count of the command
@@ -200,13 +159,9 @@ lines-effect p sound r (Asked cl_trid q) s place is settled small =
 -- ---- orders
 
 orders-fit-lines : (p : PolicyRules) (s : Registry) → HasLines p s → OrderCases p s (λ changes. AllFitLines p changes s)
-orders-fit-lines p s has = record {
-  none = tt;
-  contact_set = λ o name c at. (tt, tt);
-  domain_set = λ o name d at. (on-as-before s d (record d { statuses = ordered o d.statuses }) (as-before refl refl refl refl refl) (has.domains name d at), tt);
-  host_set = λ o name h at. (tt, tt);
-  paid_in = λ r cents place. (record { fits = record { roid = tt; recorded = omega arith; started = tt; refunded = tt }; domains = λ name d at. inl refl }, tt);
-}
+orders-fit-lines p s has =
+    let again : (d : Domain) (statuses : List Status) → HasLinesOn s d → HasLinesOn s (record d { statuses = statuses }) = λ d statuses. on-again s d (record d { statuses = statuses }) in
+    search (arith, has.domains, again, inl)
 
 -- what an order of the operator changes fits the lines
 pub fits-order : (p : PolicyRules) (order : Order) (s : Registry) → HasLines p s → AllFitLines p (order_decision p order s).changes s

@@ -1,15 +1,13 @@
 -- What is so of the lines of an account stays so as time enters into it.
 use Rattle.std.proofs.Common.{◌≡◌, ℕ, ◌≤◌, nat_lt, Bool, true, false, cond, not, ◌&&◌, List, [], ◌∷◌, ◌++◌, Option, Some, None, refl, sym, ap, subst, ◌∙◌, arith, ⊎_elim}
-use Rattle.decisions.proofs.Words.{Account, account_of, AllByRecursion, begins_after, entered, FinMap, get, given}
-use Rattle.decisions.proofs.Words.{is_begun_after, is_for_transfer, is_kind, is_of, is_on, is_same_roid, IsLineOf, LapseEntry, Line, list_any}
-use Rattle.decisions.proofs.Words.{nat_cmp, Notice, PolicyRules, posted, Posting, Registry, remade, Renewal, Roid}
-use Rattle.decisions.proofs.Words.{slice_cmp, Start, start-elsewhere, start-stays, transfer_started, TransferStart, waits, WasGiven}
-use Rattle.decisions.proofs.Words.{with_account, add, and_left, and_right, AutoRenewal, begins_by, cases_Bool, cond_both}
-use Rattle.decisions.proofs.Words.{fold, in_order, nat_tests, renewal_line, same-roids}
+use Rattle.decisions.proofs.Words.{Account, account_of, add, AllByRecursion, and_left, and_right, AutoRenewal, begins_after, begins_by, cases_Bool, cond_both}
+use Rattle.decisions.proofs.Words.{entered, FinMap, fold, get, given, in_order, is_begun_after, is_for_transfer, is_kind, is_of, is_on, is_same_roid, IsLineOf}
+use Rattle.decisions.proofs.Words.{LapseEntry, Line, list_any, nat_cmp, nat_tests, Notice, PolicyRules, posted, Posting, Registry, remade, Renewal}
+use Rattle.decisions.proofs.Words.{renewal_line, Roid, same-roids, slice_cmp, Start, start-elsewhere, start-stays, transfer_started, TransferStart, waits}
+use Rattle.decisions.proofs.Words.{WasGiven, with_account}
 use Rattle.accounts.specs.declared.line.LineKind.TheVariants as kinds
 use Rattle.model.proofs.LineLemmas.{all-add, all-remade, and-false, count, count-add-none, count-remade, none-add, none-remade}
-use Rattle.decisions.proofs.PostingLemmas.{AllPosted, posted-both, posted-given}
-use Rattle.decisions.proofs.ViewLemmas.{account-keep}
+use Rattle.decisions.proofs.{PostingLemmas.AllPosted, PostingLemmas.posted-both, PostingLemmas.posted-given, ViewLemmas.account-keep}
 
 -- ---- the lines once an entry is made
 

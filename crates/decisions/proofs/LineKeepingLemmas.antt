@@ -1,17 +1,15 @@
 -- Each change keeps what a well-formed registry says of lines, where what it puts or charges fits.
 use Rattle.std.proofs.Common.{◌≡◌, ◌⊎◌, ⊎_elim, ℕ, ◌≤◌, Bool, true, false, cond, not, List, Option, Some, None, is_some, unwrap_or, refl, sym, ap, subst, ◌∙◌, arith}
-use Rattle.decisions.proofs.Words.{cond_both, host_renamed, may_rename, Account, account_of, AccountChange, All, AllByRecursion, begins_after, Change, changed, changed_all}
-use Rattle.decisions.proofs.Words.{Charge, charges_waiting, Domain, DropDomain, get, Post, HasBeen, HasLines, HasLinesOn}
-use Rattle.decisions.proofs.Words.{is_begun_after, is_for_transfer, is_on, is_pending_state, IsLineOf, Lapse, LapseContact, LapseDomain, Line}
-use Rattle.decisions.proofs.Words.{list_any, MoveClock, OpenAccount, PolicyRules, PutDomain, RefundRunning, RefundTransfer}
-use Rattle.decisions.proofs.Words.{Registry, remade, RenameHost, Roid, runs, TakeSerial, Transfer, waits, WasGiven, with_account}
-use Rattle.decisions.proofs.Words.{with_host_renamed, with_lines, account_changed, add, All-from_recursion, empty_account}
-use Rattle.decisions.proofs.Words.{in_order, IsAwaitedIfPending, nat_tests, recursion_from_All, refunded_by, RunningRefund}
+use Rattle.decisions.proofs.Words.{Account, account_of, AccountChange, All, AllByRecursion, begins_after, Change, changed, changed_all, cond_both, host_renamed, may_rename}
+use Rattle.decisions.proofs.Words.{account_changed, add, All-from_recursion, Charge, charges_waiting, Domain, DropDomain, empty_account, get, HasBeen}
+use Rattle.decisions.proofs.Words.{HasLines, HasLinesOn, in_order, is_begun_after, is_for_transfer, is_on, is_pending_state, IsAwaitedIfPending, IsLineOf}
+use Rattle.decisions.proofs.Words.{Lapse, LapseContact, LapseDomain, Line, list_any, MoveClock, nat_tests, OpenAccount, PolicyRules, Post, PutDomain}
+use Rattle.decisions.proofs.Words.{recursion_from_All, refunded_by, RefundRunning, RefundTransfer, Registry, remade, RenameHost, Roid, RunningRefund, runs}
+use Rattle.decisions.proofs.Words.{TakeSerial, Transfer, waits, WasGiven, with_account, with_host_renamed, with_lines}
 use Rattle.decisions.specs.Changes.{itself}
 use Rattle.decisions.proofs.GrowthLemmas.{Grows, been-grown, roid-grown, AllFit, all-kept}
-use Rattle.decisions.proofs.LineEntryLemmas.{begins-asks, waits-asks}
+use Rattle.decisions.proofs.{LineEntryLemmas.begins-asks, LineEntryLemmas.waits-asks, ViewLemmas.account-keep, ViewLemmas.serial-rises}
 use Rattle.decisions.proofs.NamedLemmas.{drop-cases, remade-cases, at-put}
-use Rattle.decisions.proofs.ViewLemmas.{account-keep, serial-rises}
 use Rattle.model.proofs.LineLemmas.{all-add, all-remade, all-weaker, and-false, awaited-carried, count, count-add-none, count-remade, none-add, none-remade}
 
 -- ---- the clock and serials grow, and lines stay
@@ -22,55 +20,34 @@ module _ (p q : PolicyRules) (s t : Registry) (grows : Grows p q s t) where
   given-grown (Some roid) h = roid-grown p q s t grows _ roid h
 
   pub line-grown : (l : Line) → IsLineOf p s l → IsLineOf q t l
-  line-grown l h = record { roid = given-grown l.roid h.roid; recorded = omega (arith, h.recorded, grows.clock); started = been-grown p q s t grows l.started h.started; refunded = been-grown p q s t grows l.refunded h.refunded }
+  line-grown l h = search (arith, given-grown, been-grown p q s t grows, grows.clock)
 
-  module _ (same : (r : ℕ) → (account_of r t).lines ≡ (account_of r s).lines) where
-    pub each-grown : HasLines p s → (r : ℕ) → All (IsLineOf q t) (account_of r t).lines
-    each-grown is r = subst (λ (ls : List Line). All (IsLineOf q t) ls) (sym (same r))
-        (All-from_recursion (IsLineOf q t) (account_of r s).lines (all-weaker (IsLineOf p s) (IsLineOf q t) line-grown (account_of r s).lines (recursion_from_All (IsLineOf p s) (account_of r s).lines (is.each r))))
+  -- what keeps the lines of each account keeps what is so of each line
+  pub each-kept : HasLines p s → ((r : ℕ) → AllByRecursion (IsLineOf q t) (account_of r s).lines → AllByRecursion (IsLineOf q t) (account_of r t).lines) → (r : ℕ) → All (IsLineOf q t) (account_of r t).lines
+  each-kept is keeps r = All-from_recursion (IsLineOf q t) (account_of r t).lines
+      (keeps r (all-weaker (IsLineOf p s) (IsLineOf q t) line-grown (account_of r s).lines (recursion_from_All (IsLineOf p s) (account_of r s).lines (is.each r))))
 
 -- a domain under other lines, where none begins that didn't, and as many wait
 pub on-carried : (s t : Registry) (d : Domain) → ((last : Option ℕ) (q : ℕ) → list_any (begins_after d.roid last) (account_of q s).lines ≡ false → list_any (begins_after d.roid last) (account_of q t).lines ≡ false)
     → ((q n : ℕ) → count (waits d.roid) (account_of q s).lines ≡ n → count (waits d.roid) (account_of q t).lines ≡ n) → HasLinesOn s d → HasLinesOn t d
-on-carried s t d none as_many h = record {
-  elsewhere = λ q other. none d.transferred q (h.elsewhere q other);
-  waiting = λ q. as_many q (charges_waiting q d.transfer) (h.waiting q);
-  awaited = awaited-carried s t d d.transfer (λ x at pending. none (Some x.ac_date) d.sponsor) h.awaited;
-}
+on-carried s t d none as_many h =
+    search (none, as_many, h.elsewhere, h.waiting, awaited-carried s t d d.transfer (λ x at pending. none (Some x.ac_date) d.sponsor) h.awaited)
 
 -- under the lines of another registry's accounts
 pub on-same : (s t : Registry) → ((r : ℕ) → (account_of r t).lines ≡ (account_of r s).lines) → (d : Domain) → HasLinesOn s d → HasLinesOn t d
 on-same s t same d = on-carried s t d (λ last q none. ap (list_any (begins_after d.roid last)) (same q) ∙ none) (λ q n waiting. ap (count (waits d.roid)) (same q) ∙ waiting)
 
--- what is asked of the lines on a domain hangs on these of its parts
-pub record IsAsBefore (d e : Domain) : Type 0 where
-  pub roid : e.roid ≡ d.roid
-  pub sponsor : e.sponsor ≡ d.sponsor
-  pub created : e.created ≡ d.created
-  pub transferred : e.transferred ≡ d.transferred
-  pub transfer : e.transfer ≡ d.transfer
+-- another domain in the place of this one, with its name, ROID, sponsor, creation and transfers
+abbrev pub in_place : Domain → Domain → Domain
+in_place d e = record e { name = d.name; roid = d.roid; sponsor = d.sponsor; created = d.created; transferred = d.transferred; transfer = d.transfer }
 
-pub as-before : {d e : Domain} → e.roid ≡ d.roid → e.sponsor ≡ d.sponsor → e.created ≡ d.created → e.transferred ≡ d.transferred → e.transfer ≡ d.transfer → IsAsBefore d e
-as-before roid sponsor created transferred transfer = record { roid = roid; sponsor = sponsor; created = created; transferred = transferred; transfer = transfer }
+awaited-again : (s : Registry) (d e : Domain) (o : Option Transfer) → IsAwaitedIfPending s d o → IsAwaitedIfPending s (in_place d e) o
+awaited-again s d e None h = tt
+awaited-again s d e (Some x) h = λ pending. let w = h pending in search
 
-abbrev with_parts : Domain → Roid → ℕ → ℕ → Option ℕ → Option Transfer → Domain
-with_parts e roid sponsor created transferred transfer = record e { roid = roid; sponsor = sponsor; created = created; transferred = transferred; transfer = transfer }
-
-awaited-parts : (s : Registry) (d e : Domain) (o : Option Transfer) → IsAwaitedIfPending s d o → IsAwaitedIfPending s (with_parts e d.roid d.sponsor d.created d.transferred d.transfer) o
-awaited-parts s d e None h = tt
-awaited-parts s d e (Some x) h = λ pending. let w = h pending in record {
-  losing_registrar = w.losing_registrar;
-  requester = w.requester;
-  created = w.created;
-  transferred = w.transferred;
-  due = w.due;
-  lines = w.lines;
-}
-
-pub on-as-before : (s : Registry) (d e : Domain) → IsAsBefore d e → HasLinesOn s d → HasLinesOn s e
-on-as-before s d e same h =
-    let parts : HasLinesOn s (with_parts e d.roid d.sponsor d.created d.transferred d.transfer) = record { elsewhere = h.elsewhere; waiting = h.waiting; awaited = awaited-parts s d e d.transfer h.awaited } in
-    subst (HasLinesOn s) (λ i. with_parts e (sym same.roid i) (sym same.sponsor i) (sym same.created i) (sym same.transferred i) (sym same.transfer i)) parts
+-- what is asked of the lines on a domain depends on these of its parts
+pub on-again : (s : Registry) (d e : Domain) → HasLinesOn s d → HasLinesOn s (in_place d e)
+on-again s d e h = search (awaited-again s d e d.transfer h.awaited)
 
 -- ---- what has begun
 
@@ -84,10 +61,8 @@ begun-by s last (Some start) le been = grind (arith, nat_tests, le, been)
 -- domains come and go, each with the lines that it is to have
 pub lines-domains : (p q : PolicyRules) (s t : Registry) → Grows p q s t → ((r : ℕ) → (account_of r t).lines ≡ (account_of r s).lines)
     → ((name : List ℕ) (d : Domain) → get t.domains name ≡ Some d → HasLinesOn s d) → HasLines p s → HasLines q t
-lines-domains p q s t grows same on is = record {
-  each = each-grown p q s t grows same is;
-  domains = λ name d at. on-same s t same d (on name d at);
-}
+lines-domains p q s t grows same on is =
+    search (each-kept p q s t grows is (λ r. subst (AllByRecursion (IsLineOf q t)) (sym (same r))), on-same s t same, on)
 
 -- ---- one account changes
 
@@ -152,9 +127,8 @@ module _ (p : PolicyRules) (s : Registry) (r : ℕ) where
       let t : Registry = with_line line in
       let grows : Grows p p s t = account-grows s r (with_lines (add in_order line)) p (λ a. omega arith) in
       record {
-        each = λ q. All-from_recursion (IsLineOf p t) (account_of q t).lines
-            (lines-keep s r (with_lines (add in_order line)) (AllByRecursion (IsLineOf p t)) q (λ own all. all-add in_order (IsLineOf p t) line (account_of q s).lines (line-grown p p s t grows line charge.fits) all)
-            (all-weaker (IsLineOf p s) (IsLineOf p t) (line-grown p p s t grows) (account_of q s).lines (recursion_from_All (IsLineOf p s) (account_of q s).lines (is.each q))));
+        each = each-kept p p s t grows is (λ q. lines-keep s r (with_lines (add in_order line)) (AllByRecursion (IsLineOf p t)) q
+            (λ own. all-add in_order (IsLineOf p t) line (account_of q s).lines (line-grown p p s t grows line charge.fits)));
         domains = λ name d at. ⊎_elim (λ off. charged-off line d off (is.domains name d at)) (λ own. charged-own line d own (is.domains name d at)) (charge.domains name d at);
       }
 
@@ -168,8 +142,7 @@ refund-begins false moment roid last l = refl
 
 pub refund-line : (b : Bool) (p : PolicyRules) (s : Registry) (moment : ℕ) → moment ≤ s.clock → (l : Line)
     → IsLineOf p s l → IsLineOf p s (cond b (record l { refunded = Some moment }) l)
-refund-line true p s moment come l h =
-    record { roid = h.roid; recorded = h.recorded; started = h.started; refunded = come }
+refund-line true p s moment come l h = search
 refund-line false p s moment come l h = h
 
 -- by a deletion
@@ -208,12 +181,8 @@ module _ (p : PolicyRules) (x : RunningRefund) where
     lines-refunded come is =
         let grows : Grows p p s refunded = account-grows s r (with_lines (remade in_order back)) p (λ a. omega arith) in
         record {
-          each = λ q. All-from_recursion (IsLineOf p refunded) (account_of q refunded).lines
-              (lines-keep s r (with_lines (remade in_order back)) (AllByRecursion (IsLineOf p refunded)) q
-              (λ own all. all-remade in_order (IsLineOf p refunded) (IsLineOf p refunded) back
-              (λ l. refund-line (runs p x.moment x.roid x.transferred l) p refunded x.moment come l)
-              (account_of q s).lines all)
-              (all-weaker (IsLineOf p s) (IsLineOf p refunded) (line-grown p p s refunded grows) (account_of q s).lines (recursion_from_All (IsLineOf p s) (account_of q s).lines (is.each q))));
+          each = each-kept p p s refunded grows is (λ q. lines-keep s r (with_lines (remade in_order back)) (AllByRecursion (IsLineOf p refunded)) q
+              (λ own. all-remade in_order (IsLineOf p refunded) (IsLineOf p refunded) back (λ l. refund-line (runs p x.moment x.roid x.transferred l) p refunded x.moment come l) (account_of q s).lines));
           domains = λ name d at. refunded-on d (is.domains name d at);
         }
 
@@ -258,7 +227,7 @@ lines-changed p (DropDomain dropped) s fits is = lines-objects p s _ refl refl (
 lines-changed p (RenameHost old h) s fits is = cond_both (may_rename s.hosts old h.name) (host_renamed old h s) s (HasLines p)
     (λ may. lines-objects p s (host_renamed old h s) refl refl (λ name e at.
     let was = remade-cases (with_host_renamed old h.name) s.domains name e at in
-    subst (HasLinesOn s) was.2 (on-as-before s was.0 (with_host_renamed old h.name was.0) (as-before refl refl refl refl refl) (is.domains name was.0 was.1))) is)
+    subst (HasLinesOn s) was.2 (on-again s was.0 (with_host_renamed old h.name was.0) (is.domains name was.0 was.1))) is)
     (λ else. is)
 lines-changed p (LapseContact name left) s fits is = absurd fits
 lines-changed p (LapseDomain name left) s fits is = absurd fits

@@ -1,19 +1,16 @@
 -- A registry that lapses keeps what a well-formed one says of lines.
 use Rattle.std.proofs.Common.{◌≡◌, ◌≢◌, ⊎_elim, ℕ, ◌+◌, ◌≤◌, Bool, true, false, not, ◌||◌, List, ◌++◌, Option, Some, None, refl, sym, ap, subst, ◌∙◌, arith}
-use Rattle.decisions.proofs.Lemmas.{domain-left, domain-posted, drop-cases, due-is, Grows, line-grown, own-account}
+use Rattle.decisions.proofs.Lemmas.{domain-left, domain-posted, drop-cases, due-is, Grows, line-grown, own-account, lapse-cases, postings-posted}
 use Rattle.decisions.proofs.Lemmas.{put-cases, renewal-by, renewal-waits-not, serial-posted, started-waits-not}
-use Rattle.std.proofs.Common.{zero, suc, ◌<◌, cond, nat_lt, nat_le, ◌&&◌, [], ◌∷◌}
+use Rattle.std.proofs.Common.{zero, suc, ◌<◌, cond, nat_le, ◌&&◌, ◌∷◌}
 use Rattle.std.proofs.lemmas.Bool.{false_from_ne_true, and_cases, and_left, and_parts, and_right}
-use Rattle.decisions.proofs.Words.{Account, account_of, AllByRecursion, begins_after, charges_waiting, Contact, contact_completed, Domain}
-use Rattle.decisions.proofs.Words.{due_by, eq_by_cmp_equiv, FinMap, gained, get, given, HasLines, HasLinesOn, HasObjects, HasRoid}
-use Rattle.decisions.proofs.Words.{is_same_roid, IsLineOf, lapse_contact, Line, list_any, moved, nat_cmp, nat_list_cmp_total, PolicyRules}
-use Rattle.decisions.proofs.Words.{posted, Posting, postings, raised, Registry, Renewal, Roid, slice_cmp, Start, Transfer, turns, waits}
-use Rattle.decisions.proofs.Words.{Deletion, entered, is_begun_after, is_on, is_pending_state, IsLater}
-use Rattle.decisions.proofs.Words.{lapse_by, leaves, lived, purge_at, purged, transfer_started, with_account}
-use Rattle.decisions.proofs.Words.{TransferStart, All-from_recursion, AutoRenewal, cond_some, fold, in_order, IsAwaited}
-use Rattle.decisions.proofs.Words.{IsAwaitedIfPending, lapse, Lapsed, left-of, nat_tests, none-weaker, not-itself}
-use Rattle.decisions.proofs.Words.{one-or-other, plus_years, recursion_from_All, renewal_line, renewals, same-roids}
-use Rattle.decisions.proofs.Words.{same_Some, some-lapse-together, swept-alike, domain_notice, TransferApproved, turn, turns-are}
+use Rattle.decisions.proofs.Words.{All-from_recursion, contact_completed, get, IsAwaitedIfPending, nat_list_cmp_total, recursion_from_All, some-lapse-together}
+use Rattle.decisions.proofs.Words.{AllByRecursion, charges_waiting, eq_by_cmp_equiv, is_begun_after, is_pending_state, transfer_started, TransferApproved}
+use Rattle.decisions.proofs.Words.{begins_after, domain_notice, HasLines, is_same_roid, lapse_contact, one-or-other, renewal_line, TransferStart, with_account}
+use Rattle.decisions.proofs.Words.{account_of, AutoRenewal, HasLinesOn, HasObjects, none-weaker, not-itself, plus_years, PolicyRules, same-roids, swept-alike}
+use Rattle.decisions.proofs.Words.{Account, cond_some, in_order, IsAwaited, IsLineOf, list_any, nat_tests, postings, Registry, same_Some, slice_cmp, turns-are}
+use Rattle.decisions.proofs.Words.{Contact, Domain, due_by, entered, FinMap, gained, HasRoid, IsLater, left-of, nat_cmp, Posting, Renewal, renewals, Transfer}
+use Rattle.decisions.proofs.Words.{fold, given, is_on, lapse, Lapsed, Line, lived, moved, posted, raised, Roid, Start, turn, turns, waits}
 use Rattle.accounts.specs.declared.message.Subject.TheVariants as subjects
 use Rattle.objects.specs.declared.roid.ObjectKind.TheVariants as kinds
 use Rattle.model.specs.Lapse.{Choice, accounts_at, at, domains_at, is_named, lapse as lapse_registry, lapse_if, lapse_one, lapse_some, only, put_or_drop, with_domain_lapsed}
@@ -32,11 +29,7 @@ due-pending t (Some y) x e =
 
 -- and one that is pending and isn't due is due later
 due-later : (t : ℕ) (x : Transfer) → due_by t (Some x) ≡ None → is_pending_state x.state ≡ true → t < x.ac_date
-due-later t x e pending = by (nat_le x.ac_date t) refl ((λ i. let o : Option Transfer = cond (sym pending i && nat_le x.ac_date t) (Some x) None in o) ∙ e)
-  where
-    by : (c : Bool) → nat_le x.ac_date t ≡ c → (let o : Option Transfer = cond c (Some x) None in o) ≡ None → t < x.ac_date
-    by true is e = absurd cc
-    by false is e = grind (arith, nat_tests, is)
+due-later t x e pending = grind (arith, nat_tests, e, pending)
 
 -- ---- the turns of a domain
 
@@ -107,15 +100,8 @@ module _ (p : PolicyRules) (t : ℕ) (s : Registry) (d : Domain) (on : HasLinesO
       by (Some x) none awaited = λ pending.
           let w = awaited pending in
           let later : t < x.ac_date = due-later t x none pending in
-          record {
-            losing_registrar = w.losing_registrar;
-            requester = w.requester;
-            created = w.created;
-            transferred = w.transferred;
-            due = w.due;
-            lines = keep-posted (none_after d.roid (Some x.ac_date)) d.sponsor (renewals p d (turns d t))
-                (none-renewals p d.roid x.ac_date d.sponsor d (turns d t) (λ k lt. omega (arith, (turns-are d t).before k lt, later))) s w.lines;
-          }
+          search (keep-posted (none_after d.roid (Some x.ac_date)) d.sponsor (renewals p d (turns d t))
+          (none-renewals p d.roid x.ac_date d.sponsor d (turns d t) (λ k lt. omega (arith, (turns-are d t).before k lt, later))) s w.lines)
 
   module _ (x : Transfer) (due : due_by t d.transfer ≡ Some x) where
     is : d.transfer ≡ Some x
@@ -188,29 +174,17 @@ module _ (p : PolicyRules) (t : ℕ) (s : Registry) (d : Domain) (on : HasLinesO
 
     -- the transfer is completed, and the turns go on
     transferred : HasLinesOn (with (lived p t (Some x) d).postings) (raised (turns after t) after)
-    transferred = record {
-      elsewhere = none-elsewhere;
-      waiting = none-waits;
-      awaited = λ never. absurd cc;
-    }
+    transferred = record { elsewhere = none-elsewhere; waiting = none-waits; awaited = λ never. absurd cc }
 
   -- what is left of the domain, with what it posts
-  by-transfer : (o : Option Transfer) (e : Domain) → due_by t d.transfer ≡ o → (lived p t o d).object ≡ Some e → HasLinesOn (with (lived p t o d).postings) e
-  by-transfer None e none found = subst (HasLinesOn (with (renewals p d (turns d t)))) (same_Some (raised (turns d t) d) e found) (aged none)
-  by-transfer (Some x) e due found =
+  by-transfer : (o : Option Transfer) → due_by t d.transfer ≡ o → (e : Domain) → (lived p t o d).object ≡ Some e → HasLinesOn (with (lived p t o d).postings) e
+  by-transfer None none e found = subst (HasLinesOn (with (renewals p d (turns d t)))) (same_Some (raised (turns d t) d) e found) (aged none)
+  by-transfer (Some x) due e found =
       let after : Domain = moved x (raised (turns d x.ac_date) d) in
       subst (HasLinesOn (with (lived p t (Some x) d).postings)) (same_Some (raised (turns after t) after) e found) (transferred x due)
 
-  by-purge : (x : Deletion) (b : Bool) (e : Domain) → (cond b (leaves d []) (purged p x d)).object ≡ Some e → HasLinesOn (with (cond b (leaves d []) (purged p x d)).postings) e
-  by-purge x true e found = subst (HasLinesOn s) (same_Some d e found) on
-  by-purge x false e found = absurd cc
-
-  by-deletion : (o : Option Deletion) (e : Domain) → (lapse_by p t o d).object ≡ Some e → HasLinesOn (with (lapse_by p t o d).postings) e
-  by-deletion None e found = by-transfer (due_by t d.transfer) e refl found
-  by-deletion (Some x) e found = by-purge x (nat_lt t (purge_at p x)) e found
-
   pub lapsed-on : (e : Domain) → (lapse p t d).object ≡ Some e → HasLinesOn (record s { accounts = fold posted s.accounts (lapse p t d).postings }) e
-  lapsed-on e found = by-deletion d.deletion e found
+  lapsed-on = lapse-cases p t d (λ (l : Lapsed Domain). (e : Domain) → l.object ≡ Some e → HasLinesOn (with l.postings) e) (λ x gone e found. subst (HasLinesOn s) (same_Some d e found) on) (λ x past e found. absurd (cc)) (λ alive. by-transfer)
 
 -- ---- what is posted for another domain is on none of this one
 
@@ -318,9 +292,6 @@ module _ (p : PolicyRules) (t : ℕ) (s : Registry) (le : s.clock ≤ t) (object
   unfolding accounts_at
   same-serials r = serial-posted r (postings (λ name. lapse_contact t) (λ name. lapse p t) s) s
 
-  grows-later : Grows p p s later
-  grows-later = record { zone = refl; place = λ r place. place; clock = le; serial = λ r. omega arith }
-
   grows-left : Grows p p later left
   grows-left =
       record { zone = refl; place = λ r place. place; clock = omega arith; serial = λ r. omega (arith, same-serials r) }
@@ -330,12 +301,8 @@ module _ (p : PolicyRules) (t : ℕ) (s : Registry) (le : s.clock ≤ t) (object
   each-line r =
       let P : List Line → Type 0 = AreLinesOf p later in
       keep-posted P r (postings (λ name. lapse_contact t) (λ name. lapse p t) s)
-      (keep-both P r (given (λ n c. (lapse_contact t c).postings) s.contacts) (given (λ n d. (lapse p t d).postings) s.domains)
-      (keep-given P r (λ n c. (lapse_contact t c).postings) s.contacts (λ n c there. completed-of p later r P (due_by t c.transfer) c))
-      (keep-given P r (λ n d. (lapse p t d).postings) s.domains (λ n d there.
-      let has = (objects.domains n d there).is_at.roid in
-      domain-of p later r d (record { kind_is = has.kind_is; creator = has.creator; serial = has.serial })))) s
-      (all-weaker (IsLineOf p s) (IsLineOf p later) (line-grown p p s later grows-later) (account_of r s).lines (recursion_from_All (IsLineOf p s) (account_of r s).lines (is.each r)))
+      (postings-posted p t (Keeps P r) s (λ n c there. completed-of p later r P (due_by t c.transfer) c) (λ n d there. domain-of p later r d (let has = (objects.domains n d there).is_at.roid in search))) s
+      (all-weaker (IsLineOf p s) (IsLineOf p later) (line-grown p p s later (record { zone = refl; place = λ r place. place; clock = le; serial = λ r. omega arith })) (account_of r s).lines (recursion_from_All (IsLineOf p s) (account_of r s).lines (is.each r)))
 
   -- what is left of a domain, once all have lapsed
   left-on : (name : List ℕ) (d e : Domain) → get s.domains name ≡ Some d → (lapse p t d).object ≡ Some e → e.roid ≡ d.roid → HasLinesOn left e

@@ -1,20 +1,18 @@
 -- What is asked for, approved, rejected or withdrawn of a domain's transfer keeps what a well-formed
 -- registry says of lines (RFC 5730, 2.9.3.4).
 use Rattle.std.proofs.Common.{◌≡◌, ◌≢◌, ⊎_elim, ℕ, ◌≤◌, ◌<◌, ◌==◌, Bool, true, false, cond, ◌&&◌, List, Option, Some, None, refl, sym, ap, subst, ◌∙◌, arith, max, nat_lt}
-use Rattle.decisions.proofs.Words.{Account, account_of, AllByRecursion, begins_after, changed, charges_waiting, Domain, domain_with_transfer}
-use Rattle.decisions.proofs.Words.{end, Facts, get, HasBeen, HasLines, HasLinesOn, HasObjects, HasRoid, is_begun_after, is_kind, is_of, is_on}
-use Rattle.decisions.proofs.Words.{is_pending, is_pending_state, is_same_roid, IsLater, IsLineOf, IsSound, last_clock, Line, list_any}
-use Rattle.decisions.proofs.Words.{PolicyRules, PutDomain, Registry, remade, Request, requested, Roid, Start, start-elsewhere, start-stays}
-use Rattle.decisions.proofs.Words.{Transfer, transfer_refunded, transfer_started, TransferStart, waits, WasGiven, with_account, with_command}
-use Rattle.decisions.proofs.Words.{with_lines, add, All-from_recursion, and_left, and_right, cond_both, day-count, in_order}
-use Rattle.decisions.proofs.Words.{itself-roid, locked_since, nat_tests, Notification, notified, recursion_from_All}
-use Rattle.decisions.proofs.Words.{refund-elsewhere, refund-stays, same-roids, same_Some, transfer_line, TransferRefund}
-use Rattle.model.proofs.LineLemmas.{and-false, all-add, all-remade, all-weaker, count, count-add, count-add-none, count-none-remade, count-remade, itself, none-add, none-by, none-remade, not-itself, one-or-other, one_if}
+use Rattle.decisions.proofs.Words.{Account, account_of, add, AllByRecursion, and_left, and_right, begins_after, changed, charges_waiting, cond_both, day-count}
+use Rattle.decisions.proofs.Words.{Domain, domain_with_transfer, end, Facts, get, HasBeen, HasLines, HasLinesOn, HasObjects, HasRoid, in_order, is_begun_after}
+use Rattle.decisions.proofs.Words.{is_kind, is_of, is_on, is_pending, is_pending_state, is_same_roid, IsLater, IsLineOf, IsSound, itself-roid, last_clock}
+use Rattle.decisions.proofs.Words.{Line, list_any, locked_since, nat_tests, Notification, notified, PolicyRules, PutDomain, recursion_from_All}
+use Rattle.decisions.proofs.Words.{refund-elsewhere, refund-stays, Registry, remade, Request, requested, Roid, same-roids, same_Some, Start, start-elsewhere}
+use Rattle.decisions.proofs.Words.{start-stays, Transfer, transfer_line, transfer_refunded, transfer_started, TransferRefund, TransferStart, waits, WasGiven}
+use Rattle.decisions.proofs.Words.{with_account, with_command, with_lines}
+use Rattle.model.proofs.LineLemmas.{and-false, all-add, all-remade, count, count-add, count-add-none, count-none-remade, count-remade, itself, none-add, none-by, none-remade, not-itself, one-or-other, one_if}
 use Rattle.decisions.proofs.Lemmas.{Grows, own-account, put-cases, put-is}
 use Rattle.decisions.proofs.LineEntryLemmas.{AsksFor, begins-asks, lines-kept, started-waits-not, test-elsewhere, waits-asks}
-use Rattle.decisions.proofs.LineKeepingLemmas.{account-grows, begun-by, line-grown, lines-counted, lines-keep, on-carried}
-use Rattle.decisions.proofs.LineKeepingLemmas.{refund-begins, refund-line}
-use Rattle.decisions.proofs.TransferCases.{IsAskable}
+use Rattle.decisions.proofs.LineKeepingLemmas.{account-grows, begun-by, each-kept, lines-counted, lines-keep, on-carried}
+use Rattle.decisions.proofs.{LineKeepingLemmas.refund-begins, LineKeepingLemmas.refund-line, CommandCases.IsAskable}
 use Rattle.accounts.specs.declared.line.LineKind.TheVariants as lines
 use Rattle.objects.specs.declared.roid.ObjectKind.TheVariants as kinds
 use Rattle.policy.specs.declared.days.Period.TheVariants as periods
@@ -60,9 +58,7 @@ module _ (p : PolicyRules) (s : Registry) (objects : HasObjects p s) (has : HasL
 
     pub lines-left : IsOnDomain d.roid g → ((ls : List Line) → AllByRecursion (IsLineOf p left) ls → AllByRecursion (IsLineOf p left) (g ls)) → HasLinesOn left e → HasLines p left
     lines-left only fits on = record {
-      each = λ q. All-from_recursion (IsLineOf p left) (account_of q left).lines
-          (lines-keep put r (with_lines g) (AllByRecursion (IsLineOf p left)) q (λ own all. fits (account_of q s).lines all)
-          (all-weaker (IsLineOf p s) (IsLineOf p left) (line-grown p p s left grows) (account_of q s).lines (recursion_from_All (IsLineOf p s) (account_of q s).lines (has.each q))));
+      each = each-kept p p s left grows has (λ q. lines-keep put r (with_lines g) (AllByRecursion (IsLineOf p left)) q (λ own. fits (account_of q s).lines));
       domains = λ n x there. ⊎_elim (λ new. subst (HasLinesOn left) new.1 on) (λ before. by n x there before (is_same_roid d.roid x.roid) refl) (put-cases s.domains e.name e n x there);
     }
       where
@@ -96,25 +92,11 @@ module _ (p : PolicyRules) (s : Registry) (objects : HasObjects p s) (has : HasL
         off : (other : Roid) → is_same_roid d.roid other ≡ false → is_on other line ≡ false
         off other apart = ap (is_of other) of ∙ apart
 
-    begins-not : (last : Option ℕ) → begins_after d.roid last line ≡ false
-    begins-not last = ap (λ (started : Option ℕ). is_on d.roid line && is_begun_after last started) unbegun ∙ and-false (is_on d.roid line) false refl
-
     asked-on : x.losing_registrar ≡ d.sponsor → x.requester ≢ d.sponsor → d.created < x.requested → IsLater x.requested d.transferred → x.requested ≤ x.ac_date → s.clock ≤ x.ac_date → HasLinesOn (left asked refl x.requester charged) asked
     asked-on losing other created transferred due ahead =
         let begun : (last : Option ℕ) (q : ℕ) → list_any (begins_after d.roid last) (account_of q s).lines ≡ false → list_any (begins_after d.roid last) (account_of q (left asked refl x.requester charged)).lines ≡ false =
-        λ last q. none-changed asked refl x.requester charged (begins_after d.roid last) q (λ own none. none-add in_order (begins_after d.roid last) line (account_of q s).lines (begins-not last) none) in
-        record {
-          elsewhere = λ q elsewhere. begun d.transferred q ((has.domains name d at).elsewhere q elsewhere);
-          waiting = one;
-          awaited = λ is. record {
-            losing_registrar = losing;
-            requester = other;
-            created = created;
-            transferred = transferred;
-            due = due;
-            lines = begun (Some x.ac_date) d.sponsor (none-ahead d.roid x.ac_date d.sponsor ahead);
-          };
-        }
+        λ last q. none-changed asked refl x.requester charged (begins_after d.roid last) q (λ own none. none-add in_order (begins_after d.roid last) line (account_of q s).lines (ap (λ (started : Option ℕ). is_on d.roid line && is_begun_after last started) unbegun ∙ and-false (is_on d.roid line) false refl) none) in
+        search (one, begun, (has.domains name d at).elsewhere, none-ahead d.roid x.ac_date d.sponsor ahead)
       where
         none-before : (q : ℕ) → count (waits d.roid) (account_of q s).lines ≡ 0
         none-before q = (has.domains name d at).waiting q ∙ none-awaited q d.transfer over
@@ -135,21 +117,11 @@ module _ (p : PolicyRules) (s : Registry) (objects : HasObjects p s) (has : HasL
     pub lines-asked : x.losing_registrar ≡ d.sponsor → x.requester ≢ d.sponsor → d.created < x.requested → IsLater x.requested d.transferred → x.requested ≤ x.ac_date → s.clock ≤ x.ac_date
         → HasLines p (with_account x.requester (with_lines (add in_order line)) (changed p (PutDomain (record d { transfer = Some x })) s))
     lines-asked losing other created transferred due ahead =
-        lines-left asked refl x.requester charged charged-only
-        (λ ls all. all-add in_order (IsLineOf p (left asked refl x.requester charged)) line ls (record { roid = given line.roid of; recorded = recorded; started = begun line.started unbegun; refunded = begun line.refunded unrefunded }) all)
-        (asked-on losing other created transferred due ahead)
-      where
-        given : (o : Option Roid) → o ≡ Some d.roid → WasGiven p (left asked refl x.requester charged) o
-        given None is = absurd cc
-        given (Some roid) is =
-            let one : roid ≡ d.roid = cc in
-            let k = (objects.domains name d at).is_at.roid in
-            subst (λ (n : Roid). HasRoid p (left asked refl x.requester charged) kinds.Domain n) (sym one)
-            (record { kind_is = k.kind_is; creator = k.creator; serial = omega (arith, k.serial, (grows asked refl x.requester charged).serial d.roid.creator) })
-
-        begun : (o : Option ℕ) → o ≡ None → HasBeen (left asked refl x.requester charged) o
-        begun None is = tt
-        begun (Some start) is = absurd cc
+        let t : Registry = left asked refl x.requester charged in
+        let k = (objects.domains name d at).is_at.roid in
+        let given : HasRoid p t kinds.Domain d.roid = search (arith, k.serial, (grows asked refl x.requester charged).serial d.roid.creator) in
+        let fits : IsLineOf p t line = record { roid = subst (WasGiven p t) (sym of) given; recorded = recorded; started = subst (HasBeen t) (sym unbegun) tt; refunded = subst (HasBeen t) (sym unrefunded) tt } in
+        lines-left asked refl x.requester charged charged-only (λ ls all. all-add in_order (IsLineOf p t) line ls fits all) (asked-on losing other created transferred due ahead)
 
   -- ---- a transfer that was pending ends
 
@@ -194,7 +166,7 @@ module _ (p : PolicyRules) (s : Registry) (objects : HasObjects p s) (has : HasL
       handed-on = record {
         elsewhere = λ q other. none-changed handed refl x.requester begun (begins_after d.roid (Some x.ac_date)) q (λ own. absurd (other (sym own))) (none-ahead d.roid x.ac_date q (omega (arith, now)));
         waiting = λ q. none-wait handed refl refl (transfer_started start) (started-waits-not start) q ∙ sym (over-of q);
-        awaited = λ never. absurd (let no : true ≡ false = sym never ∙ over in cc);
+        awaited = λ never. absurd (cc);
       }
 
       -- the domain is handed over
@@ -229,7 +201,7 @@ module _ (p : PolicyRules) (s : Registry) (objects : HasObjects p s) (has : HasL
             (account_of q s).lines none)
             ((has.domains name d at).elsewhere q other);
         waiting = λ q. none-wait ended refl refl (transfer_refunded back) refund-waits-not q ∙ sym (over-of q);
-        awaited = λ never. absurd (let no : true ≡ false = sym never ∙ over in cc);
+        awaited = λ never. absurd (cc);
       }
 
       pub lines-ended : HasLines p (with_account x.requester (with_lines (remade in_order (transfer_refunded (record { roid = d.roid; moment = moment })))) (changed p (PutDomain (record d { transfer = Some x })) s))
@@ -257,12 +229,9 @@ module _ (p : PolicyRules) (sound : IsSound p) (r : ℕ) (s : Registry) (early :
       let least = day-count periods.Lock (max created transferred) p.days sound.days_in_range in
       (omega (arith, over, least.0), omega (arith, over, least.0))
 
-  line-waits : (q : Request) (f : Facts) (d : Domain) → waits d.roid (transfer_line p s.clock d.roid q f) ≡ true
-  line-waits q f d = ap (λ (b : Bool). (b && true) && true) (itself-roid d.roid)
-
   pub asked-kept : (q : Request) (f : Facts) (name : List ℕ) (d : Domain) → get s.domains name ≡ Some d → IsAskable p r s.clock d
       → HasLines p (with_account r (with_lines (add in_order (transfer_line p s.clock d.roid q f))) (changed p (PutDomain (domain_with_transfer (requested p r d.sponsor s.clock) d)) (with_account r with_command s)))
   asked-kept q f name d at askable =
       let past = unlocked d.created d.transferred askable.unlocked in
-      lines-asked p counted objects lines name d at (requested p r d.sponsor s.clock) (transfer_line p s.clock d.roid q f) askable.over refl refl (line-waits q f d) refl (omega arith) refl
+      lines-asked p counted objects lines name d at (requested p r d.sponsor s.clock) (transfer_line p s.clock d.roid q f) askable.over refl refl (ap (λ (b : Bool). (b && true) && true) (itself-roid d.roid)) refl (omega arith) refl
       refl askable.other past.0 past.1 (omega (arith, early)) (omega (arith, early))

@@ -4,8 +4,8 @@ use Rattle.std.proofs.Common.{◌≡◌, ⊎_elim, ℕ, Bool, true, false, not, 
 use Rattle.std.proofs.Math.Bool.{or-false, or_assoc, or_comm}
 use Rattle.std.proofs.Common.{◌&&◌, filter, fold}
 use Rattle.std.proofs.lemmas.Bool.{and_parts, not-false, or_cases, or_left, or_parts, or_right}
-use Rattle.decisions.proofs.Words.{amended, bytes_decides, bytes_eq, DomainUpdate, has_name, holds_of, Links, list_any, name_of, names_contact}
-use Rattle.decisions.proofs.Words.{names_host, NewDomain, nat_cmp, precedes, slice_cmp, add, any-add, any-filter_same}
+use Rattle.decisions.proofs.Words.{amended, bytes_decides, bytes_eq, DomainUpdate, has_name, holds_of, Links, list_any, name_of, names_contact, RequestedName}
+use Rattle.decisions.proofs.Words.{add, any-add, any-filter_same, names_host, nat_cmp, NewDomain, precedes, slice_cmp}
 use Rattle.decisions.proofs.Words.{CreateDomain, is_among, itself, kept, list_any-append, references_fail, UpdateDomain}
 use Rattle.objects.specs.Links.{in_order}
 use Rattle.decisions.specs.Decisions.{new_links, or_old, updated_links}
@@ -57,37 +57,36 @@ map-itself (x ∷ xs) = ap (λ (l : List (List ℕ)). x ∷ l) (map-itself xs)
 -- ---- links, where a command's tests of what is to be named don't fail
 
 module _ (contact host : List ℕ → Bool) where
+  -- the registrant passes, and each contact and host that is listed
+  abbrev AllPass : Bool → List (List ℕ) → List (List ℕ) → List RequestedName → Type 0
+  AllPass registrant admin tech hosts = (registrant ≡ false) × ((list_any (λ name. not (contact name)) admin ≡ false) × ((list_any (λ name. not (contact name)) tech ≡ false) × (list_any (λ name. not (host (name_of name))) hosts ≡ false)))
+
+  all-pass : (registrant : Bool) (admin tech : List (List ℕ)) (hosts : List RequestedName)
+      → (registrant || (list_any (λ name. not (contact name)) admin || (list_any (λ name. not (contact name)) tech || list_any (λ name. not (host (name_of name))) hosts))) ≡ false → AllPass registrant admin tech hosts
+  all-pass registrant admin tech hosts none =
+      let first = or_parts registrant _ none in
+      let rest = or_parts (list_any (λ name. not (contact name)) admin) _ first.1 in
+      (first.0, (rest.0, or_parts (list_any (λ name. not (contact name)) tech) _ rest.1))
+
   module _ (new : NewDomain) (passes : references_fail contact host (CreateDomain new) ≡ false) where
-    registrant-passes : (not (contact new.registrant) ≡ false) × ((list_any (λ name. not (contact name)) new.admin || (list_any (λ name. not (contact name)) new.tech || list_any (λ name. not (host (name_of name))) new.hosts)) ≡ false)
-    registrant-passes = or_parts (not (contact new.registrant)) _ passes
-
-    lists-pass : (list_any (λ name. not (contact name)) new.admin ≡ false) × ((list_any (λ name. not (contact name)) new.tech || list_any (λ name. not (host (name_of name))) new.hosts) ≡ false)
-    lists-pass = or_parts (list_any (λ name. not (contact name)) new.admin) _ registrant-passes.1
-
-    last-pass : (list_any (λ name. not (contact name)) new.tech ≡ false) × (list_any (λ name. not (host (name_of name))) new.hosts ≡ false)
-    last-pass = or_parts (list_any (λ name. not (contact name)) new.tech) _ lists-pass.1
+    pass : AllPass (not (contact new.registrant)) new.admin new.tech new.hosts
+    pass = all-pass (not (contact new.registrant)) new.admin new.tech new.hosts passes
 
     plain-there : (names : List (List ℕ)) (name : List ℕ) → list_any (λ other. not (contact other)) names ≡ false → has_name (in_order names) name ≡ true → contact name ≡ true
     plain-there names name none e = ordered-there contact itself names name none (ap (λ (l : List (List ℕ)). has_name (in_order l) name) (map-itself names) ∙ e)
 
     pub new-contacts : (name : List ℕ) → names_contact name (new_links new) ≡ true → contact name ≡ true
     new-contacts name e =
-        ⊎_elim (λ first. same-there contact new.registrant name first (not-false _ registrant-passes.0))
-        (λ rest. ⊎_elim (λ admin. plain-there new.admin name lists-pass.0 admin) (λ tech. plain-there new.tech name last-pass.0 tech) (or_cases (has_name (in_order new.admin) name) (has_name (in_order new.tech) name) rest))
+        ⊎_elim (λ first. same-there contact new.registrant name first (not-false _ pass.0))
+        (λ rest. ⊎_elim (λ admin. plain-there new.admin name pass.1.0 admin) (λ tech. plain-there new.tech name pass.1.1.0 tech) (or_cases (has_name (in_order new.admin) name) (has_name (in_order new.tech) name) rest))
         (or_cases (bytes_eq new.registrant name) _ e)
 
     pub new-hosts : (name : List ℕ) → names_host name (new_links new) ≡ true → host name ≡ true
-    new-hosts name e = ordered-there host name_of new.hosts name last-pass.1 e
+    new-hosts name e = ordered-there host name_of new.hosts name pass.1.1.1 e
 
   module _ (u : DomainUpdate) (links : Links) (passes : references_fail contact host (UpdateDomain u) ≡ false) where
-    given-passes : (holds_of (λ name. not (contact name)) u.registrant ≡ false) × ((list_any (λ name. not (contact name)) u.add.admin || (list_any (λ name. not (contact name)) u.add.tech || list_any (λ name. not (host (name_of name))) u.add.hosts)) ≡ false)
-    given-passes = or_parts (holds_of (λ name. not (contact name)) u.registrant) _ passes
-
-    added-pass : (list_any (λ name. not (contact name)) u.add.admin ≡ false) × ((list_any (λ name. not (contact name)) u.add.tech || list_any (λ name. not (host (name_of name))) u.add.hosts) ≡ false)
-    added-pass = or_parts (list_any (λ name. not (contact name)) u.add.admin) _ given-passes.1
-
-    last-added-pass : (list_any (λ name. not (contact name)) u.add.tech ≡ false) × (list_any (λ name. not (host (name_of name))) u.add.hosts ≡ false)
-    last-added-pass = or_parts (list_any (λ name. not (contact name)) u.add.tech) _ added-pass.1
+    given-pass : AllPass (holds_of (λ name. not (contact name)) u.registrant) u.add.admin u.add.tech u.add.hosts
+    given-pass = all-pass (holds_of (λ name. not (contact name)) u.registrant) u.add.admin u.add.tech u.add.hosts passes
 
     -- the registrant that is given, or the one before
     registrant-there : (given : Option (List ℕ)) (name : List ℕ) → holds_of (λ name. not (contact name)) given ≡ false → (bytes_eq links.registrant name ≡ true → contact name ≡ true)
@@ -99,12 +98,12 @@ module _ (contact host : List ℕ → Bool) where
     updated-contacts before name e =
         let admin : Bool = has_name links.admin name in
         let tech : Bool = has_name links.tech name in
-        ⊎_elim (λ first. registrant-there u.registrant name given-passes.0 (λ was. before name (or_left (bytes_eq links.registrant name) (admin || tech) was)) first)
+        ⊎_elim (λ first. registrant-there u.registrant name given-pass.0 (λ was. before name (or_left (bytes_eq links.registrant name) (admin || tech) was)) first)
         (λ rest. ⊎_elim
-        (λ in-admin. amended-there contact itself links.admin u.rem.admin u.add.admin name (λ was. before name (or_right (bytes_eq links.registrant name) (admin || tech) (or_left admin tech was))) added-pass.0 in-admin)
-        (λ in-tech. amended-there contact itself links.tech u.rem.tech u.add.tech name (λ was. before name (or_right (bytes_eq links.registrant name) (admin || tech) (or_right admin tech was))) last-added-pass.0 in-tech)
+        (λ in-admin. amended-there contact itself links.admin u.rem.admin u.add.admin name (λ was. before name (or_right (bytes_eq links.registrant name) (admin || tech) (or_left admin tech was))) given-pass.1.0 in-admin)
+        (λ in-tech. amended-there contact itself links.tech u.rem.tech u.add.tech name (λ was. before name (or_right (bytes_eq links.registrant name) (admin || tech) (or_right admin tech was))) given-pass.1.1.0 in-tech)
         (or_cases (has_name (updated_links u links).admin name) (has_name (updated_links u links).tech name) rest))
         (or_cases (bytes_eq (updated_links u links).registrant name) _ e)
 
     pub updated-hosts : ((name : List ℕ) → names_host name links ≡ true → host name ≡ true) → (name : List ℕ) → names_host name (updated_links u links) ≡ true → host name ≡ true
-    updated-hosts before name e = amended-there host name_of links.hosts u.rem.hosts u.add.hosts name (before name) last-added-pass.1 e
+    updated-hosts before name e = amended-there host name_of links.hosts u.rem.hosts u.add.hosts name (before name) given-pass.1.1.1 e

@@ -1,19 +1,17 @@
 -- Changes of a registry, and the money of its accounts: what commands and orders charge and give back.
-use Rattle.std.proofs.Common.{◌≡◌, ◌⊎◌, inl, inr, ℕ, nat_lt, true, false, ◌&&◌, List, Option, Some, refl, sym, subst, ◌∙◌, arith, ℤ, pos, int_lt, ◌+ℤ◌, ◌-ℤ◌, ◌≤ℤ◌}
+use Rattle.std.proofs.Common.{⊎_elim, ◌≡◌, ◌⊎◌, inl, inr, ℕ, nat_lt, true, false, ◌&&◌, List, Option, Some, refl, sym, subst, ◌∙◌, arith, ℤ, pos, int_lt, ◌+ℤ◌, ◌-ℤ◌, ◌≤ℤ◌}
 use Rattle.std.proofs.Common.{◌≤◌, None}
 use Rattle.std.proofs.lemmas.Int.{ints}
-use Rattle.decisions.proofs.Words.{cond_both, host_renamed, may_rename, RenameHost}
-use Rattle.decisions.proofs.Words.{account_of, Asked, Bad, balance, Change, changed_all, ClientCancelled, ClientRejected, Command, decision}
-use Rattle.decisions.proofs.Words.{Domain, domain_with_transfer, ended, Facts, facts, get, IsRefundable, Line, name_of, Order, order_decision}
-use Rattle.decisions.proofs.Words.{PolicyRules, Registry, runs, Transfer, TransferState, waits, with_account, with_command, with_serial}
-use Rattle.decisions.proofs.Words.{Account, AccountChange, changed, Charge, Post, Lapse, Notice, OpenAccount, RefundRunning}
-use Rattle.decisions.proofs.Words.{RefundTransfer, Renewal, Start, Notify, transfer_refunded, transfer_started}
-use Rattle.decisions.proofs.Words.{account_changed, amount, and_cases, changes_after, nat_tests, refunded_by}
+use Rattle.decisions.proofs.Words.{Account, account_changed, account_of, AccountChange, amount, and_cases, Asked, Bad, balance, Change, changed, changed_all}
+use Rattle.decisions.proofs.Words.{changes_after, Charge, ClientCancelled, ClientRejected, Command, cond_both, decision, Domain, domain_with_transfer, ended}
+use Rattle.decisions.proofs.Words.{Facts, facts, get, host_renamed, IsRefundable, Lapse, Line, may_rename, name_of, nat_tests, Notice, Notify, OpenAccount}
+use Rattle.decisions.proofs.Words.{Order, order_decision, PolicyRules, Post, refunded_by, RefundRunning, RefundTransfer, Registry, RenameHost, Renewal, runs}
+use Rattle.decisions.proofs.Words.{Start, Transfer, transfer_refunded, transfer_started, TransferState, waits, with_account, with_command, with_serial}
 use Rattle.model.proofs.MoneyChangeLemmas.{in-grace, turned-down, Follows, follows-changed, follows-charge}
 use Rattle.model.proofs.MoneyChangeLemmas.{running-given-back, transfer-begun, transfer-given-back}
 use Rattle.decisions.specs.Changes.{itself}
 use Rattle.decisions.proofs.CommandCases.{CommandCases, IsDeletable, request-cases}
-use Rattle.decisions.proofs.Lemmas.{all-kept, AllFit, Covers, lines-keep, lines-stay, order-cases, OrderCases, put-is}
+use Rattle.decisions.proofs.Lemmas.{all-kept, AllFit, Covers, lines-keep, lines-stay, order-cases, put-is}
 
 -- a line that is nothing or more, or that these lines cover
 abbrev pub IsPaid : Line → List Line → Type 0
@@ -64,13 +62,8 @@ module _ (L : ℕ → ℕ → Line → Type 0) (u : ℕ) (p : PolicyRules) (q : 
 -- what is charged is nothing, or the balance covers it
 affordable : (charge : ℕ) (money : ℤ) → (nat_lt 0 charge && int_lt money (pos charge)) ≡ false → (pos 0 ≤ℤ (pos 0 -ℤ pos charge)) ⊎ (pos 0 ≤ℤ ((pos 0 -ℤ pos charge) +ℤ money))
 affordable charge money enough =
-    elim (and_cases (nat_lt 0 charge) (int_lt money (pos charge)) enough) [
-      | inl none ↦ inl (free none)
-      | inr less ↦ inr (omega (arith, ints))
-    ]
-  where
-    free : nat_lt 0 charge ≡ false → pos 0 ≤ℤ (pos 0 -ℤ pos charge)
-    free none = let zero : charge ≡ 0 = grind (arith, nat_tests, none) in omega (arith, ints, zero)
+    ⊎_elim (λ (none : nat_lt 0 charge ≡ false). inl (let zero : charge ≡ 0 = grind (arith, nat_tests, none) in omega (arith, ints, zero)))
+    (λ less. inr (omega (arith, ints))) (and_cases (nat_lt 0 charge) (int_lt money (pos charge)) enough)
 
 -- ---- commands
 
@@ -110,30 +103,21 @@ module _ (p : PolicyRules) (r : ℕ) (s : Registry) where
 
   commands-lawful : (cl_trid : Option (List ℕ)) → CommandCases p r cl_trid s (λ q. AreLawful)
   commands-lawful cl_trid = record {
+    contacts = search arith;
+    hosts = search;
     none = λ q. tt;
     acknowledged = λ id. (tt, tt);
-    contact_created = λ new. (tt, (tt, tt));
     domain_created = λ new kept fit linked paid. (tt, (tt, ((refl, payable-from _ paid _ (lines-stay counted r with_serial (λ a. refl) r ∙ same-counted)), tt)));
-    host_created = λ new kept fit based. (tt, (tt, tt));
-    contact_dropped = λ name free. (tt, tt);
     domain_dropped = λ name d it. (tt, (given-back (name_of name) d it _, tt));
     domain_deleted = λ name d years it. (tt, (given-back (name_of name) d it _, tt));
-    host_dropped = λ name free. (tt, tt);
-    contact_updated = λ u c at. (tt, tt);
     domain_updated = λ u d it linked. (tt, tt);
-    host_updated = λ u h it. (tt, tt);
-    host_renamed = λ u name h it free based. (tt, tt);
     renewed = λ name expires years d it fits. (tt, ((refl, payable _ it.paid), tt));
     restoring = λ name d at. (tt, tt);
     restored = λ name del_time res_time d it. (tt, ((refl, payable _ it.paid), tt));
-    contact_asked = λ q n c at. (tt, (omega arith, tt));
-    contact_approved = λ q n c at y last. (tt, (omega arith, tt));
-    contact_rejected = λ q n c at y last. (tt, (omega arith, tt));
-    contact_cancelled = λ q n c at y last. (tt, (omega arith, tt));
     domain_asked = λ q n d at askable paid. (tt, ((refl, payable _ paid), (omega arith, tt)));
     domain_approved = λ q n d at y last pending own. (omega arith, (tt, (omega arith, tt)));
-    domain_rejected = λ q n d at y last pending. (tt, (λ l e. turned ClientRejected d y (inl refl) _ l (put-is s.domains d.name (domain_with_transfer (ended ClientRejected s.clock y) d)) e, (omega arith, tt)));
-    domain_cancelled = λ q n d at y last pending. (tt, (λ l e. turned ClientCancelled d y (inr refl) _ l (put-is s.domains d.name (domain_with_transfer (ended ClientCancelled s.clock y) d)) e, (omega arith, tt)));
+    domain_turned_down = λ q n d at y last pending state to notice over down side.
+        (tt, (λ l e. turned state d y down _ l (put-is s.domains d.name (domain_with_transfer (ended state s.clock y) d)) e, (omega arith, tt)));
   }
 
 -- what a command changes is lawful in the registry that it leaves
@@ -149,14 +133,5 @@ command-lawful p r (Asked cl_trid q) s = request-cases p r cl_trid s (λ q. AreL
 abbrev pub AreOrdered : PolicyRules → Registry → List Change → Type 0
 AreOrdered p s changes = AllFitMoney (λ q. IsRefundable p q s (changed_all p changes s)) s.clock p changes s
 
-orders-lawful : (p : PolicyRules) (s : Registry) → OrderCases p s (AreOrdered p s)
-orders-lawful p s = record {
-  none = tt;
-  contact_set = λ o name c at. (tt, tt);
-  domain_set = λ o name d at. (tt, tt);
-  host_set = λ o name h at. (tt, tt);
-  paid_in = λ r cents place. ((refl, inl (omega (arith, ints))), tt);
-}
-
 pub order-lawful : (p : PolicyRules) (order : Order) (s : Registry) → AreOrdered p s (order_decision p order s).changes
-order-lawful p order s = order-cases p s (AreOrdered p s) (orders-lawful p s) order
+order-lawful p order s = order-cases p s (AreOrdered p s) (search (arith, ints, inl)) order

@@ -1,17 +1,14 @@
 -- What becomes of the money of every account in a step of the rules, and as time passes: time alone charges an account
 -- for automatic renewals, and begins the graces of its transfers.
 use Rattle.std.proofs.Common.{◌≡◌, ℕ, ◌≤◌, max, sym, subst, arith, List}
-use Rattle.decisions.proofs.Words.{account_of, Command, decision, effect, IsRefundable, IsRegistry, IsSound, lapsed, last_clock, now, Order}
-use Rattle.decisions.proofs.Words.{order_decision, order_effect, PolicyRules, Registry, Domain, gained, lapse_contact, Line}
-use Rattle.decisions.proofs.Words.{moved, postings, raised, transfer_started, TransferStart, turns, AccountAges}
-use Rattle.decisions.proofs.Words.{AccountFollows, accounts_at, lapse, lapse_registry, lapsed-is-settled, lapses-on}
-use Rattle.decisions.proofs.Words.{MoneyFollows, NoRefund, Posting, settled-is-now, transfer-begun, turn}
+use Rattle.decisions.proofs.Words.{account_of, AccountAges, AccountFollows, accounts_at, Command, decision, Domain, effect, gained, IsRefundable, IsRegistry}
+use Rattle.decisions.proofs.Words.{IsSound, lapse, lapse_contact, lapse_registry, lapsed, lapsed-is-settled, lapses-on, last_clock, Line, MoneyFollows, moved}
+use Rattle.decisions.proofs.Words.{NoRefund, now, Order, order_decision, order_effect, PolicyRules, Posting, postings, raised, Registry, settled-is-now}
+use Rattle.decisions.proofs.Words.{transfer-begun, transfer_started, TransferStart, turn, turns}
 use Rattle.model.proofs.MoneyChangeLemmas.{Follows, follows-itself, ages-changed, ages-itself, ages-renewal}
 use Rattle.decisions.proofs.MoneyCommandLemmas.{command-lawful, order-lawful, changes-follow}
-use Rattle.decisions.proofs.RegistryLemmas.{registry-lapsed}
-use Rattle.decisions.proofs.SettledLemmas.{settled-effect, settled-order}
+use Rattle.decisions.proofs.{RegistryLemmas.registry-lapsed, SettledLemmas.settled-effect, SettledLemmas.settled-order, LineTimeLemmas.renewal_at}
 use Rattle.decisions.proofs.Lemmas.{AllPosted, contact-posted, domain-posted, due-is, keep-posted, Keeps, postings-posted}
-use Rattle.decisions.proofs.LineTimeLemmas.{renewal_at}
 
 -- ---- as time passes
 

@@ -2,9 +2,8 @@
 use Rattle.std.proofs.Common.{◌≡◌, ◌≢◌, ◌⊎◌, inl, inr, ⊎_elim, ℕ, Bool, true, false, cond, List, [], ◌∷◌, map, Option, Some, None, IsSome, is_some, option_map, refl, sym, ap, ◌∙◌, suc, length, filter, eqb-true, arith}
 use Rattle.std.proofs.Common.{subst₂}
 use Rattle.std.specs.FinMap.{find, get-entries, keys, values, get-remove}
-use Rattle.decisions.proofs.Words.{entries, eq_by_cmp, eq_by_cmp_equiv, Equal-is, FinMap, get, get-insert, insert, is_empty, list_any}
-use Rattle.decisions.proofs.Words.{map_values, nat_cmp, nat_list_cmp_total, remove, slice_cmp}
-use Rattle.decisions.proofs.Words.{cond_both, get-map_values, names_apart, or_parts, same_Some}
+use Rattle.decisions.proofs.Words.{cond_both, entries, eq_by_cmp, eq_by_cmp_equiv, Equal-is, FinMap, get, get-insert, get-map_values, insert, is_empty}
+use Rattle.decisions.proofs.Words.{list_any, map_values, names_apart, nat_cmp, nat_list_cmp_total, or_parts, remove, same_Some, slice_cmp}
 
 -- where no value is, there is none
 pub none-is : {X : Type 0} (o : Option X) → is_some o ≡ false → o ≡ None

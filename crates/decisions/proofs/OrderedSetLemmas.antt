@@ -2,12 +2,10 @@
 use Rattle.std.proofs.Common.{◌≡◌, ℕ, Bool, true, false, cond, not, ◌||◌, List, [], ◌∷◌, ◌++◌, map, filter, fold, refl, sym, ap, subst, ◌∙◌}
 use Rattle.std.proofs.Common.{◌+◌, ◌≤◌, nat_lt, length, length-append, arith}
 use Rattle.std.specs.List.Sorted.{IsStrictlySortedBy}
-use Rattle.std.specs.declared.cmp.Ordering.{Ordering}
-use Rattle.std.specs.declared.cmp.Ordering.TheVariants.{Less, Equal, Greater}
-use Rattle.decisions.proofs.Words.{AllByRecursion, amended, bytes_decides, bytes_eq, has_name, list_any, nat_cmp, nat_list_cmp_total, precedes}
-use Rattle.decisions.proofs.Words.{renamed, slice_cmp, add, adds_what_is_there, and_right, any-add, cond_both}
-use Rattle.decisions.proofs.Words.{false_from_ne_true, has_twice, is_among, is_le, is_over, IsOrderedSet, itself, kept}
-use Rattle.decisions.proofs.Words.{length-map, list_any-append, names_apart, nat_tests, or_from, or_parts, ordering_reverse}
+use Rattle.std.specs.declared.{cmp.Ordering.Ordering, cmp.Ordering.TheVariants.Less, cmp.Ordering.TheVariants.Equal, cmp.Ordering.TheVariants.Greater}
+use Rattle.decisions.proofs.Words.{adds_what_is_there, AllByRecursion, false_from_ne_true, IsOrderedSet, list_any-append, nat_list_cmp_total, ordering_reverse}
+use Rattle.decisions.proofs.Words.{and_right, bytes_decides, bytes_eq, cond_both, has_name, has_twice, is_among, length-map, names_apart, nat_tests, slice_cmp}
+use Rattle.decisions.proofs.Words.{add, amended, any-add, is_le, is_over, itself, kept, list_any, nat_cmp, or_from, or_parts, precedes, renamed}
 use Rattle.objects.specs.Links.{in_order}
 use Rattle.decisions.proofs.LinkLemmas.{has_name-filter}
 
@@ -34,32 +32,28 @@ first-of x y e other = by (cmp x y) refl e
   where
     by : (o : Ordering) → cmp x y ≡ o → is_le o ≡ true → cmp x y ≡ Less
     by Less is e = is
-    by Equal is e =
-        let same : x ≡ y = names_apart x y is in
-        absurd (let never : true ≡ false = sym (itself-eq x) ∙ ap (λ (z : Text). bytes_eq z x) same ∙ other in cc)
-    by Greater is e = absurd (let never : false ≡ true = e in cc)
+    by Equal is e = absurd (let never : true ≡ false = sym (itself-eq x) ∙ ap (λ (z : Text). bytes_eq z x) (names_apart x y is) ∙ other in cc)
+    by Greater is e = absurd (cc)
 
 turned : (x y : Text) → le x y ≡ false → cmp y x ≡ Less
 turned x y e = nat_list_cmp_total.antisymm y x ∙ by (cmp x y) e
   where
     by : (o : Ordering) → is_le o ≡ false → ordering_reverse o ≡ Less
     by Greater e = refl
-    by _ e = absurd (let never : true ≡ false = e in cc)
+    by _ e = absurd (cc)
 
 -- what comes later is another
 later-other : (x y : Text) → cmp x y ≡ Less → bytes_eq y x ≡ false
 later-other x y less = false_from_ne_true (bytes_eq y x) (λ e.
-    let same : y ≡ x = (bytes_decides y x).0 e in
-    let back : cmp x x ≡ Less = subst (λ (z : Text). cmp x z ≡ Less) same less in
+    let back : cmp x x ≡ Less = subst (λ (z : Text). cmp x z ≡ Less) ((bytes_decides y x).0 e) less in
     let round : cmp x x ≡ Greater = nat_list_cmp_total.antisymm x x ∙ ap ordering_reverse back in
-    let never : is_le (cmp x x) ≡ true = ap is_le back in
-    let no : true ≡ false = sym never ∙ ap is_le round in cc)
+    cc)
 
 -- what differs from another, the other differs from
 other-turned : (x y : Text) → bytes_eq y x ≡ false → bytes_eq x y ≡ false
 other-turned x y other = false_from_ne_true (bytes_eq x y) (λ e.
-    let same : x ≡ y = (bytes_decides x y).0 e in
-    let never : true ≡ false = sym (itself-eq y) ∙ ap (λ (z : Text). bytes_eq y z) (sym same) ∙ other in cc)
+    let turned : bytes_eq y x ≡ true = (bytes_decides y x).1 (sym ((bytes_decides x y).0 e)) in
+    cc)
 
 -- ---- an item is put where it belongs
 
@@ -193,25 +187,20 @@ set-amended text old removed added once new h =
 
 -- ---- a host under a new name
 
-absent-filter : (test : Text → Bool) (names : List Text) (name : Text) → has_name names name ≡ false → has_name (filter test names) name ≡ false
-absent-filter test names name e = has_name-filter test names name ∙ and_right (test name) _ e
-
 -- that wasn't there
 pub set-renamed : (old new : Text) (hosts : List Text) → has_name hosts new ≡ false → IsOrderedSet hosts → IsOrderedSet (renamed old new hosts)
 set-renamed old new hosts absent h =
     let others : List Text = filter (λ host. not (bytes_eq host old)) hosts in
     cond_both (has_name hosts old) (add le new others) hosts IsOrderedSet
-    (λ e. set-add new others (absent-filter (λ host. not (bytes_eq host old)) hosts new absent) (set-filter (λ host. not (bytes_eq host old)) hosts h)) (λ e. h)
+    (λ e. set-add new others (has_name-filter (λ host. not (bytes_eq host old)) hosts new ∙ and_right (not (bytes_eq new old)) _ absent) (set-filter (λ host. not (bytes_eq host old)) hosts h)) (λ e. h)
 
 -- ---- how many items such lists have: in order
 
 length-add : (x : Text) (ys : List Text) → length (add le x ys) ≡ length ys + 1
 unfolding add
 length-add x [] = refl
-length-add x (y ∷ ys) =
-    let more : length (add le x ys) ≡ length ys + 1 = length-add x ys in
-    cond_both (le x y) (x ∷ y ∷ ys) (y ∷ add le x ys) (λ zs. length zs ≡ length (y ∷ ys) + 1) (λ e. omega arith)
-    (λ e. omega (arith, more))
+length-add x (y ∷ ys) = cond_both (le x y) (x ∷ y ∷ ys) (y ∷ add le x ys) (λ zs. length zs ≡ length (y ∷ ys) + 1) (λ e. omega arith)
+    (λ e. omega (arith, length-add x ys))
 
 length-fold : (items bag : List Text) → length (fold (λ bag item. add le item bag) bag items) ≡ length items + length bag
 length-fold [] bag = omega arith
@@ -223,29 +212,22 @@ length-in_order items = length-fold items [] ∙ omega arith
 -- ---- of lists of a command
 
 pub within-texts : {A : Type 0} (text : A → Text) (most : ℕ) (items : List A) → nat_lt most (length items) ≡ false → length (in_order (map text items)) ≤ most
-within-texts text most items fits =
-    let few : length items ≤ most = grind (arith, nat_tests, fits) in
-    omega (arith, few, length-in_order (map text items), length-map items text)
+within-texts text most items fits = grind (arith, nat_tests, fits, length-in_order (map text items), length-map items text)
 
 pub within-items : (most : ℕ) (items : List Text) → nat_lt most (length items) ≡ false → length (in_order items) ≤ most
-within-items most items fits =
-    let few : length items ≤ most = grind (arith, nat_tests, fits) in
-    omega (arith, few, length-in_order items)
+within-items most items fits = grind (arith, nat_tests, fits, length-in_order items)
 
 -- what an update leaves is no more than may be
 pub within-amended : {A : Type 0} (text : A → Text) (most : ℕ) (old : List Text) (removed added : List A) → is_over text most old removed added ≡ false → length (amended text old removed added) ≤ most
 within-amended text most old removed added fits =
-    let few : length (kept text old removed) + length added ≤ most = grind (arith, nat_tests, fits) in
-    omega (arith, few, length-in_order (kept text old removed ++ map text added), length-append (kept text old removed) (map text added), length-map added text)
+    grind (arith, nat_tests, fits, length-in_order (kept text old removed ++ map text added), length-append (kept text old removed) (map text added), length-map added text)
 
 -- ---- and with a host under a new name
 
 filter-le : (test : Text → Bool) (xs : List Text) → length (filter test xs) ≤ length xs
 filter-le test [] = omega arith
-filter-le test (x ∷ xs) =
-    let rest : length (filter test xs) ≤ length xs = filter-le test xs in
-    cond_both (test x) (x ∷ filter test xs) (filter test xs) (λ ys. length ys ≤ length (x ∷ xs))
-    (λ e. omega (arith, rest)) (λ e. omega (arith, rest))
+filter-le test (x ∷ xs) = cond_both (test x) (x ∷ filter test xs) (filter test xs) (λ ys. length ys ≤ length (x ∷ xs))
+    (λ e. omega (arith, filter-le test xs)) (λ e. omega (arith, filter-le test xs))
 
 -- without an item that is there, there is one fewer at least
 one-fewer : (old : Text) (xs : List Text) → has_name xs old ≡ true → length (filter (λ x. not (bytes_eq x old)) xs) + 1 ≤ length xs

@@ -1,15 +1,12 @@
 -- What time posts into accounts goes to registrars, and keeps a registry well formed.
-use Rattle.std.proofs.Common.{◌≡◌, ℕ, ◌+◌, ◌<◌, ◌≤◌, Bool, true, false, cond, nat_lt, zero, suc, List, [], ◌∷◌, ◌++◌, Option, Some, None, refl, ap, subst, ◌∙◌, arith}
-use Rattle.decisions.proofs.Words.{Account, account_of, completion, Contact, contact_completed, Deletion, Domain, due_by, entered, entries}
-use Rattle.decisions.proofs.Words.{FinMap, gained, get, given, given_list, HasObjects, is_pending_state, IsLastTransfer, IsRegistrar}
-use Rattle.decisions.proofs.Words.{IsTransfer, lapse_by, lapse_contact, LapseEntry, leaves, lived, moved, nat_cmp, nat_list_cmp_total, Notice}
-use Rattle.decisions.proofs.Words.{PolicyRules, posted, Posting, postings, purge_at, purged, raised, Registry, Renewal, slice_cmp, Start}
-use Rattle.decisions.proofs.Words.{Transfer, turns, with_account, contact_completion, fold, lapse, names_apart, nat_le}
-use Rattle.decisions.proofs.Words.{nat_tests, plus_years, Purged, renewals, domain_notice, turn, turns-are, ◌&&◌}
-use Rattle.decisions.proofs.Words.{and_parts, cond_some}
+use Rattle.std.proofs.Common.{◌≡◌, ℕ, ◌+◌, ◌<◌, ◌≤◌, false, nat_lt, zero, suc, List, [], ◌∷◌, ◌++◌, Option, Some, None, refl, ap, subst, ◌∙◌, arith}
+use Rattle.decisions.proofs.Words.{contact_completed, contact_completion, domain_notice, is_pending_state, IsLastTransfer, lapse_contact, nat_list_cmp_total}
+use Rattle.decisions.proofs.Words.{account_of, completion, given_list, HasObjects, IsRegistrar, IsTransfer, LapseEntry, names_apart, PolicyRules, with_account}
+use Rattle.decisions.proofs.Words.{and_parts, cond_both, cond_some, Deletion, given, lapse_by, nat_tests, plus_years, postings, purge_at, slice_cmp, turns-are}
+use Rattle.decisions.proofs.Words.{Account, Contact, Domain, due_by, entered, entries, FinMap, gained, nat_cmp, Posting, Registry, Renewal, renewals, Transfer}
+use Rattle.decisions.proofs.Words.{fold, get, lapse, Lapsed, leaves, lived, moved, nat_le, Notice, posted, Purged, purged, raised, Start, turn, turns, ◌&&◌}
 use Rattle.basis.proofs.EntryLaws.{Each, each_entry}
-use Rattle.decisions.proofs.KeepingLemmas.{kept-account}
-use Rattle.decisions.proofs.ViewLemmas.{account-keep}
+use Rattle.decisions.proofs.{KeepingLemmas.kept-account, ViewLemmas.account-keep}
 
 -- ---- what is so of each posting
 
@@ -42,6 +39,16 @@ due-is t (Some y) x e =
 pub due-transfer : (p : PolicyRules) (s : Registry) (t created : ℕ) (transferred : Option ℕ) (o : Option Transfer) (x : Transfer) → due_by t o ≡ Some x → IsLastTransfer p s created transferred o → IsTransfer p s created transferred x
 due-transfer p s t created transferred o x e is = subst (IsLastTransfer p s created transferred) (due-is t o x e).0 is
 
+-- ---- a domain lapses: one that is deleted stays or is purged, and any other lives on
+
+pub lapse-cases : (p : PolicyRules) (t : ℕ) (d : Domain) (Q : Lapsed Domain → Type 0) → ((x : Deletion) → d.deletion ≡ Some x → Q (leaves d [])) → ((x : Deletion) → nat_lt t (purge_at p x) ≡ false → Q (purged p x d))
+    → (d.deletion ≡ None → (o : Option Transfer) → due_by t d.transfer ≡ o → Q (lived p t o d)) → Q (lapse p t d)
+lapse-cases p t d Q deleted gone alive = by d.deletion refl
+  where
+    by : (o : Option Deletion) → d.deletion ≡ o → Q (lapse_by p t o d)
+    by None is = alive is (due_by t d.transfer) refl
+    by (Some x) is = cond_both (nat_lt t (purge_at p x)) (leaves d []) (purged p x d) Q (λ e. deleted x is) (λ e. gone x e)
+
 -- ---- what time posts of contacts and domains
 
 module _ (p : PolicyRules) (t : ℕ) (R : Posting → Type 0) where
@@ -72,16 +79,8 @@ module _ (p : PolicyRules) (t : ℕ) (R : Posting → Type 0) where
         (renewals-posted d (turns d x.ac_date) turned (λ k lt. omega (arith, (turns-are d x.ac_date).before k lt, come)))
         (posted-both R done (renewals p after (turns after t)) (completed x e).0 (renewals-posted after (turns after t) (completed x e).1 (turns-are after t).before))
 
-    by-purge : (x : Deletion) (b : Bool) → nat_lt t (purge_at p x) ≡ b → AllPosted R (cond b (leaves d []) (purged p x d)).postings
-    by-purge x true e = tt
-    by-purge x false e = (gone x e, tt)
-
-    by-deletion : (o : Option Deletion) → AllPosted R (lapse_by p t o d).postings
-    by-deletion None = by-transfer (due_by t d.transfer) refl
-    by-deletion (Some x) = by-purge x (nat_lt t (purge_at p x)) refl
-
     pub domain-posted : AllPosted R (lapse p t d).postings
-    domain-posted = by-deletion d.deletion
+    domain-posted = lapse-cases p t d (λ (l : Lapsed Domain). AllPosted R l.postings) (λ x is. tt) (λ x past. (gone x past, tt)) (λ alive. by-transfer)
 
   module _ (c : Contact) (completed : (x : Transfer) → due_by t c.transfer ≡ Some x → AllPosted R (contact_completion x c)) where
     by-completion : (o : Option Transfer) → due_by t c.transfer ≡ o → AllPosted R (contact_completed o c).postings
@@ -123,9 +122,6 @@ same-serial (Renewal r) a = refl
 same-serial (Start x) a = refl
 same-serial (Notice m) a = refl
 
-serial-stays : (what : LapseEntry) (a : Account) → a.serial ≤ (entered what a).serial
-serial-stays what a = omega (arith, same-serial what a)
-
 serial-entered : (r other : ℕ) (what : LapseEntry) (s : Registry) → (account_of r (with_account other (entered what) s)).serial ≡ (account_of r s).serial
 serial-entered r other what s = account-keep (λ (a : Account). a.serial ≡ (account_of r s).serial) s other (entered what) r (λ own same. same-serial what (account_of r s)) refl
 
@@ -135,4 +131,4 @@ serial-posted r (e ∷ es) s = serial-posted r es (with_account e.registrar (ent
 
 pub kept-posted : (p : PolicyRules) (es : List Posting) → AreToRegistrars p es → (s : Registry) → HasObjects p s → HasObjects p (record s { accounts = fold posted s.accounts es })
 kept-posted p [] to s is = is
-kept-posted p (e ∷ es) to s is = kept-posted p es to.1 (with_account e.registrar (entered e.what) s) (kept-account p e.registrar (entered e.what) (serial-stays e.what) s to.0 is)
+kept-posted p (e ∷ es) to s is = kept-posted p es to.1 (with_account e.registrar (entered e.what) s) (kept-account p e.registrar (entered e.what) (λ a. omega (arith, same-serial e.what a)) s to.0 is)

@@ -1,51 +1,29 @@
 -- Each step of the rules, and time alone, keep a registry well formed, with its clock, its objects, its lines, its messages and its shapes.
-use Rattle.std.proofs.Common.{cond, ℕ, ◌≤◌, ◌<◌, max, sym, subst, arith, List, [], ◌∷◌, ◌≡◌, refl}
-use Rattle.std.proofs.Common.{◌∙◌}
-use Rattle.decisions.proofs.Words.{Host, host_renamed, may_rename, RenameHost}
-use Rattle.decisions.proofs.Words.{account_of, All, Command, decision, effect, IsRefundable, IsRegistrar, IsRegistry, IsSettled, IsSound}
-use Rattle.decisions.proofs.Words.{lapsed, last_clock, now, Order, order_decision, order_effect, PolicyRules, Registry}
-use Rattle.decisions.proofs.Words.{Account, AccountChange, Ack, bytes_eq, Change, changed, changed_all, entered, Post}
-use Rattle.decisions.proofs.Words.{Lapse, lapse_contact, LapseEntry, Line, Notice, OpenAccount, posted, Posting, postings}
-use Rattle.decisions.proofs.Words.{Renewal, Notify, with_account, HasLines, MoveClock, account_changed, accounts_at}
-use Rattle.decisions.proofs.Words.{All-from_recursion, All-insert_key, All-tail, all-weaker, CanBeAsked, cond_both, fold}
-use Rattle.decisions.proofs.Words.{HasCome, HasMessages, lapse, lapse_registry, lapses-on, nat_tests, numbered}
-use Rattle.decisions.proofs.Words.{recursion_from_All, registries-meet-standards, saturating_next}
+use Rattle.std.proofs.Common.{[], arith, List, max, refl, subst, sym, ℕ, ◌<◌, ◌∙◌, ◌∷◌, ◌≡◌, ◌≤◌}
+use Rattle.decisions.proofs.Words.{Account, account_changed, account_of, AccountChange, accounts_at, Ack, All, All-from_recursion, All-insert_key, All-tail}
+use Rattle.decisions.proofs.Words.{all-weaker, bytes_eq, CanBeAsked, Change, changed, changed_all, Command, cond_both, decision, effect, entered, fold}
+use Rattle.decisions.proofs.Words.{HasCome, HasLines, HasMessages, host_renamed, IsRefundable, IsRegistrar, IsRegistry, IsSettled, IsSound, Lapse, lapse}
+use Rattle.decisions.proofs.Words.{lapse_contact, lapse_registry, lapsed, LapseEntry, lapses-on, last_clock, Line, may_rename, nat_tests, Notice}
+use Rattle.decisions.proofs.Words.{Notify, now, numbered, OpenAccount, Order, order_decision, order_effect, PolicyRules, Post, posted, Posting, postings}
+use Rattle.decisions.proofs.Words.{recursion_from_All, registries-meet-standards, Registry, RenameHost, Renewal, saturating_next, with_account}
 use Rattle.decisions.specs.Changes.{itself}
-use Rattle.decisions.proofs.Lemmas.{account-keep, all-kept, FitsLines, kept-lapse, Meets}
+use Rattle.decisions.proofs.Lemmas.{account-keep, all-kept, FitsLines, kept-lapse, Meets, clock-stays}
 use Rattle.decisions.proofs.LineCommandLemmas.{lines-effect, lines-order, fits-order}
-use Rattle.decisions.proofs.LineTimeLemmas.{lines-lapse}
+use Rattle.decisions.proofs.{LineTimeLemmas.lines-lapse, WellFormedLemmas.kept-effect, WellFormedLemmas.kept-order, TransferLemmas.meets-decided}
 use Rattle.decisions.proofs.MoneyCommandLemmas.{command-lawful, order-lawful, AllFitMoney, FitsAccount, FitsMoney}
 use Rattle.decisions.proofs.ShapeCommandLemmas.{shapes-effect, shapes-order, shapes-lapse}
-use Rattle.decisions.proofs.WellFormedLemmas.{kept-effect, kept-order}
 use Rattle.decisions.proofs.PostingLemmas.{AllPosted, contact-posted, domain-posted, due-is, postings-posted}
-use Rattle.decisions.proofs.MeetingLemmas.{meets-decided}
 use Rattle.accounts.specs.declared.message.Message.{Message}
-use Rattle.accounts.specs.Messages.{message_cmp, message_id}
-use Rattle.accounts.specs.Queue.{acked}
+use Rattle.accounts.specs.{Messages.message_cmp, Messages.message_id, Queue.acked}
 
 -- ---- commands and orders leave the clock where it stands
 
-renamed-clock : (old : List ℕ) (h : Host) (s : Registry) → (cond (may_rename s.hosts old h.name) (host_renamed old h s) s).clock ≡ s.clock
-renamed-clock old h s = cond_both (may_rename s.hosts old h.name) (host_renamed old h s) s (λ (t : Registry). t.clock ≡ s.clock) (λ may. refl) (λ else. refl)
-
--- what a registrar's view is told of its changes
-clock-met : (p : PolicyRules) (r : ℕ) (change : Change) (s : Registry) → Meets p r change s → (changed p change s).clock ≡ s.clock
-clock-met p r (MoveClock t) s meets = absurd meets
-clock-met p r (RenameHost old h) s meets = renamed-clock old h s
-clock-met p r _ s meets = refl
-
 pub clock-effect : (p : PolicyRules) → IsSound p → (r : ℕ) (c : Command) (s : Registry) → IsRegistry p s → (effect p r c s).clock ≡ s.clock
-clock-effect p sound r c s is = all-kept p (Meets p r) (λ t. t.clock ≡ s.clock) (λ change t meets same. clock-met p r change t meets ∙ same)
+clock-effect p sound r c s is = all-kept p (Meets p r) (λ t. t.clock ≡ s.clock) (λ change t meets same. clock-stays p change t (λ u e. subst (λ (c : Change). Meets p r c t) e meets) ∙ same)
     (decision p r c s).changes s (meets-decided p sound r c s (registries-meet-standards p s is)) refl
 
--- what an order changes fits the lines
-clock-fit : (p : PolicyRules) (change : Change) (s : Registry) → FitsLines p change s → (changed p change s).clock ≡ s.clock
-clock-fit p (MoveClock t) s fits = absurd fits
-clock-fit p (RenameHost old h) s fits = renamed-clock old h s
-clock-fit p _ s fits = refl
-
 pub clock-order : (p : PolicyRules) (order : Order) (s : Registry) → HasLines p s → (order_effect p order s).clock ≡ s.clock
-clock-order p order s has = all-kept p (FitsLines p) (λ t. t.clock ≡ s.clock) (λ change t fits same. clock-fit p change t fits ∙ same)
+clock-order p order s has = all-kept p (FitsLines p) (λ t. t.clock ≡ s.clock) (λ change t fits same. clock-stays p change t (λ u e. subst (λ (c : Change). FitsLines p c t) e fits) ∙ same)
     (order_decision p order s).changes s (fits-order p order s has) refl
 
 -- ---- no message is of a moment that hasn't come: none is told ahead of the clock, by a command or by time
@@ -138,20 +116,9 @@ messages-order p order s is = subst (λ (t : ℕ). (q : ℕ) → All (HasCome t)
 -- A registrar's command, where nothing is due, but that a serial at its greatest would be given twice. It
 -- asks for ten years at most, as its type keeps it.
 pub registry-effect : (p : PolicyRules) → IsSound p → (r : ℕ) (c : Command) (s : Registry) → IsRegistrar p r → IsRegistry p s → IsSettled p s → (account_of r s).serial < 4_611_686_018_427_387_904 → CanBeAsked c → IsRegistry p (effect p r c s)
-registry-effect p sound r c s place is settled small few = record {
-  clock = omega (arith, is.clock, clock-effect p sound r c s is);
-  objects = kept-effect p sound r c s place is.objects is.clock small;
-  lines = lines-effect p sound r c s place is settled small;
-  messages = messages-effect p sound r c s is;
-  shapes = shapes-effect p r c s is few;
-}
+registry-effect p sound r c s place is settled small few =
+    search (arith, clock-effect p sound r c s is, kept-effect, lines-effect, messages-effect, shapes-effect)
 
 -- an order of the operator
 pub registry-order : (p : PolicyRules) (order : Order) (s : Registry) → IsRegistry p s → IsRegistry p (order_effect p order s)
-registry-order p order s is = record {
-  clock = omega (arith, is.clock, clock-order p order s is.lines);
-  objects = kept-order p order s is.objects;
-  lines = lines-order p order s is.lines;
-  messages = messages-order p order s is;
-  shapes = shapes-order p order s is.shapes;
-}
+registry-order p order s is = search (arith, clock-order p order s is.lines, kept-order, lines-order, messages-order, shapes-order)

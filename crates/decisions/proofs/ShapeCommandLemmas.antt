@@ -2,16 +2,14 @@
 use Rattle.std.proofs.Common.{◌≡◌, ℕ, ◌-◌, ◌<◌, ◌≤◌, max, nat_lt, true, false, List, length, Option, Some, None, IsSome, is_some, refl, sym, subst, ◌∙◌, arith}
 use Rattle.std.proofs.Common.{inl, inr, zero, suc, ◌+◌, ◌/◌, min}
 use Rattle.std.specs.Option.{IfSome}
-use Rattle.decisions.proofs.Words.{host_renamed, may_rename, adds_what_is_there, AreSetsWithin, CanBeAsked, cases_lt, Change, changed, changed_all}
-use Rattle.decisions.proofs.Words.{Asked, Bad, ClientApproved, ClientCancelled, ClientRejected, Command, decision, deleted_domain, Domain}
-use Rattle.decisions.proofs.Words.{changes_after, cond_both, domains_at, DropDomain, DropHost, expiry, false_from_ne_true}
-use Rattle.decisions.proofs.Words.{domain_with_transfer, DomainUpdate, effect, ended, Facts, gained, get, RequestedName, handed_over, has_name}
-use Rattle.decisions.proofs.Words.{final_name, has_twice, HostUpdate, is_over, IsAskable, itself, keeps_host, lapse}
-use Rattle.decisions.proofs.Words.{HasObjects, Host, IsRegistry, last_clock, name_of, new_domain, NewDomain, NewHost, Order, order_decision}
-use Rattle.decisions.proofs.Words.{lapse_registry, LapseDomain, left-of, more_years, moved, nat_tests, or_else, or_parts}
-use Rattle.decisions.proofs.Words.{order_effect, ordered, PolicyRules, Registry, renewed_domain, requested, restored_domain, restoring_domain}
-use Rattle.decisions.proofs.Words.{plus_years, PutDomain, PutHost, raised, remove, RenameHost, Transfer, turns, turns-are}
-use Rattle.decisions.proofs.Words.{updated_domain, with_account, with_command, with_host_renamed, years_later, ZoneRules}
+use Rattle.decisions.proofs.Words.{adds_what_is_there, AreSetsWithin, Asked, Bad, CanBeAsked, cases_lt, Change, changed, changed_all, changes_after, Status}
+use Rattle.decisions.proofs.Words.{ClientApproved, Command, cond_both, decision, deleted_domain, Domain, domain_with_transfer, domains_at, DomainUpdate}
+use Rattle.decisions.proofs.Words.{DropDomain, DropHost, effect, ended, expiry, Facts, false_from_ne_true, final_name, gained, get, handed_over, has_name}
+use Rattle.decisions.proofs.Words.{has_twice, HasObjects, Host, host_renamed, HostUpdate, is_over, IsAskable, IsRegistry, itself, keeps_host, lapse}
+use Rattle.decisions.proofs.Words.{lapse_registry, LapseDomain, last_clock, left-of, may_rename, more_years, moved, name_of, nat_tests, new_domain, NewDomain}
+use Rattle.decisions.proofs.Words.{NewHost, or_else, or_parts, Order, order_decision, order_effect, plus_years, PolicyRules, PutDomain, PutHost}
+use Rattle.decisions.proofs.Words.{raised, Registry, remove, RenameHost, renewed_domain, requested, RequestedName, restored_domain, restoring_domain, Transfer}
+use Rattle.decisions.proofs.Words.{turns, turns-are, updated_domain, with_account, with_command, with_host_renamed, years_later, ZoneRules}
 use Rattle.model.specs.Shapes.{HasShapes, IsDomainName, IsHostName, IsSetWithin, IsShaped, IsShapedHost, end_of_expiries}
 use Rattle.names.specs.Canonical.{IsCanonical}
 use Rattle.objects.specs.Links.{in_order}
@@ -20,9 +18,8 @@ use Rattle.protocol.specs.declared.lists.TheConstants.{MOST_ADDRESSES, MOST_CONT
 use Rattle.decisions.proofs.CommandCases.{AreListsFit, CommandCases, IsHostUpdateOf, IsUpdateOf, host_with, request-cases}
 use Rattle.decisions.proofs.Lemmas.{all-kept, AllFit, domain-lapsed, due-is, known, order-cases, OrderCases, transferred_by}
 use Rattle.decisions.proofs.OrderedSetLemmas.{set-amended, set-in_order, set-texts, within-amended, within-items}
-use Rattle.decisions.proofs.OrderedSetLemmas.{within-texts, set-renamed, within-renamed}
-use Rattle.decisions.proofs.NamedLemmas.{drop-cases, remade-cases, at-put}
-use Rattle.decisions.proofs.SettledLemmas.{years-ahead}
+use Rattle.decisions.proofs.{OrderedSetLemmas.within-texts, OrderedSetLemmas.set-renamed, OrderedSetLemmas.within-renamed, NamedLemmas.drop-cases}
+use Rattle.decisions.proofs.{NamedLemmas.remade-cases, NamedLemmas.at-put, SettledLemmas.years-ahead}
 use Rattle.calendar.specs.Calendar.{Date, date_of, day_number, days_of_years}
 use Rattle.calendar.proofs.CalendarLemmas.{IsReal, IsReal-date_of}
 use Rattle.calendar.proofs.YearLaws.{IsReal-years_later, day_number-year, days_of_years-mono, plus_years-zero}
@@ -118,18 +115,13 @@ pub same-shape : (zone : ZoneRules) (d e : Domain) → e.name ≡ d.name → e.l
 same-shape zone d e name links expires h = record { name = subst (IsDomainName zone) (sym name) h.name; links = subst AreSetsWithin (sym links) h.links; expires = expires }
 
 shape-renamed : (zone : ZoneRules) (old new : List ℕ) (d : Domain) → has_name d.links.hosts new ≡ false → IsShaped zone d → IsShaped zone (with_host_renamed old new d)
-shape-renamed zone old new d absent h = record {
-  name = h.name;
-  links = record { admin = h.links.admin; tech = h.links.tech; hosts = (set-renamed old new d.links.hosts absent h.links.hosts.0, within-renamed old new d.links.hosts MOST_HOSTS h.links.hosts.1) };
-  expires = h.expires;
-}
+shape-renamed zone old new d absent h =
+    search (set-renamed old new d.links.hosts absent h.links.hosts.0, within-renamed old new d.links.hosts MOST_HOSTS h.links.hosts.1)
 
 pub shapes-changed : (p : PolicyRules) (change : Change) (s : Registry) → FitsShapes p change s → HasShapes p.zone s → HasShapes p.zone (changed p change s)
-shapes-changed p (PutDomain d) s fits is =
-    record { domains = at-put (λ n. IsShaped p.zone) s.domains d.name d fits is.domains; hosts = is.hosts }
+shapes-changed p (PutDomain d) s fits is = search (at-put (λ n. IsShaped p.zone) s.domains d.name d fits is.domains)
 shapes-changed p (DropDomain dropped) s fits is = record { domains = λ name e at. is.domains name e (drop-cases s.domains dropped name e at).1; hosts = is.hosts }
-shapes-changed p (PutHost h) s fits is =
-    record { domains = is.domains; hosts = at-put (λ n. IsShapedHost p.zone) s.hosts h.name h fits is.hosts }
+shapes-changed p (PutHost h) s fits is = search (at-put (λ n. IsShapedHost p.zone) s.hosts h.name h fits is.hosts)
 shapes-changed p (DropHost dropped) s fits is = record { domains = is.domains; hosts = λ name g at. is.hosts name g (drop-cases s.hosts dropped name g at).1 }
 shapes-changed p (RenameHost old h) s fits is = cond_both (may_rename s.hosts old h.name) (host_renamed old h s) s (HasShapes p.zone)
     (λ may. record {
@@ -177,21 +169,14 @@ shapes-lapse p t s early is = record {
 -- the lists of a new domain name nothing twice, and no more than may be
 shape-new : (zone : ZoneRules) (r t : ℕ) (f : Facts) (new : NewDomain) → t ≤ last_clock → new.years ≤ 10 → IsDomainName zone (name_of new.name) → AreListsFit (requests.CreateDomain new) → IsShaped zone (new_domain r t f new)
 shape-new zone r t f new early few named fit =
+    let expires : EndsInTime t (max 1 new.years) = ten-end t (max 1 new.years) early (omega (arith, few)) in
     let hosts = or_parts (has_twice name_of new.hosts) _ fit.once in
     let admin = or_parts (has_twice itself new.admin) _ hosts.1 in
     let tech = or_parts (has_twice itself new.tech) _ admin.1 in
     let short_hosts = or_parts (nat_lt MOST_HOSTS (length new.hosts)) _ fit.short in
     let short_admin = or_parts (nat_lt MOST_CONTACTS (length new.admin)) _ short_hosts.1 in
     let short_tech = or_parts (nat_lt MOST_CONTACTS (length new.tech)) _ short_admin.1 in
-    record {
-      name = named;
-      links = record {
-        admin = (set-in_order new.admin admin.0, within-items MOST_CONTACTS new.admin short_admin.0);
-        tech = (set-in_order new.tech tech.0, within-items MOST_CONTACTS new.tech short_tech.0);
-        hosts = (set-texts name_of new.hosts hosts.0, within-texts name_of MOST_HOSTS new.hosts short_hosts.0);
-      };
-      expires = ten-end t (max 1 new.years) early (omega (arith, few));
-    }
+    search (set-in_order, set-texts, within-items, within-texts)
 
 addresses-new : (new : NewHost) → AreListsFit (requests.CreateHost new) → IsSetWithin MOST_ADDRESSES (in_order new.addresses)
 addresses-new new fit = (set-in_order new.addresses (or_parts (has_twice itself new.addresses) false fit.once).0, within-items MOST_ADDRESSES new.addresses fit.short)
@@ -209,15 +194,7 @@ shape-updated zone t s u d it h =
     let new_tech = or_parts (adds_what_is_there itself d.links.tech u.add.tech) _ new_admin.1 in
     let few_hosts = or_parts (is_over name_of MOST_HOSTS d.links.hosts u.rem.hosts u.add.hosts) _ it.few in
     let few_contacts = or_parts (is_over itself MOST_CONTACTS d.links.admin u.rem.admin u.add.admin) _ few_hosts.1 in
-    record {
-      name = h.name;
-      links = record {
-        admin = (set-amended itself d.links.admin u.rem.admin u.add.admin admin.0 new_admin.0 h.links.admin.0, within-amended itself MOST_CONTACTS d.links.admin u.rem.admin u.add.admin few_contacts.0);
-        tech = (set-amended itself d.links.tech u.rem.tech u.add.tech tech.0 new_tech.0 h.links.tech.0, within-amended itself MOST_CONTACTS d.links.tech u.rem.tech u.add.tech few_contacts.1);
-        hosts = (set-amended name_of d.links.hosts u.rem.hosts u.add.hosts hosts.0 new_hosts.0 h.links.hosts.0, within-amended name_of MOST_HOSTS d.links.hosts u.rem.hosts u.add.hosts few_hosts.0);
-      };
-      expires = h.expires;
-    }
+    search (set-amended, within-amended)
 
 -- the name that a host has after an update
 named-after : (zone : ZoneRules) (u : HostUpdate) (given : Option RequestedName) → IfSome (or_else given (Some u.name)) IsCanonical → keeps_host zone (final_name u given) ≡ true → IsHostName zone (final_name u given)
@@ -227,15 +204,10 @@ named-after zone u (Some name) canonical kept = record { canonical = canonical; 
 shape-host : (p : PolicyRules) (r : ℕ) (s : Registry) (u : HostUpdate) (given : Option RequestedName) (h : Host) → IsAskable (requests.UpdateHost u) → IsHostUpdateOf p s u given h → IsShapedHost p.zone h
     → IsShapedHost p.zone (host_with p r s.clock u given h)
 shape-host p r s u given h askable it is =
+    let name = named-after p.zone u given (subst (λ (o : Option RequestedName). IfSome (or_else o (Some u.name)) IsCanonical) it.is askable.host) it.kept in
     let addresses = or_parts (has_twice itself u.add.addresses) _ it.once in
     let new_addresses = or_parts (adds_what_is_there itself h.addresses u.add.addresses) _ it.new in
-    record {
-      name = named-after p.zone u given (subst (λ (o : Option RequestedName). IfSome (or_else o (Some u.name)) IsCanonical) it.is askable.host) it.kept;
-      addresses = (
-        set-amended itself h.addresses u.rem.addresses u.add.addresses addresses.0 new_addresses.0 is.addresses.0,
-        within-amended itself MOST_ADDRESSES h.addresses u.rem.addresses u.add.addresses it.few,
-      );
-    }
+    search (it.few, set-amended, within-amended)
 
 -- a name at which no host is, no domain names
 unnamed : (p : PolicyRules) (s : Registry) → HasObjects p s → (name : List ℕ) → is_some (get s.hosts name) ≡ false → (n : List ℕ) (d : Domain) → get s.domains n ≡ Some d → has_name d.links.hosts name ≡ false
@@ -253,30 +225,25 @@ again p s has name d e at called links expires = let h = has.domains name d at i
 commands-fit : (p : PolicyRules) (r : ℕ) (cl_trid : Option (List ℕ)) (s : Registry) → HasObjects p s → HasShapes p.zone s → s.clock ≤ last_clock
     → CommandCases p r cl_trid s (λ q changes. IsAskable q → AllFitShapes p changes (with_account r with_command s))
 commands-fit p r cl_trid s is has early = record {
+  contacts = search;
+  hosts = record {
+    created = λ new kept fit based askable. (record { name = record { canonical = askable.host; kept = kept }; addresses = addresses-new new fit }, (tt, tt));
+    dropped = λ name free askable. (tt, tt);
+    updated = λ u h it askable. (shape-host p r s u None h askable it (has.hosts (name_of u.name) h it.at), tt);
+    renamed = λ u name h it free based askable. ((shape-host p r s u (Some name) h askable it (has.hosts (name_of u.name) h it.at), unnamed p s is (name_of name) free), tt);
+  };
   none = λ q askable. tt;
   acknowledged = λ id askable. (tt, tt);
-  contact_created = λ new askable. (tt, (tt, tt));
   domain_created = λ new kept fit linked paid askable. (shape-new p.zone r s.clock (known p r cl_trid s (requests.CreateDomain new)) new early askable.years (record { canonical = askable.domain; kept = kept }) fit, (tt, (tt, tt)));
-  host_created = λ new kept fit based askable. (record { name = record { canonical = askable.host; kept = kept }; addresses = addresses-new new fit }, (tt, tt));
-  contact_dropped = λ name free askable. (tt, tt);
   domain_dropped = λ name d it askable. (tt, (tt, tt));
   domain_deleted = λ name d years it askable. (again p s has (name_of name) d (deleted_domain s.clock years d) it.at refl refl (fewer-end d.created (d.years - years) d.years (omega arith)), (tt, tt));
-  host_dropped = λ name free askable. (tt, tt);
-  contact_updated = λ u c at askable. (tt, tt);
   domain_updated = λ u d it linked askable. (shape-updated p.zone s.clock s u d it (has.domains (name_of u.name) d it.at), tt);
-  host_updated = λ u h it askable. (shape-host p r s u None h askable it (has.hosts (name_of u.name) h it.at), tt);
-  host_renamed = λ u name h it free based askable. ((shape-host p r s u (Some name) h askable it (has.hosts (name_of u.name) h it.at), unnamed p s is (name_of name) free), tt);
   renewed = λ name expires years d it fits askable. (again p s has (name_of name) d (renewed_domain s.clock years d) it.at refl refl (renewed-end s.clock d.created d.years years early fits), (tt, tt));
   restoring = λ name d at askable. (again p s has (name_of name) d (restoring_domain s.clock d) at refl refl (λ h. h), tt);
   restored = λ name del_time res_time d it askable. (again p s has (name_of name) d (restored_domain s.clock d) it.at refl refl (turns-end d s.clock early), (tt, tt));
-  contact_asked = λ q n c at askable. (tt, (tt, tt));
-  contact_approved = λ q n c at y last askable. (tt, (tt, tt));
-  contact_rejected = λ q n c at y last askable. (tt, (tt, tt));
-  contact_cancelled = λ q n c at y last askable. (tt, (tt, tt));
   domain_asked = λ q n d at free paid askable. (again p s has n d (domain_with_transfer (requested p r d.sponsor s.clock) d) at refl refl (λ h. h), (tt, (tt, tt)));
   domain_approved = λ q n d at y last pending own askable. (tt, (again p s has n d (handed_over (ended ClientApproved s.clock y) (gained d s.clock) d) at refl refl (gained-end d s.clock early), (tt, tt)));
-  domain_rejected = λ q n d at y last pending askable. (again p s has n d (domain_with_transfer (ended ClientRejected s.clock y) d) at refl refl (λ h. h), (tt, (tt, tt)));
-  domain_cancelled = λ q n d at y last pending askable. (again p s has n d (domain_with_transfer (ended ClientCancelled s.clock y) d) at refl refl (λ h. h), (tt, (tt, tt)));
+  domain_turned_down = λ q n d at y last pending state to notice over down side askable. (again p s has n d (domain_with_transfer (ended state s.clock y) d) at refl refl (λ h. h), (tt, (tt, tt)));
 }
 
 -- A registrar's command keeps the shapes of objects.
@@ -289,13 +256,9 @@ shapes-effect p r (Asked cl_trid q) s is askable =
 -- ---- orders
 
 orders-fit : (p : PolicyRules) (s : Registry) → HasShapes p.zone s → OrderCases p s (λ changes. AllFitShapes p changes s)
-orders-fit p s has = record {
-  none = tt;
-  contact_set = λ o name c at. (tt, tt);
-  domain_set = λ o name d at. (again p s has name d (record d { statuses = ordered o d.statuses }) at refl refl (λ h. h), tt);
-  host_set = λ o name h at. let is = has.hosts name h at in (record { name = is.name; addresses = is.addresses }, tt);
-  paid_in = λ r cents place. (tt, tt);
-}
+orders-fit p s has =
+    let host : (h : Host) (statuses : List Status) → IsShapedHost p.zone h → IsShapedHost p.zone (record h { statuses = statuses }) = λ h statuses k. record { name = k.name; addresses = k.addresses } in
+    search (again p s has, has.hosts, host)
 
 -- An order of the operator keeps them.
 pub shapes-order : (p : PolicyRules) (order : Order) (s : Registry) → HasShapes p.zone s → HasShapes p.zone (order_effect p order s)

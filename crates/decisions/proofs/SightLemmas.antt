@@ -1,10 +1,9 @@
 -- What is seen without a secret, of what was seen with one.
-use Rattle.std.proofs.Common.{◌≡◌, ℕ, suc, length, arith, eqb-true, Bool, true, false, cond, not, ◌&&◌, Option, Some, None, List, [], ◌∷◌, filter, refl, sym, ap, ◌∙◌}
-use Rattle.decisions.proofs.Words.{bytes_eq, Contact, contact_as, Domain, DomainFace, Full, FullDomain, Graces, has_name, is_empty, is_party}
-use Rattle.decisions.proofs.Words.{is_pending, nat_cmp, precedes, Public, renamed, Roid, Seen, slice_cmp, Superordinate}
-use Rattle.decisions.proofs.Words.{superordinate_of_domain, Transfer, TransferParty, with_host_renamed, add, all_statuses}
-use Rattle.decisions.proofs.Words.{cond_both, contact_face_of, face_of, has_status, is_some, links_seen}
-use Rattle.decisions.proofs.Words.{links_with_host_renamed, names, shown, shows, Standing, Status, ◌==◌, ◌||◌}
+use Rattle.std.proofs.Common.{◌≡◌, ℕ, arith, Bool, true, false, cond, not, ◌&&◌, Option, Some, None, List, [], ◌∷◌, filter, refl, sym, ap, ◌∙◌}
+use Rattle.decisions.proofs.Words.{add, all_statuses, bytes_eq, cond_both, Contact, contact_as, contact_face_of, Domain, DomainFace, face_of, Full, FullDomain}
+use Rattle.decisions.proofs.Words.{Graces, has_name, has_status, is_empty, is_party, is_pending, is_some, links_seen, links_with_host_renamed, names, nat_cmp}
+use Rattle.decisions.proofs.Words.{precedes, Public, renamed, Roid, Seen, shown, shows, slice_cmp, Standing, Status, Superordinate, superordinate_of_domain}
+use Rattle.decisions.proofs.Words.{nat_tests, Transfer, TransferParty, with_host_renamed, ◌||◌}
 use Rattle.objects.specs.Sight.{authorizes, seen_by_outsider, domain_as}
 use Rattle.objects.specs.declared.status.Status.TheVariants as statuses
 use Rattle.objects.proofs.StatusLemmas.{has_status-filter}
@@ -109,12 +108,8 @@ relinked_seen old new (Full known) = Full (full_as known.standing (with_host_ren
 relinked_seen old new (TransferParty face t) = TransferParty (record face { links = links_with_host_renamed old new face.links }) t
 relinked_seen old new (Public face) = Public (record face { links = links_with_host_renamed old new face.links })
 
-not-zero : (n : ℕ) (b : Bool) → (suc n == 0) ≡ b → b ≡ false
-not-zero n true e = absurd (let none : suc n ≡ 0 = eqb-true (suc n) 0 e in omega arith)
-not-zero n false e = refl
-
 some-left : (x : List ℕ) (xs : List (List ℕ)) → is_empty (x ∷ xs) ≡ false
-some-left x xs = not-zero (length xs) _ refl
+some-left x xs = grind (arith, nat_tests)
 
 -- it names hosts afterwards where it did before
 add-some : (le : List ℕ → List ℕ → Bool) (x : List ℕ) (xs : List (List ℕ)) → is_empty (add le x xs) ≡ false

@@ -1,21 +1,21 @@
--- What the changes of transfers leave: graces that no one else sees, and a face that can be told by who
--- hands a domain over.
+-- What a command changes meets what is asked of changes: transfers leave graces that no one else sees, and a face that
+-- can be told by who hands a domain over.
 use Rattle.std.proofs.Common.{◌≡◌, ◌≢◌, inl, inr, ℕ, Bool, true, false, cond, not, ◌&&◌, ◌||◌, map, List, [], ◌∷◌, Option, Some, None, is_some, refl, sym, ap, ◌∙◌}
-use Rattle.std.proofs.Common.{⊎_elim}
-use Rattle.std.proofs.Common.{option_map}
+use Rattle.std.proofs.Common.{⊎_elim, option_map}
 use Rattle.std.proofs.lemmas.Bool.{not-true}
-use Rattle.decisions.proofs.Words.{Account, account_of, changed, ClientApproved, Domain, ended, entered, eq_by_cmp, gained, get, Post}
-use Rattle.decisions.proofs.Words.{graces_of, handed_over, is_for_transfer, is_kind, is_on, is_pending_state, is_same_roid, IsSound, Lapse}
-use Rattle.decisions.proofs.Words.{Line, LineKind, list_any, MeetsStandards, nat_cmp, PolicyRules, PutDomain, RefundTransfer, Registry, remade}
-use Rattle.decisions.proofs.Words.{Roid, Start, start-elsewhere, start-stays, Transfer, transfer_refunded, transfer_started, TransferStart}
-use Rattle.decisions.proofs.Words.{waits, with_account, with_command, domain_sight, eq_by_cmp_equiv, nat_cmp_total}
-use Rattle.decisions.proofs.Words.{nat_list_cmp_total, slice_cmp, standing_of, view, account_changed, and_parts, and_right}
-use Rattle.decisions.proofs.Words.{any-bag_of, cases_Bool, cond_both, false_from_ne_true, get-map_values, gives, graces}
-use Rattle.decisions.proofs.Words.{in_order, names_apart, period_of, runs_from, same-roids, TransferRefund, unasked}
+use Rattle.decisions.proofs.Words.{Domain, domain_with_transfer, false_from_ne_true, is_pending_state, nat_list_cmp_total, restoring_domain, transfer_refunded}
+use Rattle.decisions.proofs.Words.{account_changed, ClientApproved, eq_by_cmp_equiv, is_for_transfer, Line, restored_domain, start-elsewhere, transfer_started}
+use Rattle.decisions.proofs.Words.{deleted_domain, get-map_values, handed_over, MeetsStandards, RefundTransfer, renewed_domain, TransferRefund, updated_domain}
+use Rattle.decisions.proofs.Words.{changes_after, CreateDomain, decision, domain_sight, is_same_roid, nat_cmp_total, TransferStart, with_account, with_command}
+use Rattle.decisions.proofs.Words.{account_of, and_parts, any-bag_of, cases_Bool, names_apart, new_domain, PolicyRules, same-roids, standing_of, start-stays}
+use Rattle.decisions.proofs.Words.{and_right, cond_both, eq_by_cmp, graces_of, in_order, LineKind, period_of, Post, PutDomain, requested, runs_from, slice_cmp}
+use Rattle.decisions.proofs.Words.{Account, changed, Command, entered, gained, is_kind, IsSound, list_any, name_of, nat_cmp, Registry, Roid, Transfer, unasked}
+use Rattle.decisions.proofs.Words.{Asked, Bad, ended, get, gives, graces, is_on, Lapse, remade, Start, view, waits}
 use Rattle.accounts.specs.declared.line.LineKind.TheVariants as kinds
 use Rattle.decisions.proofs.HandedOver.{graces-handed-over, transfer_alone}
-use Rattle.decisions.proofs.Lemmas.{AsksFor, graces-seen, graces_kept, graces_put, sponsor-seen, test-elsewhere, none-is}
-use Rattle.decisions.proofs.ViewLemmas.{KeepsGraces, Meets, account_of-with_account, lines-kept, own, same_number}
+use Rattle.decisions.proofs.Lemmas.{AllMeet, AsksFor, CommandCases, graces-seen, graces_kept, graces_put, known, own-account, request-cases}
+use Rattle.decisions.proofs.Lemmas.{sponsor-seen, test-elsewhere, none-is}
+use Rattle.decisions.proofs.ViewLemmas.{KeepsGraces, Meets, lines-kept, own, same_number}
 
 -- ---- the graces of a domain that is put can be told from what is seen
 
@@ -102,69 +102,97 @@ refund-keeps p q x s = λ name d at own. graces-refunded p s.clock d.roid d.tran
 
 -- ---- a domain that is handed over, as its last sponsor sees it
 
-not-same : (a b : ℕ) → a ≢ b → eq_by_cmp nat_cmp a b ≡ false
-not-same a b apart = false_from_ne_true (eq_by_cmp nat_cmp a b) (λ e. apart (same_number a b e))
-
-module _ (p : PolicyRules) (sound : IsSound p) (r : ℕ) (s : Registry) (is : MeetsStandards p s) (name : List ℕ) (d : Domain) (at : get s.domains name ≡ Some d)
-    (y : Transfer) (last : d.transfer ≡ Some y) (pending : is_pending_state y.state ≡ true) (sponsored : r ≡ d.sponsor) where
+module _ (p : PolicyRules) (sound : IsSound p) (r : ℕ) (s : Registry) (is : MeetsStandards p s) where
+  -- the registry once the command is counted
   abbrev counted : Registry
   counted = with_account r with_command s
 
-  -- the transfer, approved now
-  abbrev x : Transfer
-  x = ended ClientApproved s.clock y
+  module _ (name : List ℕ) (d : Domain) (at : get s.domains name ≡ Some d) (y : Transfer) (last : d.transfer ≡ Some y) (pending : is_pending_state y.state ≡ true) (sponsored : r ≡ d.sponsor) where
+    -- the transfer, approved now
+    abbrev x : Transfer
+    x = ended ClientApproved s.clock y
 
-  abbrev years : ℕ
-  years = gained d s.clock
+    abbrev years : ℕ
+    years = gained d s.clock
 
-  abbrev start : TransferStart
-  start = record { roid = d.roid; moment = s.clock; years = years }
+    abbrev start : TransferStart
+    start = record { roid = d.roid; moment = s.clock; years = years }
 
-  lines-counted : (k : ℕ) → (account_of k counted).lines ≡ (account_of k s).lines
-  lines-counted k = lines-kept p r r with_command (λ a. refl) s k
+    -- whoever approves it is the sponsor
+    other-sponsor : eq_by_cmp nat_cmp y.requester r ≡ false → y.requester ≢ d.sponsor
+    other-sponsor apart same =
+        let never : true ≡ false = sym (ap (λ (k : ℕ). eq_by_cmp nat_cmp k r) (same ∙ sym sponsored) ∙ eq-self r) ∙ apart in
+        cc
 
-  -- whoever approves it is the sponsor
-  other-sponsor : eq_by_cmp nat_cmp y.requester r ≡ false → y.requester ≢ d.sponsor
-  other-sponsor apart same =
-      let never : true ≡ false = sym (ap (λ (k : ℕ). eq_by_cmp nat_cmp k r) (same ∙ sym sponsored) ∙ eq-self r) ∙ apart in
-      cc
+    -- the requester's other domains have the graces that they had
+    start-keeps : y.requester ≢ d.sponsor → KeepsGraces p y.requester (account_changed p (Lapse (Start start))) counted
+    start-keeps other n e found own = ⊎_elim
+        (λ same.
+        let one : n ≡ name = is.identities.domain_roids n name e d found at (sym (same-roids d.roid e.roid same)) in
+        let alike : Some e ≡ Some d = sym found ∙ ap (get s.domains) one ∙ at in
+        let it : e ≡ d = cc in
+        absurd (other (sym own ∙ ap (λ (z : Domain). z.sponsor) it)))
+        (λ apart. graces-elsewhere p s.clock e.roid e.transferred start apart (account_of y.requester counted).lines)
+        (cases_Bool (is_same_roid d.roid e.roid))
 
-  -- the requester's other domains have the graces that they had
-  start-keeps : y.requester ≢ d.sponsor → KeepsGraces p y.requester (account_changed p (Lapse (Start start))) counted
-  start-keeps other n e found own = ⊎_elim
-      (λ same.
-      let one : n ≡ name = is.identities.domain_roids n name e d found at (sym (same-roids d.roid e.roid same)) in
-      let alike : Some e ≡ Some d = sym found ∙ ap (get s.domains) one ∙ at in
-      let it : e ≡ d = cc in
-      absurd (other (sym own ∙ ap (λ (z : Domain). z.sponsor) it)))
-      (λ apart. graces-elsewhere p s.clock e.roid e.transferred start apart (account_of y.requester counted).lines)
-      (cases_Bool (is_same_roid d.roid e.roid))
+    -- a requester that approves it sees its own account
+    pub start-meets : Meets p r (Post y.requester (Lapse (Start start))) counted
+    start-meets = ⊎_elim (λ same. inl (same_number y.requester r same)) (λ apart. inr (start-keeps (other-sponsor apart)))
+        (cases_Bool (eq_by_cmp nat_cmp y.requester r))
 
-  -- a requester that approves it sees its own account
-  pub start-meets : Meets p r (Post y.requester (Lapse (Start start))) counted
-  start-meets = ⊎_elim (λ same. inl (same_number y.requester r same)) (λ apart. inr (start-keeps (other-sponsor apart)))
-      (cases_Bool (eq_by_cmp nat_cmp y.requester r))
+    -- the registry once the grace of the transfer has begun
+    abbrev begun : Registry
+    begun = changed p (Post y.requester (Lapse (Start start))) counted
 
-  -- the registry once the grace of the transfer has begun
-  abbrev begun : Registry
-  begun = changed p (Post y.requester (Lapse (Start start))) counted
+    abbrev handed : Domain
+    handed = handed_over x years d
 
-  abbrev handed : Domain
-  handed = handed_over x years d
+    lines-begun : (account_of y.requester begun).lines ≡ remade in_order (transfer_started start) (account_of y.requester s).lines
+    lines-begun =
+        ap (λ (a : Account). a.lines) (own-account y.requester (entered (Start start)) counted)
+        ∙ ap (remade in_order (transfer_started start)) (lines-kept p r r with_command (λ a. refl) s y.requester)
 
-  lines-begun : (account_of y.requester begun).lines ≡ remade in_order (transfer_started start) (account_of y.requester s).lines
-  lines-begun =
-      ap (λ (a : Account). a.lines) (account_of-with_account y.requester y.requester (entered (Start start)) counted
-      ∙ ap (λ (b : Bool). cond b (entered (Start start) (account_of y.requester counted)) (account_of y.requester counted)) (eq-self y.requester))
-      ∙ ap (remade in_order (transfer_started start)) (lines-counted y.requester)
+    -- its requester sees it by its own lines, and any other with the grace of the transfer alone
+    pub handed-meets : Meets p r (PutDomain handed) begun
+    handed-meets = put-by p r begun handed (eq_by_cmp nat_cmp y.requester r) refl (λ apart.
+        ap (graces p s.clock d.roid (Some s.clock)) lines-begun
+        ∙ graces-handed-over p s is name d y at last pending (other-sponsor apart) sound years
+        ∙ sym (kept-at p r begun y.requester d.name d there
+        ∙ ap (λ (b : Bool). cond b (graces_of p begun d) transfer_alone) (false_from_ne_true (eq_by_cmp nat_cmp d.sponsor y.requester) (λ e. other-sponsor apart (sym (same_number d.sponsor y.requester e))))))
+      where
+        there : get s.domains d.name ≡ Some d
+        there = ap (get s.domains) (is.domains name d at).is_at.named ∙ at
 
-  -- its requester sees it by its own lines, and any other with the grace of the transfer alone
-  pub handed-meets : Meets p r (PutDomain handed) begun
-  handed-meets = put-by p r begun handed (eq_by_cmp nat_cmp y.requester r) refl (λ apart.
-      ap (graces p s.clock d.roid (Some s.clock)) lines-begun
-      ∙ graces-handed-over p s is name d y at last pending (other-sponsor apart) sound years
-      ∙ sym (kept-at p r begun y.requester d.name d there
-      ∙ ap (λ (b : Bool). cond b (graces_of p begun d) transfer_alone) (not-same d.sponsor y.requester (λ same. other-sponsor apart (sym same)))))
-    where
-      there : get s.domains d.name ≡ Some d
-      there = ap (get s.domains) (is.domains name d at).is_at.named ∙ at
+  -- ---- every command
+
+  -- a domain stands where it stood, which is the sponsor's, and was transferred when it was
+  again : (name : List ℕ) (d after : Domain) → get s.domains name ≡ Some d → after.name ≡ d.name → after.sponsor ≡ d.sponsor → graces_of p counted after ≡ graces_of p counted d
+      → Meets p r (PutDomain after) counted
+  again name d after at called sponsor alike = put-again p r counted d after (ap (get s.domains) (called ∙ (is.domains name d at).is_at.named) ∙ at) sponsor alike
+
+  commands-meet : (cl_trid : Option (List ℕ)) → CommandCases p r cl_trid s (λ q changes. AllMeet p r changes counted)
+  commands-meet cl_trid = record {
+    contacts = search (inl, inr);
+    hosts = search inl;
+    none = λ q. tt;
+    acknowledged = λ id. (inl refl, tt);
+    domain_created = λ new kept fit linked paid. (put-own p r counted (new_domain r s.clock (known p r cl_trid s (CreateDomain new)) new) (eq-self r), (inl refl, (inl refl, tt)));
+    domain_dropped = λ name d it. (tt, (inl refl, tt));
+    domain_deleted = λ name d years it. (again (name_of name) d (deleted_domain s.clock years d) it.at refl refl refl, (inl refl, tt));
+    domain_updated = λ u d it linked. (again (name_of u.name) d (updated_domain s.clock u d) it.at refl refl refl, tt);
+    renewed = λ name expires years d it fits. (again (name_of name) d (renewed_domain s.clock years d) it.at refl refl refl, (inl refl, tt));
+    restoring = λ name d at. (again (name_of name) d (restoring_domain s.clock d) at refl refl refl, tt);
+    restored = λ name del_time res_time d it. (again (name_of name) d (restored_domain s.clock d) it.at refl refl refl, (inl refl, tt));
+    domain_asked = λ q n d at askable paid. (again n d (domain_with_transfer (requested p r d.sponsor s.clock) d) at refl refl refl, (inl refl, (inr (λ name d at own. refl), tt)));
+    domain_approved = λ q n d at y last pending own.
+        (start-meets n d at y last pending own, (handed-meets n d at y last pending own, (inr (λ name d at own. refl), tt)));
+    domain_turned_down = λ q n d at y last pending state to notice over down side.
+        let back = refund-keeps p y.requester (record { roid = d.roid; moment = s.clock }) (changed p (PutDomain (domain_with_transfer (ended state s.clock y) d)) counted) in
+        (again n d (domain_with_transfer (ended state s.clock y) d) at refl refl refl, (inr back, (inr (λ name d at own. refl), tt)));
+  }
+
+-- what a command changes meets what is asked
+pub meets-decided : (p : PolicyRules) → IsSound p → (r : ℕ) (c : Command) (s : Registry) → MeetsStandards p s → AllMeet p r (decision p r c s).changes s
+unfolding changes_after
+meets-decided p sound r (Bad cl_trid fault) s is = (inl refl, tt)
+meets-decided p sound r (Asked cl_trid q) s is = (inl refl, request-cases p r cl_trid s _ (commands-meet p sound r s is cl_trid) q)

@@ -1,20 +1,17 @@
 -- The facts of a command lie in the view, and each change is seen by the view alone.
 use Rattle.std.proofs.Common.{◌≡◌, ◌⊎◌, ⊎_elim, ℕ, ◌≤◌, ◌+◌, ◌==◌, suc, Bool, true, false, cond, List, [], ◌∷◌, map, filter, length, Option, Some, None, refl, sym, ap, subst, ◌∙◌, arith}
-use Rattle.decisions.proofs.Words.{Host, host_renamed, may_rename, Account, account_of, Change, changed, changed_all, Command, Contact, contact_as, Domain, domain_sight}
-use Rattle.decisions.proofs.Words.{DomainFace, DropContact, DropDomain, DropHost, entries, eq_by_cmp, eq_by_cmp_equiv, Equal-is, facts, FinMap}
-use Rattle.decisions.proofs.Words.{FullDomain, get, get-insert, Post, Graces, graces_of, insert, is_below, is_party, LapseContact, LapseDomain}
-use Rattle.decisions.proofs.Words.{Line, Links, list_any, lookups, map_values, MoveClock, names_contact, names_host, nat_cmp}
-use Rattle.decisions.proofs.Words.{nat_cmp-IsAntisymmetric, nat_cmp_total, nat_list_cmp_total, OpenAccount, PolicyRules, presented, PutContact}
-use Rattle.decisions.proofs.Words.{PutDomain, PutHost, refund_at, Registry, remove, RenameHost, Seen, slice_cmp, standing_of}
-use Rattle.decisions.proofs.Words.{superordinate_of_domain, view, with_account, with_host_renamed, with_serial}
-use Rattle.decisions.proofs.Words.{account_changed, cond_both, ContactFace, domain_as, empty_account, facts_by, given_back}
-use Rattle.decisions.proofs.Words.{graces, held, is_some, keys, links_seen, Lookups, option_map, phase, presented_contact}
-use Rattle.decisions.proofs.Words.{same_map, Standing, subordinate, unwrap_or, values, ◌||◌}
+use Rattle.decisions.proofs.Words.{Account, account_of, Change, changed, changed_all, Command, Contact, contact_as, Domain, domain_sight, Host, host_renamed, may_rename}
+use Rattle.decisions.proofs.Words.{account_changed, cond_both, ContactFace, domain_as, DomainFace, DropContact, DropDomain, DropHost, empty_account, entries}
+use Rattle.decisions.proofs.Words.{eq_by_cmp, eq_by_cmp_equiv, Equal-is, facts, facts_by, FinMap, FullDomain, get, get-insert, given_back, Graces, graces}
+use Rattle.decisions.proofs.Words.{graces_of, held, insert, is_below, is_party, is_some, keys, LapseContact, LapseDomain, Line, Links, links_seen, list_any}
+use Rattle.decisions.proofs.Words.{Lookups, lookups, map_values, MoveClock, names_contact, names_host, nat_cmp, nat_cmp-IsAntisymmetric, nat_cmp_total}
+use Rattle.decisions.proofs.Words.{nat_list_cmp_total, OpenAccount, option_map, phase, PolicyRules, Post, presented, presented_contact, PutContact, PutDomain}
+use Rattle.decisions.proofs.Words.{PutHost, refund_at, Registry, remove, RenameHost, same_map, Seen, slice_cmp, Standing, standing_of, subordinate}
+use Rattle.decisions.proofs.Words.{superordinate_of_domain, unwrap_or, values, view, with_account, with_host_renamed, with_serial, ◌||◌}
 use Rattle.basis.proofs.MapLemmas.{names_apart, entries-map_values, get-map_values, map_values-insert, map_values-remove, map_values-twice, map-twice}
 use Rattle.objects.specs.Graces.{no_graces}
 use Rattle.decisions.specs.Changes.{itself}
-use Rattle.decisions.proofs.GrowthLemmas.{AllFit}
-use Rattle.decisions.proofs.HandedOver.{transfer_alone}
+use Rattle.decisions.proofs.{GrowthLemmas.AllFit, HandedOver.transfer_alone}
 use Rattle.decisions.proofs.SightLemmas.{domain_again, forget, forget-domain, forget-contact, graces_seen, holds_seen, holds-seen, links-seen, Regrace, regraced, regraced-seen, relinked_seen, seen-relinked, sponsor_seen, superordinate_seen, superordinate-seen}
 use Rattle.model.specs.View.{View, Secrets, view_for, view_with, secrets_of}
 

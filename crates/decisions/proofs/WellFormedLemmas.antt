@@ -1,32 +1,29 @@
 -- Each step of the rules keeps a registry well formed, in its objects.
-use Rattle.std.proofs.Common.{◌≡◌, ◌≢◌, ℕ, ◌<◌, ◌≤◌, Bool, true, false, List, Option, Some, None, IsSome, is_some, option_map, refl, sym, ap, ◌∙◌, arith}
-use Rattle.std.proofs.Common.{◌+◌, ◌-◌, ◌==◌, nat_eq, ◌&&◌, ◌∷◌, ◌++◌, drop, length, get_or, slice_index, subst, inl}
-use Rattle.std.proofs.Math.Seq.{drop-append-add, get_or-append_seam}
-use Rattle.std.proofs.lemmas.Cmp.{nat_list_eq_equiv}
-use Rattle.decisions.proofs.Words.{account_of, Asked, Bad, changed, changed_all, charge_line, ClientApproved, ClientCancelled, ClientRejected}
-use Rattle.decisions.proofs.Words.{Command, Contact, deleted_domain, Deletion, Domain, DomainUpdate, effect, ended, get, HasObjects, Host}
-use Rattle.decisions.proofs.Words.{is_below, IsDeletion, IsRegistrar, IsSound, IsTransfer, last_clock, name_of, names_contact, names_host}
-use Rattle.decisions.proofs.Words.{Order, order_effect, ordered, PolicyRules, PutContact, PutDomain, refund_at, Registry, renewed_domain}
-use Rattle.decisions.proofs.Words.{Request, requested, restored_domain, restoring_domain, superordinate_of, Transfer, updated_domain}
-use Rattle.decisions.proofs.Words.{with_account, with_command, with_lines, ZoneRules, add, changes_after, ContactUpdate}
-use Rattle.decisions.proofs.Words.{deposit_line, ends_with, in_order, length-append, lt-ltb, pointwise, RunningRefund}
-use Rattle.decisions.proofs.Words.{transfer_line, updated_contact, with_acked, with_running_refunded, Account}
-use Rattle.decisions.proofs.Words.{domain_with_transfer, entered, gained, handed_over, HasBeen, is_pending}
-use Rattle.decisions.proofs.Words.{is_pending_state, IsLastTransfer, remade, Start, transfer_refunded, TransferState}
-use Rattle.decisions.proofs.Words.{IsContactOf, IsDomainOf, IsHostOf, Links, PutHost, contact_handed_over, day-count}
-use Rattle.decisions.proofs.Words.{false_from_ne_true, IsAfter, Notification, notified, Status}
-use Rattle.accounts.specs.declared.line.LineKind.TheVariants as lines
+use Rattle.std.proofs.Common.{[], ap, ap₂, arith, cond, drop, eqb-true, false, get_or, inl, inr, is_none, is_some, IsSome, length, List, nat_eq, None, Option}
+use Rattle.std.proofs.Common.{option_map, refl, slice_index, Some, subst, sym, true, ℕ, ⊎_elim, ◌&&◌, ◌++◌, ◌+◌, ◌-◌, ◌<◌, ◌==◌, ◌∙◌, ◌∷◌, ◌≡◌, ◌≢◌, ◌≤◌}
+use Rattle.std.proofs.{Math.Seq.drop-append-add, Math.Seq.get_or-append_seam, lemmas.Cmp.nat_list_eq_equiv}
+use Rattle.decisions.proofs.Words.{contact_handed_over, deposit_line, domain_with_transfer, false_from_ne_true, superordinate_of_domain, with_running_refunded}
+use Rattle.decisions.proofs.Words.{is_pending_state, restored_domain, restoring_domain, saturating_next, superordinate_of, transfer_refunded, updated_contact}
+use Rattle.decisions.proofs.Words.{changes_after, ClientApproved, deleted_domain, length-append, names_contact, renewed_domain, updated_domain}
+use Rattle.decisions.proofs.Words.{Deletion, DomainUpdate, Notification, order_effect, Superordinate, transfer_line, with_account, with_command}
+use Rattle.decisions.proofs.Words.{Account, account_of, changed_all, charge_line, handed_over, IsContactOf, IsRegistrar, last_two_of, PolicyRules, with_serial}
+use Rattle.decisions.proofs.Words.{add, HasObjects, is_pending, IsDeletion, IsDomainOf, IsTransfer, last_clock, names_host, new_domain, NewContact, ObjectKind}
+use Rattle.decisions.proofs.Words.{BelongsTo, cond_both, day-count, ends_with, NewDomain, pointwise, PutContact, PutDomain, TakeSerial, with_acked, with_lines}
+use Rattle.decisions.proofs.Words.{bag_add, changed, holds_of, in_order, is_below, IsHostOf, notified, refund_at, Registry, requested, Transfer, ZoneRules}
+use Rattle.decisions.proofs.Words.{charge, Command, Contact, Domain, entered, HasBeen, HasRoid, IsAfter, IsSound, name_of, NewHost, ordered, PutHost, Request}
+use Rattle.decisions.proofs.Words.{Asked, Bad, effect, ended, Facts, gained, get, Host, Line, lt-ltb, Order, Post, remade, Roid, Start}
 use Rattle.protocol.specs.declared.command.Request.TheVariants as requests
-use Rattle.decisions.proofs.Lemmas.{CommandCases, drop-contact, drop-domain, drop-host, host_with, is-there, IsDeletable}
-use Rattle.decisions.proofs.Lemmas.{IsUpdateOf, kept-account, known, name-fails, order-cases, OrderCases, rename-host}
-use Rattle.decisions.proofs.Lemmas.{request-cases, updated-contacts, updated-hosts, value-fails, put-contact}
-use Rattle.decisions.proofs.Lemmas.{put-domain, put-host}
-use Rattle.decisions.proofs.CreationLemmas.{belongs-new, kept-charged, kept-counted, kept-new-contact, kept-new-domain, kept-new-host, undeleted-new}
-use Rattle.decisions.proofs.GrowthLemmas.{domain-with, contact-stands}
+use Rattle.decisions.proofs.Lemmas.{CommandCases, drop-contact, drop-domain, drop-host, found_above, host_with, is-there, IsBased, IsDeletable, IsSide}
+use Rattle.decisions.proofs.Lemmas.{IsUpdateOf, kept-account, known, name-fails, new-contacts, new-hosts, order-cases, OrderCases, own-account, put-contact}
+use Rattle.decisions.proofs.Lemmas.{put-domain, put-host, rename-host, request-cases, serial-rises, updated-contacts, updated-hosts, value-fails}
 use Rattle.names.proofs.SuperordinateLemmas.{spells-superordinate_of}
 use Rattle.policy.specs.declared.days.Period.TheVariants as periods
 use Rattle.decisions.specs.Transfers.{contact_with_transfer}
-use Rattle.objects.specs.declared.contact.Postal.{Postal}
+use Rattle.accounts.specs.declared.line.LineKind.TheVariants as lines
+use Rattle.names.proofs.LastTwoLemmas.{last_two-superordinate}
+use Rattle.objects.specs.declared.roid.ObjectKind.TheVariants as kinds
+use Rattle.decisions.specs.Decisions.{external_sponsor_of, new_contact, new_host, new_roid}
+use Rattle.decisions.proofs.KeepingLemmas.{IsUndeleted}
 
 -- ---- an object that stands in for another at its name, and agrees with it in what a registry asks
 
@@ -40,148 +37,44 @@ module _ (p : PolicyRules) (s : Registry) (is : HasObjects p s) (name : List ℕ
   pub kept-put-host : (h other : Host) → get s.hosts name ≡ Some h → other.roid ≡ h.roid → IsHostOf p s name other → HasObjects p (changed p (PutHost other) s)
   kept-put-host h other at same fits = put-host p s is name other fits (λ n x at-n alike. is.identities.host_roids n name x h at-n at (alike ∙ same)) (inl (is-there (get s.hosts name) h at))
 
--- a deletion of a domain is one of another of its name and transfer
-deletion-as : (p : PolicyRules) (s : Registry) (d e : Domain) (deletion : Option Deletion) → e.name ≡ d.name → e.transfer ≡ d.transfer → IsDeletion p s d deletion → IsDeletion p s e deletion
-deletion-as p s d e None name transfer k = tt
-deletion-as p s d e (Some deletion) name transfer k = record {
-  deleted = k.deleted;
-  requested = k.requested;
-  since = k.since;
-  hosts = λ host there above. k.hosts host there (above ∙ ap (λ (n : List ℕ). Some n) name);
-  transfer = ap is_pending transfer ∙ k.transfer;
-}
-
-module _ (p : PolicyRules) (s : Registry) (name : List ℕ) where
-  -- a contact with other content, last updated at another moment
-  pub contact-updated : (c : Contact) (updated : Option ℕ) (statuses : List Status) (secret : List ℕ) (postal : Postal) (voice : Option (List ℕ)) (mail : List ℕ) → HasBeen s updated
-      → IsContactOf p s name c → IsContactOf p s name (record c { updated = updated; statuses = statuses; secret = secret; postal = postal; voice = voice; mail = mail })
-  contact-updated c updated statuses secret postal voice mail been k = record {
-    is_at = contact-stands p s name c _ k.is_at refl refl refl k.is_at.sponsor k.is_at.transferred been;
-    transfer = k.transfer;
-    losing = k.losing;
-  }
-
-  -- a domain with other content, registered for other years, which names what is there
-  pub domain-updated : (d : Domain) (years : ℕ) (updated : Option ℕ) (statuses : List Status) (secret : List ℕ) (links : Links) → HasBeen s updated
-      → ((contact : List ℕ) → names_contact contact links ≡ true → IsSome (get s.contacts contact))
-      → ((host : List ℕ) → names_host host links ≡ true → IsSome (get s.hosts host))
-      → IsDomainOf p s name d → IsDomainOf p s name (record d { years = years; updated = updated; statuses = statuses; secret = secret; links = links })
-  domain-updated d years updated statuses secret links been contacts hosts k = record {
-    is_at = record {
-      named = k.is_at.named;
-      roid = k.is_at.roid;
-      sponsor = k.is_at.sponsor;
-      created = k.is_at.created;
-      transferred = k.is_at.transferred;
-      updated = been;
-      deletion = deletion-as p s d (record d { years = years; updated = updated; statuses = statuses; secret = secret; links = links }) d.deletion refl refl k.is_at.deletion;
-      contacts = contacts;
-      hosts = hosts;
-    };
-    transfer = k.transfer;
-  }
-
-  -- a host with other content, of the same name
-  pub host-updated : (h : Host) (updated : Option ℕ) (statuses : List Status) (addresses : List (List ℕ)) → HasBeen s updated
-      → IsHostOf p s name h → IsHostOf p s name (record h { updated = updated; statuses = statuses; addresses = addresses })
-  host-updated h updated statuses addresses been k = record { named = k.named; roid = k.roid; belongs = k.belongs; created = k.created; updated = been }
-
--- ---- a domain with other dates, in other hands, or deleted
-
-pub kept-domain : (p : PolicyRules) (s : Registry) → HasObjects p s → (name : List ℕ) (d e : Domain) → get s.domains name ≡ Some d
-    → e.name ≡ d.name → e.roid ≡ d.roid → e.created ≡ d.created → e.links ≡ d.links
-    → IsRegistrar p e.sponsor → HasBeen s e.transferred → HasBeen s e.updated → IsDeletion p s e e.deletion → IsLastTransfer p s e.created e.transferred e.transfer → HasObjects p (changed p (PutDomain e) s)
-kept-domain p s is name d e at called roid created links sponsor transferred updated deletion transfer =
-    kept-put-domain p s is name d e at roid
-    (domain-with p s name d e (is.domains name d at) called roid created links sponsor transferred updated deletion
-    transfer)
-
--- ---- other statuses are set on an object
-
-module _ (p : PolicyRules) (s : Registry) (is : HasObjects p s) (name : List ℕ) (statuses : List Status) where
-  pub kept-contact-statuses : (c : Contact) → get s.contacts name ≡ Some c → HasObjects p (changed p (PutContact (record c { statuses = statuses })) s)
-  kept-contact-statuses c at =
-      let k = is.contacts name c at in
-      kept-put-contact p s is name c (record c { statuses = statuses }) at refl (contact-updated p s name c c.updated statuses c.secret c.postal c.voice c.mail k.is_at.updated k)
-
-  pub kept-domain-statuses : (d : Domain) → get s.domains name ≡ Some d → HasObjects p (changed p (PutDomain (record d { statuses = statuses })) s)
-  kept-domain-statuses d at =
-      let k = is.domains name d at in
-      kept-put-domain p s is name d (record d { statuses = statuses }) at refl (domain-updated p s name d d.years d.updated statuses d.secret d.links k.is_at.updated k.is_at.contacts k.is_at.hosts k)
-
-  pub kept-host-statuses : (h : Host) → get s.hosts name ≡ Some h → HasObjects p (changed p (PutHost (record h { statuses = statuses })) s)
-  kept-host-statuses h at =
-      let k = is.hosts name h at in
-      kept-put-host p s is name h (record h { statuses = statuses }) at refl (host-updated p s name h h.updated statuses h.addresses k.updated k)
+-- a deletion of a domain is one of another of its name, whose transfer is over if the domain's is
+deletion-as : (p : PolicyRules) (s : Registry) (d e : Domain) (deletion : Option Deletion) → e.name ≡ d.name → (is_pending d.transfer ≡ false → is_pending e.transfer ≡ false) → IsDeletion p s d deletion → IsDeletion p s e deletion
+deletion-as p s d e None name over k = tt
+deletion-as p s d e (Some deletion) name over k =
+    let hosts : (host : List ℕ) → IsSome (get s.hosts host) → superordinate_of p.zone host ≢ Some e.name = λ host there. rw name (k.hosts host there) in
+    search over
 
 -- ---- an object with another transfer, or in other hands
 
 module _ (p : PolicyRules) (t : Registry) (is : HasObjects p t) (name : List ℕ) where
-  pub last-is : (created : ℕ) (transferred : Option ℕ) (last : Option Transfer) (y : Transfer) → last ≡ Some y → IsLastTransfer p t created transferred last → IsTransfer p t created transferred y
-  last-is created transferred last y e k = subst (IsLastTransfer p t created transferred) e k
-
-  -- a transfer that ended by the clock, of an object that was transferred then, or as before
-  pub transfer-ended : (created : ℕ) (transferred other : Option ℕ) (y : Transfer) (state : TransferState) (moment : ℕ) → is_pending_state state ≡ false → moment ≤ t.clock → t.clock ≤ last_clock → IsTransfer p t created transferred y → IsTransfer p t created other (ended state moment y)
-  transfer-ended created transferred other y state moment over le early k = record {
-    recorded = record {
-      requester = k.recorded.requester;
-      losing_registrar = k.recorded.losing_registrar;
-      requested = k.recorded.requested;
-      acted = λ ended. le;
-    };
-    begun = k.begun;
-    next = λ pending. absurd (let never : true ≡ false = sym pending ∙ over in cc);
-    due = omega (arith, le, early);
-  }
-
   been-after : (o : Option ℕ) → HasBeen t o → IsAfter t.clock o
   been-after None k = tt
   been-after (Some moment) k = k
 
   -- one that is asked for by the clock
   pub transfer-asked : (r sponsor created : ℕ) (transferred : Option ℕ) → IsSound p → t.clock ≤ last_clock → IsRegistrar p r → IsRegistrar p sponsor → created ≤ t.clock → HasBeen t transferred → IsTransfer p t created transferred (requested p r sponsor t.clock)
-  transfer-asked r sponsor created transferred sound early place losing begun been = record {
-    recorded = record {
-      requester = place;
-      losing_registrar = losing;
-      requested = omega arith;
-      acted = λ over. absurd (let never : true ≡ false = over in cc);
-    };
-    begun = begun;
-    next = λ pending. been-after transferred been;
-    due = omega (arith, early, (day-count periods.Answer t.clock p.days sound.days_in_range).1);
-  }
+  transfer-asked r sponsor created transferred sound early place losing begun been =
+      search (arith, been-after, (day-count periods.Answer t.clock p.days sound.days_in_range).1)
 
   pub kept-contact-transfer : (c : Contact) → get t.contacts name ≡ Some c → (x : Transfer) → IsTransfer p t c.created c.transferred x → (is_pending_state x.state ≡ true → x.losing_registrar ≡ c.sponsor) → HasObjects p (changed p (PutContact (contact_with_transfer x c)) t)
-  kept-contact-transfer c at x fits losing =
-      let k = is.contacts name c at in
-      let is_at = contact-stands p t name c (contact_with_transfer x c) k.is_at refl refl refl
-      k.is_at.sponsor k.is_at.transferred k.is_at.updated in
-      kept-put-contact p t is name c (contact_with_transfer x c) at refl
-      (record { is_at = is_at; transfer = fits; losing = losing })
+  kept-contact-transfer c at x fits losing = kept-put-contact p t is name c (contact_with_transfer x c) at refl (let k = is.contacts name c at in search)
 
   pub kept-contact-over : (c : Contact) → get t.contacts name ≡ Some c → (x : Transfer) → x.ac_date ≤ t.clock → IsTransfer p t c.created (Some x.ac_date) x → is_pending_state x.state ≡ false → HasObjects p (changed p (PutContact (contact_handed_over x c)) t)
   kept-contact-over c at x le fits over =
-      let k = is.contacts name c at in
-      kept-put-contact p t is name c (contact_handed_over x c) at refl
-      (record {
-        is_at = contact-stands p t name c _ k.is_at refl refl refl fits.recorded.requester le k.is_at.updated;
-        transfer = fits;
-        losing = λ pending. absurd (let never : true ≡ false = sym pending ∙ over in cc);
-      })
+      let losing : is_pending_state x.state ≡ true → x.losing_registrar ≡ x.requester = λ pending. cc in
+      kept-put-contact p t is name c (contact_handed_over x c) at refl (let k = is.contacts name c at in search)
 
   deletion-kept : (d : Domain) (x : Transfer) (o : Option Deletion) → (is_pending_state x.state ≡ true → o ≡ None) → IsDeletion p t d o → IsDeletion p t (domain_with_transfer x d) o
   deletion-kept d x None free k = tt
   deletion-kept d x (Some deletion) free k =
-      let over : is_pending_state x.state ≡ false = false_from_ne_true (is_pending_state x.state)
-      (λ e. let never : Some deletion ≡ None = free e in cc) in
-      record { deleted = k.deleted; requested = k.requested; since = k.since; hosts = k.hosts; transfer = over }
+      let over : is_pending_state x.state ≡ false = false_from_ne_true (is_pending_state x.state) (λ e. let never : Some deletion ≡ None = free e in cc) in
+      search
 
   -- a domain is given another transfer, which is pending of none that is deleted
   pub kept-domain-transfer : (d : Domain) → get t.domains name ≡ Some d → (x : Transfer) → IsTransfer p t d.created d.transferred x → (is_pending_state x.state ≡ true → d.deletion ≡ None) → HasObjects p (changed p (PutDomain (domain_with_transfer x d)) t)
   kept-domain-transfer d at x fits free =
       let k = is.domains name d at in
-      kept-domain p t is name d (domain_with_transfer x d) at refl refl refl refl k.is_at.sponsor k.is_at.transferred k.is_at.updated (deletion-kept d x d.deletion free k.is_at.deletion) fits
+      kept-put-domain p t is name d (domain_with_transfer x d) at refl (search (deletion-kept d x d.deletion free k.is_at.deletion))
 
   undeleted : (d : Domain) (o : Option Deletion) → is_pending d.transfer ≡ true → IsDeletion p t d o → o ≡ None
   undeleted d None pending k = refl
@@ -191,8 +84,8 @@ module _ (p : PolicyRules) (t : Registry) (is : HasObjects p t) (name : List ℕ
   pub kept-domain-over : (d : Domain) → get t.domains name ≡ Some d → (x : Transfer) (years : ℕ) → x.ac_date ≤ t.clock → IsTransfer p t d.created (Some x.ac_date) x → is_pending d.transfer ≡ true → HasObjects p (changed p (PutDomain (handed_over x years d)) t)
   kept-domain-over d at x years le fits pending =
       let k = is.domains name d at in
-      kept-domain p t is name d (handed_over x years d) at refl refl refl refl fits.recorded.requester le k.is_at.updated
-      (subst (IsDeletion p t (handed_over x years d)) (sym (undeleted d d.deletion pending k.is_at.deletion)) tt) fits
+      let deletion : IsDeletion p t (handed_over x years d) d.deletion = rw (undeleted d d.deletion pending k.is_at.deletion) tt in
+      kept-put-domain p t is name d (handed_over x years d) at refl search
 
 -- a registrar is told
 pub kept-told : (p : PolicyRules) (q : ℕ) (n : Notification) (t : Registry) → IsRegistrar p q → HasObjects p t → HasObjects p (with_account q (notified n) t)
@@ -207,11 +100,11 @@ pub kept-approved : (p : PolicyRules) (t : Registry) → HasObjects p t → t.cl
     → HasObjects p (changed p (PutDomain (handed_over (ended ClientApproved t.clock y) (gained d t.clock) d)) (with_account y.requester (entered (Start (record { roid = d.roid; moment = t.clock; years = gained d t.clock }))) t))
 kept-approved p t is early name d at y e pending =
     let begins : Account → Account = entered (Start (record { roid = d.roid; moment = t.clock; years = gained d t.clock })) in
-    let requester = (last-is p t is name d.created d.transferred d.transfer y e (is.domains name d at).transfer).recorded.requester in
+    let last : IsTransfer p t d.created d.transferred y = rw e at (is.domains name d at).transfer in
+    let requester = last.recorded.requester in
     let then : HasObjects p (with_account y.requester begins t) = kept-account p y.requester begins (λ a. omega arith) t requester is in
     kept-domain-over p (with_account y.requester begins t) then name d at (ended ClientApproved t.clock y) (gained d t.clock) (omega arith)
-    (transfer-ended p (with_account y.requester begins t) then name d.created d.transferred (Some t.clock) y ClientApproved t.clock refl (omega arith) early
-    (last-is p (with_account y.requester begins t) then name d.created d.transferred d.transfer y e (then.domains name d at).transfer))
+    (let x : IsTransfer p (with_account y.requester begins t) d.created d.transferred y = rw e at (then.domains name d at).transfer in search arith)
     (ap is_pending e ∙ pending)
 
 -- ---- a host in the zone lies below its superordinate domain (RFC 5732, 1.1)
@@ -242,11 +135,94 @@ below-superordinate_of zone host domain e =
     let spelled = spells-superordinate_of zone host domain e in
     subst (λ (h : List ℕ). is_below domain h ≡ true) (sym spelled.1) (lies-below spelled.0 domain)
 
-never : {A : Type 0} → false ≡ true → A
-never e = absurd (let no : false ≡ true = e in cc)
+-- ---- serials
 
-unlinked : (linked : Bool) → linked ≡ false → linked ≢ true
-unlinked linked e f = let no : false ≡ true = sym e ∙ f in absurd cc
+raised-next : (n : ℕ) → n < 4_611_686_018_427_387_904 → saturating_next n ≡ n + 1
+raised-next n small = cond_both (n == 0xFFFF_FFFF_FFFF_FFFF) n (n + 1) (λ m. m ≡ n + 1)
+    (λ is. absurd (omega (arith, eqb-true n 0xFFFF_FFFF_FFFF_FFFF is))) (λ is. refl)
+
+module _ (p : PolicyRules) (r : ℕ) (s : Registry) (place : IsRegistrar p r) (is : HasObjects p s) where
+  -- the registry once the command is counted
+  abbrev after_count : Registry
+  after_count = with_account r with_command s
+
+  pub kept-counted : HasObjects p after_count
+  kept-counted = kept-account p r with_command (λ a. omega arith) s place is
+
+  -- a charge leaves objects and serials
+  pub kept-charged : (line : Line) (t : Registry) → HasObjects p t → HasObjects p (with_account r (with_lines (bag_add in_order line)) t)
+  kept-charged line t well = kept-account p r (with_lines (bag_add in_order line)) (λ a. omega arith) t place well
+
+  -- ---- a name that a host is to have (RFC 5732, 3.2.1)
+
+  domain-there : (o : Option Domain) → is_none (option_map superordinate_of_domain o) ≡ false → IsSome o
+  domain-there None e = absurd cc
+  domain-there (Some d) e = refl
+
+  pub belongs-new : (name : List ℕ) → IsBased p s name → BelongsTo p s (superordinate_of p.zone name) (external_sponsor_of p.zone r name)
+  belongs-new name it = by (superordinate_of p.zone name) refl it.based
+    where
+      by : (o : Option (List ℕ)) → superordinate_of p.zone name ≡ o → (is_some o && is_none (found_above s (last_two_of name))) ≡ false → BelongsTo p s o (cond (is_some o) None (Some r))
+      by None e based = place
+      by (Some domain) e based = (domain-there (get s.domains domain) (sym (ap (λ (o : Option (List ℕ)). is_none (found_above s o)) (last_two-superordinate p.zone name domain e)) ∙ based), refl)
+
+  pub undeleted-new : (name : List ℕ) → IsBased p s name → IsUndeleted p s name
+  undeleted-new name it n d at deleted e =
+      let last : last_two_of name ≡ Some n = last_two-superordinate p.zone name d.name e ∙ ap (λ (q : List ℕ). Some q) (is.domains n d at).is_at.named in
+      let found : found_above s (last_two_of name) ≡ Some (superordinate_of_domain d) = ap (found_above s) last ∙ ap (option_map superordinate_of_domain) at in
+      let never : true ≡ false = sym deleted ∙ sym (ap₂ (λ (o : Option (List ℕ)) (x : Option Superordinate). is_some o && holds_of (λ above. above.is_deleted) x) e found) ∙ it.alive in
+      absurd cc
+
+  -- ---- creates: the serial is taken first, and then the object put, which leaves the same
+
+  module _ (cl_trid : Option (List ℕ)) (small : (account_of r s).serial < 4_611_686_018_427_387_904) where
+    abbrev numbered_too : Registry
+    numbered_too = with_account r with_serial after_count
+
+    kept-numbered : HasObjects p numbered_too
+    kept-numbered = kept-account p r with_serial serial-rises after_count place kept-counted
+
+    serial-after : (account_of r numbered_too).serial ≡ saturating_next (account_of r s).serial
+    serial-after = ap (λ (a : Account). a.serial) (own-account r with_serial after_count) ∙ ap (λ (a : Account). saturating_next a.serial) (own-account r with_command s)
+
+    module _ (kind : ObjectKind) (request : Request) where
+      abbrev given : Roid
+      given = new_roid kind r (known p r cl_trid s request)
+
+      pub has-given : HasRoid p numbered_too kind given
+      has-given = record { kind_is = refl; creator = place; serial = omega (arith, serial-after) }
+
+      -- no object has it yet
+      pub ungiven : (other : ObjectKind) (roid : Roid) → HasRoid p s other roid → roid ≢ given
+      ungiven other roid has same =
+          let at : roid.serial ≤ (account_of r s).serial = subst (λ (q : ℕ). roid.serial ≤ (account_of q s).serial) (ap (λ (x : Roid). x.creator) same) has.serial in
+          let next : roid.serial ≡ saturating_next (account_of r s).serial = ap (λ (x : Roid). x.serial) same in
+          omega (arith, raised-next (account_of r s).serial small)
+
+    pub kept-new-contact : (new : NewContact) → let f : Facts = known p r cl_trid s (requests.CreateContact new) in HasObjects p (changed_all p (PutContact (new_contact r s.clock f new) ∷ Post r TakeSerial ∷ []) after_count)
+    kept-new-contact new =
+        let request : Request = requests.CreateContact new in
+        put-contact p numbered_too kept-numbered new.name (new_contact r s.clock (known p r cl_trid s request) new)
+        (search (arith, has-given kinds.Contact request))
+        (λ n x at same. absurd (ungiven kinds.Contact request kinds.Contact x.roid (is.contacts n x at).is_at.roid same))
+
+    pub kept-new-domain : (new : NewDomain) → let f : Facts = known p r cl_trid s (requests.CreateDomain new) in f.reference_missing ≡ false
+        → HasObjects p (changed_all p (PutDomain (new_domain r s.clock f new) ∷ Post r TakeSerial ∷ charge lines.Create p r s.clock (new_roid kinds.Domain r f) (requests.CreateDomain new) f ∷ []) after_count)
+    kept-new-domain new linked =
+        let request : Request = requests.CreateDomain new in
+        kept-charged (charge_line lines.Create p s.clock (given kinds.Domain request) request (known p r cl_trid s request))
+        (changed_all p (PutDomain (new_domain r s.clock (known p r cl_trid s request) new) ∷ Post r TakeSerial ∷ []) after_count)
+        (put-domain p numbered_too kept-numbered (name_of new.name) (new_domain r s.clock (known p r cl_trid s request) new)
+        (search (arith, has-given kinds.Domain request, new-contacts (λ name. is_some (get s.contacts name)) (λ name. is_some (get s.hosts name)) new linked, new-hosts (λ name. is_some (get s.contacts name)) (λ name. is_some (get s.hosts name)) new linked))
+        (λ n x at same. absurd (ungiven kinds.Domain request kinds.Domain x.roid (is.domains n x at).is_at.roid same)))
+
+    pub kept-new-host : (new : NewHost) → IsBased p s (name_of new.name) → HasObjects p (changed_all p (PutHost (new_host p.zone r s.clock (known p r cl_trid s (requests.CreateHost new)) new) ∷ Post r TakeSerial ∷ []) after_count)
+    kept-new-host new based =
+        let request : Request = requests.CreateHost new in
+        put-host p numbered_too kept-numbered (name_of new.name) (new_host p.zone r s.clock (known p r cl_trid s request) new)
+        (record { named = refl; roid = has-given kinds.Host request; belongs = belongs-new (name_of new.name) based; created = omega arith; updated = tt })
+        (λ n x at same. absurd (ungiven kinds.Host request kinds.Host x.roid (is.hosts n x at).roid same))
+        (inr (undeleted-new (name_of new.name) based))
 
 -- ---- commands
 
@@ -269,119 +245,87 @@ module _ (p : PolicyRules) (r : ℕ) (cl_trid : Option (List ℕ)) (s : Registry
   deleted : (name : List ℕ) (d : Domain) (years : ℕ) → IsDeletable r s name d → HasObjects p (changed p (PutDomain (deleted_domain s.clock years d)) counted)
   deleted name d years it =
       let k = kept.domains name d it.at in
-      kept-domain p counted kept name d (deleted_domain s.clock years d) it.at refl refl refl refl k.is_at.sponsor k.is_at.transferred (omega arith)
-      (record { deleted = omega arith; requested = tt; since = tt; hosts = λ host there above. alone name d it host there (above ∙ ap (λ (n : List ℕ). Some n) k.is_at.named); transfer = it.still }) k.transfer
-
-  -- what is given back leaves objects and serials
-  refunded : (refund : RunningRefund) (t : Registry) → HasObjects p t → HasObjects p (with_account r (with_running_refunded p refund) t)
-  refunded refund t well = kept-account p r (with_running_refunded p refund) (λ a. omega arith) t place well
+      let below : (host : List ℕ) → IsSome (get s.hosts host) → superordinate_of p.zone host ≢ Some d.name = λ host there. rw k.is_at.named (alone name d it host there) in
+      kept-put-domain p counted kept name d (deleted_domain s.clock years d) it.at refl (search (arith, it.still))
 
   -- ---- what is updated
-
-  contact-kept : (u : ContactUpdate) (c : Contact) → get s.contacts u.name ≡ Some c → HasObjects p (changed p (PutContact (updated_contact s.clock u c)) counted)
-  contact-kept u c at =
-      let new : Contact = updated_contact s.clock u c in
-      kept-put-contact p counted kept u.name c new at refl (contact-updated p counted u.name c (Some s.clock) new.statuses new.secret new.postal new.voice new.mail (omega arith) (kept.contacts u.name c at))
 
   domain-kept : (u : DomainUpdate) (d : Domain) → IsUpdateOf s u d → (known p r cl_trid s (requests.UpdateDomain u)).reference_missing ≡ false → HasObjects p (changed p (PutDomain (updated_domain s.clock u d)) counted)
   domain-kept u d it linked =
       let new : Domain = updated_domain s.clock u d in
-      let k = is.domains (name_of u.name) d it.at in
-      kept-put-domain p counted kept (name_of u.name) d new it.at refl
-      (domain-updated p counted (name_of u.name) d d.years (Some s.clock) new.statuses new.secret new.links (omega arith)
-      (updated-contacts (λ name. is_some (get s.contacts name)) (λ name. is_some (get s.hosts name)) u d.links linked k.is_at.contacts)
-      (updated-hosts (λ name. is_some (get s.contacts name)) (λ name. is_some (get s.hosts name)) u d.links linked k.is_at.hosts)
-      (kept.domains (name_of u.name) d it.at))
+      let k = kept.domains (name_of u.name) d it.at in
+      let contacts = updated-contacts (λ name. is_some (get s.contacts name)) (λ name. is_some (get s.hosts name)) u d.links linked k.is_at.contacts in
+      let hosts = updated-hosts (λ name. is_some (get s.contacts name)) (λ name. is_some (get s.hosts name)) u d.links linked k.is_at.hosts in
+      kept-put-domain p counted kept (name_of u.name) d new it.at refl (search (arith, deletion-as p counted d new d.deletion refl (λ over. over) k.is_at.deletion))
 
   -- ---- what is renewed and restored
-
-  renewed : (name : List ℕ) (d : Domain) (years : ℕ) → get s.domains name ≡ Some d → HasObjects p (changed p (PutDomain (renewed_domain s.clock years d)) counted)
-  renewed name d years at =
-      let k = kept.domains name d at in
-      let new : Domain = renewed_domain s.clock years d in
-      kept-put-domain p counted kept name d new at refl (domain-updated p counted name d new.years (Some s.clock) d.statuses d.secret d.links (omega arith) k.is_at.contacts k.is_at.hosts k)
 
   requested-now : (d : Domain) (deletion : Option Deletion) → IsDeletion p counted d deletion
       → IsDeletion p counted (restoring_domain s.clock d) (option_map (λ (x : Deletion). record x { restore_requested = Some s.clock }) deletion)
   requested-now d None h = tt
-  requested-now d (Some deletion) h = record { deleted = h.deleted; requested = omega arith; since = h.deleted; hosts = h.hosts; transfer = h.transfer }
-
-  restoring : (name : List ℕ) (d : Domain) → get s.domains name ≡ Some d → HasObjects p (changed p (PutDomain (restoring_domain s.clock d)) counted)
-  restoring name d at =
-      let k = kept.domains name d at in
-      kept-domain p counted kept name d (restoring_domain s.clock d) at refl refl refl refl k.is_at.sponsor k.is_at.transferred (omega arith) (requested-now d d.deletion k.is_at.deletion) k.transfer
-
-  restored : (name : List ℕ) (d : Domain) → get s.domains name ≡ Some d → HasObjects p (changed p (PutDomain (restored_domain s.clock d)) counted)
-  restored name d at =
-      let k = kept.domains name d at in
-      kept-domain p counted kept name d (restored_domain s.clock d) at refl refl refl refl k.is_at.sponsor k.is_at.transferred (omega arith) tt k.transfer
+  requested-now d (Some deletion) h = search arith
 
   -- ---- the last transfer of a contact, and of a domain
 
   contact-last : (name : List ℕ) (c : Contact) → get s.contacts name ≡ Some c → (y : Transfer) → c.transfer ≡ Some y → IsTransfer p counted c.created c.transferred y
-  contact-last name c at y e = last-is p counted kept name c.created c.transferred c.transfer y e (kept.contacts name c at).transfer
+  contact-last name c at y e = rw e at (kept.contacts name c at).transfer
 
   domain-last : (name : List ℕ) (d : Domain) → get s.domains name ≡ Some d → (y : Transfer) → d.transfer ≡ Some y → IsTransfer p counted d.created d.transferred y
-  domain-last name d at y e = last-is p counted kept name d.created d.transferred d.transfer y e (kept.domains name d at).transfer
+  domain-last name d at y e = rw e at (kept.domains name d at).transfer
+
+  -- each of its sides is a registrar
+  side-is : (created : ℕ) (transferred : Option ℕ) (y : Transfer) (to : ℕ) → IsTransfer p counted created transferred y → IsSide y to → IsRegistrar p to
+  side-is created transferred y to k = ⊎_elim (λ e. rw e k.recorded.requester) (λ e. rw e k.recorded.losing_registrar)
 
   -- ---- every command
 
   commands-kept : (account_of r s).serial < 4_611_686_018_427_387_904 → IsSound p → s.clock ≤ last_clock → CommandCases p r cl_trid s (λ q changes. HasObjects p (changed_all p changes counted))
   commands-kept small sound early = record {
+    contacts = record {
+      created = λ new. kept-new-contact p r s place is cl_trid small new;
+      dropped = λ name free. drop-contact p counted kept name (λ n d at linked. let no = value-fails (λ (d : Domain). names_contact name d.links) s.domains n d at free in cc);
+      updated = λ u c at. kept-put-contact p counted kept u.name c (updated_contact s.clock u c) at refl (let k = kept.contacts u.name c at in search arith);
+      asked = λ q n c at.
+          let k = kept.contacts n c at in
+          kept-told p c.sponsor _ _ k.is_at.sponsor (kept-contact-transfer p counted kept n c at (requested p r c.sponsor s.clock)
+          (transfer-asked p counted kept n r c.sponsor c.created c.transferred sound early place k.is_at.sponsor k.is_at.created k.is_at.transferred) (λ pending. refl));
+      approved = λ q n c at y last.
+          let x = contact-last n c at y last in
+          kept-told p y.requester _ _ x.recorded.requester (kept-contact-over p counted kept n c at (ended ClientApproved s.clock y) (omega arith) (search arith) refl);
+      turned_down = λ q n c at y last state to notice over side.
+          let x = contact-last n c at y last in
+          kept-told p to _ _ (side-is c.created c.transferred y to x side) (kept-contact-transfer p counted kept n c at (ended state s.clock y) (search arith) (λ pending. cc));
+    };
+    hosts = record {
+      created = λ new named fit based. kept-new-host p r s place is cl_trid small new based;
+      dropped = λ name free. drop-host p counted kept (name_of name) (λ n d at linked. let no = value-fails (λ (d : Domain). names_host (name_of name) d.links) s.domains n d at free in cc);
+      updated = λ u h it. kept-put-host p counted kept (name_of u.name) h (host_with p r s.clock u None h) it.at refl (let k = kept.hosts (name_of u.name) h it.at in search arith);
+      renamed = λ u name h it free based.
+          rename-host p counted kept (name_of u.name) h (host_with p r s.clock u (Some name) h) it.at refl
+          (let k = kept.hosts (name_of u.name) h it.at in search (arith, belongs-new p r s place is (name_of name) based)) (undeleted-new p r s place is (name_of name) based);
+    };
     none = λ q. kept;
     acknowledged = λ id. kept-account p r (with_acked id) (λ a. omega arith) counted place kept;
-    contact_created = λ new. kept-new-contact p r s place is cl_trid small new;
     domain_created = λ new named fit linked paid. kept-new-domain p r s place is cl_trid small new linked;
-    host_created = λ new named fit based. kept-new-host p r s place is cl_trid small new based;
-    contact_dropped = λ name free. drop-contact p counted kept name (λ n d at. unlinked (names_contact name d.links) (value-fails (λ d. names_contact name d.links) s.domains n d at free));
-    domain_dropped = λ name d it. refunded (refund_at s.clock d) _ (drop-domain p counted kept (name_of name) (alone (name_of name) d it));
-    domain_deleted = λ name d years it. refunded (refund_at s.clock d) _ (deleted (name_of name) d years it);
-    host_dropped = λ name free. drop-host p counted kept (name_of name) (λ n d at. unlinked (names_host (name_of name) d.links) (value-fails (λ d. names_host (name_of name) d.links) s.domains n d at free));
-    contact_updated = contact-kept;
+    domain_dropped = λ name d it. kept-account p r (with_running_refunded p (refund_at s.clock d)) (λ a. omega arith) _ place (drop-domain p counted kept (name_of name) (alone (name_of name) d it));
+    domain_deleted = λ name d years it. kept-account p r (with_running_refunded p (refund_at s.clock d)) (λ a. omega arith) _ place (deleted (name_of name) d years it);
     domain_updated = domain-kept;
-    host_updated = λ u h it.
-        let k = kept.hosts (name_of u.name) h it.at in
-        kept-put-host p counted kept (name_of u.name) h (host_with p r s.clock u None h) it.at refl (record { named = refl; roid = k.roid; belongs = k.belongs; created = k.created; updated = omega arith });
-    host_renamed = λ u name h it free based.
-        let k = kept.hosts (name_of u.name) h it.at in
-        rename-host p counted kept (name_of u.name) h (host_with p r s.clock u (Some name) h) it.at refl
-        (record { named = refl; roid = k.roid; belongs = belongs-new p r s place is (name_of name) based; created = k.created; updated = omega arith }) (undeleted-new p r s place is (name_of name) based);
     renewed = λ name expires years d it fits.
-        let q : Request = requests.RenewDomain name expires years in
-        kept-charged p r s place is (charge_line lines.Renew p s.clock d.roid q (known p r cl_trid s q)) _ (renewed (name_of name) d years it.at);
-    restoring = λ name d at. restoring (name_of name) d at;
-    restored = λ name del_time res_time d it.
-        let q : Request = requests.ReportRestore name del_time res_time in
-        kept-charged p r s place is (charge_line lines.Restore p s.clock d.roid q (known p r cl_trid s q)) _ (restored (name_of name) d it.at);
-    contact_asked = λ q n c at.
-        let k = kept.contacts n c at in
-        kept-told p c.sponsor _ _ k.is_at.sponsor (kept-contact-transfer p counted kept n c at (requested p r c.sponsor s.clock)
-        (transfer-asked p counted kept n r c.sponsor c.created c.transferred sound early place k.is_at.sponsor k.is_at.created k.is_at.transferred) (λ pending. refl));
-    contact_approved = λ q n c at y last.
-        let x = contact-last n c at y last in
-        kept-told p y.requester _ _ x.recorded.requester (kept-contact-over p counted kept n c at (ended ClientApproved s.clock y) (omega arith)
-        (transfer-ended p counted kept n c.created c.transferred (Some s.clock) y ClientApproved s.clock refl (omega arith) early x) refl);
-    contact_rejected = λ q n c at y last.
-        let x = contact-last n c at y last in
-        kept-told p y.requester _ _ x.recorded.requester (kept-contact-transfer p counted kept n c at (ended ClientRejected s.clock y)
-        (transfer-ended p counted kept n c.created c.transferred c.transferred y ClientRejected s.clock refl (omega arith) early x) never);
-    contact_cancelled = λ q n c at y last.
-        let x = contact-last n c at y last in
-        kept-told p y.losing_registrar _ _ x.recorded.losing_registrar (kept-contact-transfer p counted kept n c at (ended ClientCancelled s.clock y)
-        (transfer-ended p counted kept n c.created c.transferred c.transferred y ClientCancelled s.clock refl (omega arith) early x) never);
+        let k = kept.domains (name_of name) d it.at in
+        let new : Domain = renewed_domain s.clock years d in
+        kept-charged p r s place is _ _ (kept-put-domain p counted kept (name_of name) d new it.at refl (search (arith, deletion-as p counted d new d.deletion refl (λ over. over) k.is_at.deletion)));
+    restoring = λ name d at.
+        let k = kept.domains (name_of name) d at in
+        kept-put-domain p counted kept (name_of name) d (restoring_domain s.clock d) at refl (search (arith, requested-now d d.deletion k.is_at.deletion));
+    restored = λ name del_time res_time d it. kept-charged p r s place is _ _ (kept-put-domain p counted kept (name_of name) d (restored_domain s.clock d) it.at refl (let k = kept.domains (name_of name) d it.at in search arith));
     domain_asked = λ q n d at askable paid.
         let k = kept.domains n d at in
         kept-told p d.sponsor _ _ k.is_at.sponsor (kept-charged p r s place is (transfer_line p s.clock d.roid q (known p r cl_trid s q)) _ (kept-domain-transfer p counted kept n d at (requested p r d.sponsor s.clock)
         (transfer-asked p counted kept n r d.sponsor d.created d.transferred sound early place k.is_at.sponsor k.is_at.created k.is_at.transferred) (λ pending. askable.undeleted)));
     domain_approved = λ q n d at y last pending own. kept-told p y.requester _ _ (domain-last n d at y last).recorded.requester (kept-approved p counted kept early n d at y last pending);
-    domain_rejected = λ q n d at y last pending.
+    domain_turned_down = λ q n d at y last pending state to notice over down side.
         let x = domain-last n d at y last in
-        kept-told p y.requester _ _ x.recorded.requester (kept-back p y.requester s.clock d _ x.recorded.requester (kept-domain-transfer p counted kept n d at (ended ClientRejected s.clock y)
-        (transfer-ended p counted kept n d.created d.transferred d.transferred y ClientRejected s.clock refl (omega arith) early x) never));
-    domain_cancelled = λ q n d at y last pending.
-        let x = domain-last n d at y last in
-        kept-told p y.losing_registrar _ _ x.recorded.losing_registrar (kept-back p y.requester s.clock d _ x.recorded.requester (kept-domain-transfer p counted kept n d at (ended ClientCancelled s.clock y)
-        (transfer-ended p counted kept n d.created d.transferred d.transferred y ClientCancelled s.clock refl (omega arith) early x) never));
+        kept-told p to _ _ (side-is d.created d.transferred y to x side) (kept-back p y.requester s.clock d _ x.recorded.requester (kept-domain-transfer p counted kept n d at (ended state s.clock y) (search arith) (λ pending. cc)));
   }
 
 -- A registrar's command leaves a registry well formed, but that a serial at its greatest would be
@@ -396,9 +340,11 @@ kept-effect p sound r (Asked cl_trid q) s place is early small = request-cases p
 orders-kept : (p : PolicyRules) (s : Registry) → HasObjects p s → OrderCases p s (λ changes. HasObjects p (changed_all p changes s))
 orders-kept p s is = record {
   none = is;
-  contact_set = λ o name c at. kept-contact-statuses p s is name (ordered o c.statuses) c at;
-  domain_set = λ o name d at. kept-domain-statuses p s is name (ordered o d.statuses) d at;
-  host_set = λ o name h at. kept-host-statuses p s is name (ordered o h.statuses) h at;
+  contact_set = λ o name c at. kept-put-contact p s is name c (record c { statuses = ordered o c.statuses }) at refl (let k = is.contacts name c at in search);
+  domain_set = λ o name d at.
+      let e : Domain = record d { statuses = ordered o d.statuses } in
+      kept-put-domain p s is name d e at refl (let k = is.domains name d at in search (deletion-as p s d e d.deletion refl (λ over. over) k.is_at.deletion));
+  host_set = λ o name h at. kept-put-host p s is name h (record h { statuses = ordered o h.statuses }) at refl (let k = is.hosts name h at in search);
   paid_in = λ r cents place. kept-account p r (with_lines (add in_order (deposit_line s.clock cents))) (λ a. omega arith) s place is;
 }
 
