@@ -6,7 +6,7 @@ use Rattle.std.specs.Cmp.Lexicographic.{slice_cmp, nat_list_cmp_total}
 use Rattle.std.specs.FinMap.{FinMap, entries, get, insert, remove, get-insert, get-remove, nat_cmp-IsAntisymmetric, same_map}
 use Rattle.std.specs.Option.{option_map_or}
 use Rattle.std.specs.Ordering.{eq_by_cmp, nat_cmp}
-use Rattle.std.proofs.lemmas.Bool.{cond_both}
+use Rattle.std.proofs.lemmas.Bool.{cond_both, not-false, true≢false}
 use Rattle.accounts.specs.declared.account.Account.{Account}
 use Rattle.accounts.specs.declared.entries.LapseEntry.{LapseEntry}
 use Rattle.accounts.specs.declared.entries.LapseEntry.TheVariants.{Notice, Renewal, Start}
@@ -22,7 +22,6 @@ use Rattle.accounts.specs.LineChanges.{refund-elsewhere, refund-stays, start-els
 use Rattle.accounts.specs.Lines.{begins_by, in_order, is_kind, is_of, is_on, is_same_roid, transfer_refunded, transfer_started}
 use Rattle.accounts.specs.MessageOrder.{message_cmp_total}
 use Rattle.accounts.specs.Messages.{message_cmp}
-use Rattle.accounts.specs.Queue.{put}
 use Rattle.accounts.proofs.EntryLaws.{entries-swap, insert_key-swap, postings_commute}
 use Rattle.accounts.proofs.LineLaws.{lines_in_order}
 use Rattle.accounts.proofs.MessageLaws.{message_cmp_only}
@@ -58,11 +57,12 @@ use Rattle.decisions.specs.declared.change.Change.TheVariants.{MoveClock, OpenAc
 use Rattle.decisions.specs.Changes.{changed, changed_all, host_renamed, may_rename, with_host_renamed}
 use Rattle.concerns.specs.declared.given.Names.{Names}
 use Rattle.concerns.specs.Concerns.{IsSettledIn, concerned, is_about, without}
-use Rattle.concerns.proofs.PostedLemmas.{AllPost, IsElsewhere, contact-elsewhere, domain-elsewhere, post-both, post-given, post-weaker}
+use Rattle.concerns.proofs.PostedLemmas.{IsElsewhere, contact-elsewhere, domain-elsewhere, post-weaker}
 use Rattle.concerns.proofs.ConcernLemmas.{is_in}
 use Rattle.concerns.proofs.FactsLemmas.{contact-not-about, domain-not-about, roid-off}
 use Rattle.decisions.proofs.LineEntryLemmas.{AllOff, IsOff, on-one}
 use Rattle.decisions.proofs.LineTimeLemmas.{completed-off, domain-off}
+use Rattle.decisions.proofs.PostingLemmas.{AllPosted, posted-both, posted-given}
 use Rattle.decisions.proofs.NamedLemmas.{drop-cases, put-cases, remade-cases, same_name}
 
 -- ---- a sweep of a map, one of whose names it leaves alone
@@ -102,6 +102,19 @@ module _ {X : Type 0} (f : List ℕ → X → Lapsed X) (m : FinMap (slice_cmp n
   given-inserted : (v : X) (a : Accounts) → fold posted a (given (gives f) (insert m k v)) ≡ fold posted a (given (gives f) m)
   given-inserted v a = given_insert (slice_cmp nat_cmp) nat_list_cmp_total names_apart posted postings_commute (gives f) m k v a
       ∙ ap (λ (es : List Posting). fold posted (fold posted a es) (given (gives f) (remove m k))) (silent (Some v)) ∙ given-removed a
+
+-- ---- what is so of all objects that aren't chosen
+
+module _ {X : Type 0} (chosen : List ℕ → Bool) (P : X → Type 0) where
+  abbrev pub AllOthers : FinMap (slice_cmp nat_cmp) X → Type 0
+  AllOthers m = (name : List ℕ) (x : X) → get m name ≡ Some x → chosen name ≡ false → P x
+
+  others-put : (m : FinMap (slice_cmp nat_cmp) X) (k : List ℕ) (v : X) → chosen k ≡ true → AllOthers m → AllOthers (insert m k v)
+  others-put m k v chose all name x at none = ⊎_elim (λ put. absurd (true≢false (sym chose ∙ ap chosen (sym put.0) ∙ none)))
+      (λ before. all name x before none) (put-cases m k v name x at)
+
+  others-drop : (m : FinMap (slice_cmp nat_cmp) X) (k : List ℕ) → AllOthers m → AllOthers (remove m k)
+  others-drop m k all name x at none = all name x (drop-cases m k name x at).1 none
 
 -- ---- a host that is renamed
 
@@ -200,27 +213,16 @@ module _ (p : PolicyRules) where
       ap (λ (ms : List Message). let b : Account = record a { queue = ms; messages = saturating_next a.messages } in b)
       (insert_key-swap message_cmp message_cmp_total message_cmp_only m (numbered (saturating_next a.messages) n) a.queue)
 
-  lapse-swaps : (v w : LapseEntry) → Swaps (Lapse v) p w
-  lapse-swaps v w a = entries-swap w v a
-
-  count-swaps : (w : LapseEntry) → Swaps CountCommand p w
-  count-swaps (Renewal r) a = refl
-  count-swaps (Start x) a = refl
-  count-swaps (Notice m) a = refl
-
-  serial-swaps : (w : LapseEntry) → Swaps TakeSerial p w
-  serial-swaps (Renewal r) a = refl
-  serial-swaps (Start x) a = refl
-  serial-swaps (Notice m) a = refl
+  plain-swaps : (w : LapseEntry) → Swaps CountCommand p w × Swaps TakeSerial p w
+  plain-swaps (Renewal r) = ((λ a. refl), (λ a. refl))
+  plain-swaps (Start x) = ((λ a. refl), (λ a. refl))
+  plain-swaps (Notice m) = ((λ a. refl), (λ a. refl))
 
 -- ---- what is asked of a change
 
 module _ (p : PolicyRules) (r : Option ℕ) (g : Names) (u : Registry) where
   abbrev chosen : Choice
   chosen = concerned r g u
-
-  abbrev rest : Choice
-  rest = without chosen
 
   -- a domain that is named has the ROID
   abbrev pub IsNamedRoid : Roid → Type 0
@@ -257,60 +259,48 @@ module _ (p : PolicyRules) (r : Option ℕ) (g : Names) (u : Registry) where
   AllSuit [] = Unit {0}
   AllSuit (change ∷ changes) = Suits change × AllSuit changes
 
--- ---- the rest, as it stands while the changes are made
+  pub suits-if : (changes : List Change) (b : Bool) → AllSuit changes → AllSuit (cond b changes [])
+  suits-if changes true suit = suit
+  suits-if changes false suit = tt
 
-record IsRest (p : PolicyRules) (r : Option ℕ) (g : Names) (u v : Registry) : Type 0 where
-  contacts : (name : List ℕ) (x : Contact) → get v.contacts name ≡ Some x → (concerned r g u).contacts name ≡ false → is_about r x.sponsor x.transfer ≡ false
-  domains : (name : List ℕ) (d : Domain) → get v.domains name ≡ Some d → (concerned r g u).domains name ≡ false → is_about r d.sponsor d.transfer ≡ false
-  roids : (name : List ℕ) (d : Domain) → get v.domains name ≡ Some d → (concerned r g u).domains name ≡ false → (roid : Roid) → IsNamedRoid p r g u roid → is_same_roid d.roid roid ≡ false
+  -- ---- the rest, as it stands while the changes are made
 
-not-both : (b : Bool) → b ≡ true → b ≡ false → ⊥
-not-both true e f = cc
-not-both false e f = cc
+  abbrev IsAsideContact : Contact → Type 0
+  IsAsideContact x = is_about r x.sponsor x.transfer ≡ false
+
+  abbrev IsAsideDomain : Domain → Type 0
+  IsAsideDomain d = (is_about r d.sponsor d.transfer ≡ false) × ((roid : Roid) → IsNamedRoid roid → is_same_roid d.roid roid ≡ false)
+
+  abbrev IsRest : Registry → Type 0
+  IsRest v = AllOthers chosen.contacts IsAsideContact v.contacts × AllOthers chosen.domains IsAsideDomain v.domains × (v.clock ≡ u.clock)
+
+  rest-changed : (change : Change) → Suits change → (v : Registry) → IsRest v → IsRest (changed p change v)
+  rest-changed (MoveClock t) suits v is = absurd suits
+  rest-changed (OpenAccount q) suits v is = absurd suits
+  rest-changed (PutContact x) suits v is = (others-put chosen.contacts IsAsideContact v.contacts x.name x suits is.0, is.1, is.2)
+  rest-changed (DropContact name) suits v is = (others-drop chosen.contacts IsAsideContact v.contacts name is.0, is.1, is.2)
+  rest-changed (PutDomain d) suits v is = (is.0, others-put chosen.domains IsAsideDomain v.domains d.name d suits is.1, is.2)
+  rest-changed (DropDomain name) suits v is = (is.0, others-drop chosen.domains IsAsideDomain v.domains name is.1, is.2)
+  rest-changed (PutHost h) suits v is = is
+  rest-changed (DropHost name) suits v is = is
+  rest-changed (RenameHost old h) suits v is = cond_both (may_rename v.hosts old h.name) (host_renamed old h v) v IsRest
+      (λ may. (is.0, (λ name e at none. let was = remade-cases (with_host_renamed old h.name) v.domains name e at in subst IsAsideDomain was.2 (is.1 name was.0 was.1 none)), is.2))
+      (λ else. is)
+  rest-changed (LapseContact name left) suits v is = absurd suits
+  rest-changed (LapseDomain name left) suits v is = absurd suits
+  rest-changed (Post q what) suits v is = is
+
+  rest-all : (changes : List Change) → AllSuit changes → (v : Registry) → IsRest v → IsRest (changed_all p changes v)
+  rest-all [] suit v is = is
+  rest-all (change ∷ changes) suit v is = rest-all changes suit.1 (changed p change v) (rest-changed change suit.0 v is)
+
+rest-post : {X : Type 0} (P : Posting → Type 0) (l : Lapsed X) (x : X) (b : Bool) → (b ≡ false → AllPosted P l.postings) → AllPosted P (lapse_if (not b) l x).postings
+rest-post P l x true all = tt
+rest-post P l x false all = all refl
 
 module _ (p : PolicyRules) (r : Option ℕ) (g : Names) (u : Registry) where
   abbrev to_lapse : Choice
   to_lapse = without (concerned r g u)
-
-  rest-changed : (change : Change) → Suits p r g u change → (v : Registry) → IsRest p r g u v → IsRest p r g u (changed p change v)
-  rest-changed (MoveClock t) suits v is = absurd suits
-  rest-changed (OpenAccount q) suits v is = absurd suits
-  rest-changed (PutContact x) suits v is = record {
-    contacts = λ name y at none. ⊎_elim
-        (λ put. absurd (not-both ((concerned r g u).contacts name) (ap (concerned r g u).contacts put.0 ∙ suits) none))
-        (λ before. is.contacts name y before none) (put-cases v.contacts x.name x name y at);
-    domains = is.domains;
-    roids = is.roids;
-  }
-  rest-changed (DropContact dropped) suits v is = record {
-    contacts = λ name y at none. is.contacts name y (drop-cases v.contacts dropped name y at).1 none;
-    domains = is.domains;
-    roids = is.roids;
-  }
-  rest-changed (PutDomain d) suits v is = record {
-    contacts = is.contacts;
-    domains = λ name e at none. ⊎_elim
-        (λ put. absurd (not-both ((concerned r g u).domains name) (ap (concerned r g u).domains put.0 ∙ suits) none))
-        (λ before. is.domains name e before none) (put-cases v.domains d.name d name e at);
-    roids = λ name e at none. ⊎_elim
-        (λ put. absurd (not-both ((concerned r g u).domains name) (ap (concerned r g u).domains put.0 ∙ suits) none))
-        (λ before. is.roids name e before none) (put-cases v.domains d.name d name e at);
-  }
-  rest-changed (DropDomain dropped) suits v is = record {
-    contacts = is.contacts;
-    domains = λ name e at none. is.domains name e (drop-cases v.domains dropped name e at).1 none;
-    roids = λ name e at none. is.roids name e (drop-cases v.domains dropped name e at).1 none;
-  }
-  rest-changed (PutHost h) suits v is = record { contacts = is.contacts; domains = is.domains; roids = is.roids }
-  rest-changed (DropHost name) suits v is = record { contacts = is.contacts; domains = is.domains; roids = is.roids }
-  rest-changed (RenameHost old h) suits v is = cond_both (may_rename v.hosts old h.name) (host_renamed old h v) v (IsRest p r g u) (λ may. record {
-    contacts = is.contacts;
-    domains = λ name e at none. let was = remade-cases (with_host_renamed old h.name) v.domains name e at in subst (λ (z : Domain). is_about r z.sponsor z.transfer ≡ false) was.2 (is.domains name was.0 was.1 none);
-    roids = λ name e at none roid named. let was = remade-cases (with_host_renamed old h.name) v.domains name e at in subst (λ (z : Domain). is_same_roid z.roid roid ≡ false) was.2 (is.roids name was.0 was.1 none roid named);
-  }) (λ else. is)
-  rest-changed (LapseContact name left) suits v is = absurd suits
-  rest-changed (LapseDomain name left) suits v is = absurd suits
-  rest-changed (Post q what) suits v is = record { contacts = is.contacts; domains = is.domains; roids = is.roids }
 
   -- ---- what the rest posts
 
@@ -318,7 +308,7 @@ module _ (p : PolicyRules) (r : Option ℕ) (g : Names) (u : Registry) where
   abbrev IsAside : Posting → Type 0
   IsAside e = (roid : Roid) → IsNamedRoid p r g u roid → IsOff roid e.what
 
-  to-aside : (es : List Posting) → ((roid : Roid) → IsNamedRoid p r g u roid → AllOff roid es) → AllPost IsAside es
+  to-aside : (es : List Posting) → ((roid : Roid) → IsNamedRoid p r g u roid → AllOff roid es) → AllPosted IsAside es
   to-aside [] off = tt
   to-aside (e ∷ es) off = ((λ roid named. (off roid named).0), to-aside es (λ roid named. (off roid named).1))
 
@@ -330,11 +320,11 @@ module _ (p : PolicyRules) (r : Option ℕ) (g : Names) (u : Registry) where
   swaps-any (Charge l) suits e aside = charge-swaps p l suits e.what
   swaps-any (RefundRunning x) suits e aside = absurd suits
   swaps-any (RefundTransfer x) suits e aside = refund-swaps p x e.what (aside x.roid suits)
-  swaps-any (Lapse v) suits e aside = lapse-swaps p v e.what
+  swaps-any (Lapse v) suits e aside = λ a. entries-swap e.what v a
   swaps-any (Notify n) suits e aside = tell-swaps p n e.what
   swaps-any (Ack id) suits e aside = absurd suits
-  swaps-any CountCommand suits e aside = count-swaps p e.what
-  swaps-any TakeSerial suits e aside = serial-swaps p e.what
+  swaps-any CountCommand suits e aside = (plain-swaps p e.what).0
+  swaps-any TakeSerial suits e aside = (plain-swaps p e.what).1
 
   module _ (t : ℕ) where
     abbrev fc : List ℕ → Contact → Lapsed Contact
@@ -347,39 +337,29 @@ module _ (p : PolicyRules) (r : Option ℕ) (g : Names) (u : Registry) where
     rest_postings v = postings fc fd v
 
     module _ (v : Registry) (is : IsRest p r g u v) where
-      rest-posts : (P : Posting → Type 0)
-          → ((x : Contact) → is_about r x.sponsor x.transfer ≡ false → AllPost P (lapse_contact t x).postings)
-          → ((d : Domain) → is_about r d.sponsor d.transfer ≡ false → ((roid : Roid) → IsNamedRoid p r g u roid → is_same_roid d.roid roid ≡ false) → AllPost P (lapse p t d).postings)
-          → AllPost P (rest_postings v)
-      rest-posts P of-contact of-domain = post-both P (given (gives fc) v.contacts) (given (gives fd) v.domains)
-          (post-given P (gives fc) v.contacts (λ name x at. by-contact name x at ((concerned r g u).contacts name) refl))
-          (post-given P (gives fd) v.domains (λ name d at. by-domain name d at ((concerned r g u).domains name) refl))
-        where
-          by-contact : (name : List ℕ) (x : Contact) → get v.contacts name ≡ Some x → (b : Bool) → (concerned r g u).contacts name ≡ b → AllPost P (lapse_if (not b) (lapse_contact t x) x).postings
-          by-contact name x at true e = tt
-          by-contact name x at false e = of-contact x (is.contacts name x at e)
+      rest-posts : (P : Posting → Type 0) → ((x : Contact) → IsAsideContact p r g u x → AllPosted P (lapse_contact t x).postings)
+          → ((d : Domain) → IsAsideDomain p r g u d → AllPosted P (lapse p t d).postings) → AllPosted P (rest_postings v)
+      rest-posts P of-contact of-domain = posted-both P (given (gives fc) v.contacts) (given (gives fd) v.domains)
+          (posted-given P (gives fc) v.contacts (λ name x at. rest-post P (lapse_contact t x) x ((concerned r g u).contacts name) (λ none. of-contact x (is.0 name x at none))))
+          (posted-given P (gives fd) v.domains (λ name d at. rest-post P (lapse p t d) d ((concerned r g u).domains name) (λ none. of-domain d (is.1 name d at none))))
 
-          by-domain : (name : List ℕ) (d : Domain) → get v.domains name ≡ Some d → (b : Bool) → (concerned r g u).domains name ≡ b → AllPost P (lapse_if (not b) (lapse p t d) d).postings
-          by-domain name d at true e = tt
-          by-domain name d at false e = of-domain d (is.domains name d at e) (is.roids name d at e)
-
-      fits-own : (q : ℕ) (what : AccountChange) → r ≡ Some q → AllPost (Fits q what) (rest_postings v)
+      fits-own : (q : ℕ) (what : AccountChange) → r ≡ Some q → AllPosted (Fits q what) (rest_postings v)
       fits-own q what own = rest-posts (Fits q what)
-          (λ x none. post-weaker (IsElsewhere q) (Fits q what) (λ e other same. absurd (other same)) (lapse_contact t x).postings (contact-elsewhere q t x (ap (λ (o : Option ℕ). is_about o x.sponsor x.transfer) (sym own) ∙ none)))
-          (λ d none off. post-weaker (IsElsewhere q) (Fits q what) (λ e other same. absurd (other same)) (lapse p t d).postings (domain-elsewhere q t p d (ap (λ (o : Option ℕ). is_about o d.sponsor d.transfer) (sym own) ∙ none)))
+          (λ x none. post-weaker (IsElsewhere q) (Fits q what) (λ e other same. absurd (other same)) (lapse_contact t x).postings (contact-elsewhere q t p x (ap (λ (o : Option ℕ). is_about o x.sponsor x.transfer) (sym own) ∙ none)))
+          (λ d aside. post-weaker (IsElsewhere q) (Fits q what) (λ e other same. absurd (other same)) (lapse p t d).postings (domain-elsewhere q t p d (ap (λ (o : Option ℕ). is_about o d.sponsor d.transfer) (sym own) ∙ aside.0)))
 
-      fits-any : (q : ℕ) (what : AccountChange) → SuitsAny p r g u what → AllPost (Fits q what) (rest_postings v)
+      fits-any : (q : ℕ) (what : AccountChange) → SuitsAny p r g u what → AllPosted (Fits q what) (rest_postings v)
       fits-any q what suits = rest-posts (Fits q what)
           (λ x none. post-weaker IsAside (Fits q what) (λ e aside same. swaps-any what suits e aside) (lapse_contact t x).postings (to-aside (lapse_contact t x).postings (λ roid named. completed-off p roid (due_by t x.transfer) x)))
-          (λ d none off. post-weaker IsAside (Fits q what) (λ e aside same. swaps-any what suits e aside) (lapse p t d).postings (to-aside (lapse p t d).postings (λ roid named. domain-off p roid t d (off roid named))))
+          (λ d off. post-weaker IsAside (Fits q what) (λ e aside same. swaps-any what suits e aside) (lapse p t d).postings (to-aside (lapse p t d).postings (λ roid named. domain-off p roid t d (off.1 roid named))))
 
-      fits : (q : ℕ) (what : AccountChange) → Suits p r g u (Post q what) → AllPost (Fits q what) (rest_postings v)
+      fits : (q : ℕ) (what : AccountChange) → Suits p r g u (Post q what) → AllPosted (Fits q what) (rest_postings v)
       fits q what suits = ⊎_elim (fits-own q what) (fits-any q what) suits
 
     -- ---- each change
 
     -- an account that is changed, and what time enters
-    give-posted : (q : ℕ) (what : AccountChange) (es : List Posting) → AllPost (Fits q what) es → (m : FinMap nat_cmp Account)
+    give-posted : (q : ℕ) (what : AccountChange) (es : List Posting) → AllPosted (Fits q what) es → (m : FinMap nat_cmp Account)
         → fold posted (change_at empty_account q (account_changed p what) m) es ≡ change_at empty_account q (account_changed p what) (fold posted m es)
     give-posted q what [] all m = refl
     give-posted q what (e ∷ es) all m =
@@ -437,27 +417,7 @@ module _ (p : PolicyRules) (r : Option ℕ) (g : Names) (u : Registry) where
 
     commute-all : (changes : List Change) → AllSuit p r g u changes → (v : Registry) → IsRest p r g u v → lapsed_rest (changed_all p changes v) ≡ changed_all p changes (lapsed_rest v)
     commute-all [] suit v is = refl
-    commute-all (change ∷ changes) suit v is = commute-all changes suit.1 (changed p change v) (rest-changed change suit.0 v is) ∙ ap (changed_all p changes) (commutes change suit.0 v is)
-
-  -- ---- the clock stands
-
-  clock-stands : (change : Change) → Suits p r g u change → (v : Registry) → (changed p change v).clock ≡ v.clock
-  clock-stands (MoveClock m) suits v = absurd suits
-  clock-stands (OpenAccount q) suits v = absurd suits
-  clock-stands (PutContact x) suits v = refl
-  clock-stands (DropContact name) suits v = refl
-  clock-stands (PutDomain d) suits v = refl
-  clock-stands (DropDomain name) suits v = refl
-  clock-stands (PutHost h) suits v = refl
-  clock-stands (DropHost name) suits v = refl
-  clock-stands (RenameHost old h) suits v = cond_both (may_rename v.hosts old h.name) (host_renamed old h v) v (λ (w : Registry). w.clock ≡ v.clock) (λ may. refl) (λ else. refl)
-  clock-stands (LapseContact name left) suits v = absurd suits
-  clock-stands (LapseDomain name left) suits v = absurd suits
-  clock-stands (Post q what) suits v = refl
-
-  clocks-stand : (changes : List Change) → AllSuit p r g u changes → (v : Registry) → (changed_all p changes v).clock ≡ v.clock
-  clocks-stand [] suit v = refl
-  clocks-stand (change ∷ changes) suit v = clocks-stand changes suit.1 (changed p change v) ∙ clock-stands change suit.0 v
+    commute-all (change ∷ changes) suit v is = commute-all changes suit.1 (changed p change v) (rest-changed p r g u change suit.0 v is) ∙ ap (changed_all p changes) (commutes change suit.0 v is)
 
   -- ---- all changes of what is settled in what is concerned
 
@@ -467,21 +427,17 @@ module _ (p : PolicyRules) (r : Option ℕ) (g : Names) (u : Registry) where
       contacts = λ name x at out. is.contacts name x at (not-false ((concerned r g u).contacts name) out);
       domains = λ name d at out. is.domains name d at (not-false ((concerned r g u).domains name) out);
     }
-      where
-        not-false : (b : Bool) → not b ≡ false → b ≡ true
-        not-false true e = refl
-        not-false false e = cc
 
     -- what the registry is now, is itself with the rest lapsed
     now-is : lapse_some p to_lapse u.clock u ≡ now p u
     now-is = all-due-lapse-as-all p u.clock to_lapse u has-all
 
     rest-is : IsRest p r g u u
-    rest-is = record {
-      contacts = λ name x at none. contact-not-about p r g u is name x at none;
-      domains = λ name d at none. domain-not-about p r g u is name d at none;
-      roids = λ name d at none roid named. ap (λ (x : Roid). is_same_roid d.roid x) named.4 ∙ roid-off p r g u is name d at none named.0 named.1 named.2 named.3;
-    }
+    rest-is = (
+      (λ name x at none. contact-not-about p r g u is name x at none),
+      (λ name d at none. (domain-not-about p r g u is name d at none, (λ roid named. ap (λ (x : Roid). is_same_roid d.roid x) named.4 ∙ roid-off p r g u is name d at none named.0 named.1 named.2 named.3))),
+      refl,
+    )
 
     rest-later : (v : Registry) → v.clock ≡ u.clock → now p (lapse_some p to_lapse u.clock v) ≡ now p v
     unfolding accounts_at
@@ -492,5 +448,5 @@ module _ (p : PolicyRules) (r : Option ℕ) (g : Names) (u : Registry) where
 
     pub changed-now : (changes : List Change) → AllSuit p r g u changes → now p (changed_all p changes u) ≡ now p (changed_all p changes (now p u))
     changed-now changes suit =
-        sym (rest-later (changed_all p changes u) (clocks-stand changes suit u))
+        sym (rest-later (changed_all p changes u) (rest-all p r g u changes suit u rest-is).2)
         ∙ ap (now p) (commute-all u.clock changes suit u rest-is ∙ ap (changed_all p changes) now-is)

@@ -1,22 +1,22 @@
 -- What a command is judged by is the same whether all that is due has lapsed, or what it concerns.
-use Rattle.std.proofs.Common.{◌≡◌, ℕ, Bool, true, false, not, ◌&&◌, ◌||◌, List, [], ◌∷◌, map, Option, Some, None, is_some, option_and_then, option_map, refl, sym, ap, subst, ◌∙◌}
+use Rattle.std.proofs.Common.{◌≡◌, ⊎_elim, ℕ, Bool, true, false, not, ◌&&◌, ◌||◌, List, [], ◌∷◌, map, Option, Some, None, is_some, option_and_then, option_map, refl, sym, ap, subst, ◌∙◌}
 use Rattle.std.specs.Cmp.Lexicographic.{slice_cmp, nat_list_cmp_total}
 use Rattle.std.specs.FinMap.{entries, get, values}
 use Rattle.std.specs.List.{list_any}
 use Rattle.std.specs.Str.{bytes_eq}
 use Rattle.std.specs.Option.{option_map_or}
 use Rattle.std.specs.Ordering.{nat_cmp}
-use Rattle.std.proofs.lemmas.Bool.{or_left, or_parts, or_right}
+use Rattle.std.proofs.lemmas.Bool.{cases_Bool, false_from_ne_true, or_parts, or_right}
 use Rattle.accounts.specs.declared.entries.LapseEntry.TheVariants.{Notice, Renewal, Start}
 use Rattle.accounts.specs.declared.entries.Posting.{Posting}
 use Rattle.accounts.specs.declared.line.Line.{Line}
 use Rattle.accounts.specs.declared.line.LineKind.{LineKind}
 use Rattle.accounts.specs.declared.line.LineKind.TheVariants as lines
-use Rattle.accounts.specs.Entries.{posted, renewal_line}
+use Rattle.accounts.specs.Entries.{renewal_line}
 use Rattle.accounts.specs.LineChanges.{unasked}
 use Rattle.accounts.specs.Lines.{in_order, is_kind, is_on, is_same_roid}
 use Rattle.basis.specs.Bag.{add}
-use Rattle.basis.specs.Sweeps.{given, kept_list}
+use Rattle.basis.specs.Sweeps.{kept_list}
 use Rattle.basis.proofs.ApartLaws.{get-kept}
 use Rattle.basis.proofs.BagLaws.{any-add}
 use Rattle.basis.proofs.EntryLaws.{Each, each_entry}
@@ -55,11 +55,12 @@ use Rattle.protocol.specs.Requests.{asked, asks_of, contacts_asked, domains_aske
 use Rattle.concerns.specs.declared.given.Names.{Names}
 use Rattle.concerns.specs.Concerns.{IsSettledIn, concerned, contact_name, domain_name, domain_roid, is_about, is_concerned, meant, read_at}
 use Rattle.concerns.specs.Names.{contacts_in, hosts_in, listed, named_by}
-use Rattle.concerns.proofs.PostedLemmas.{AllPost, IsElsewhere, contact-elsewhere, domain-elsewhere, elsewhere-posted, not-party, post-both, post-given, requester-off}
-use Rattle.concerns.proofs.ConcernLemmas.{any-in, any-read, in-filter_map, in-first, in-itself, in-second, is_in}
+use Rattle.concerns.proofs.PostedLemmas.{IsElsewhere, contact-elsewhere, domain-elsewhere, elsewhere-posted, not-party, requester-off}
+use Rattle.concerns.proofs.ConcernLemmas.{any-in, any-read, in-filter_map, in-first, in-itself, in-second, is_in, meant-named}
 use Rattle.decisions.proofs.LapsedLemmas.{domain-left}
-use Rattle.decisions.proofs.LineEntryLemmas.{AllOff, IsKeptOff, keep-posted, off-keep}
+use Rattle.decisions.proofs.LineEntryLemmas.{AllOff, IsKeptOff, IsOff, keep-posted, off-keep}
 use Rattle.decisions.proofs.LineTimeLemmas.{completed-off, domain-off}
+use Rattle.decisions.proofs.PostingLemmas.{AllPosted, postings-posted}
 use Rattle.decisions.proofs.TransferLemmas.{graces-elsewhere}
 
 -- ---- tests of what is left
@@ -71,22 +72,17 @@ Passes test o x = option_map_or test o false ≡ test x
 abbrev values_of : {X : Type 0} → List (List ℕ × X) → List X
 values_of es = map (λ (e : List ℕ × _). e.1) es
 
-module _ {X : Type 0} (f : List ℕ → X → Option X) (test : X → Bool) where
-  any-one : (name : List ℕ) (x : X) (o : Option X) (ls : List (List ℕ × X)) (rest : Bool) → Passes test o x → list_any test (values_of ls) ≡ rest → list_any test (values_of (option_map_or (λ y. (name, y) ∷ ls) o ls)) ≡ (test x || rest)
-  any-one name x None ls rest h e = e ∙ ap (λ (b : Bool). b || rest) h
-  any-one name x (Some y) ls rest h e = λ i. h i || e i
+-- what counts those that pass, or asks for one
+module _ {X A : Type 0} (test : X → Bool) (measure : List X → A) (step : Bool → A → A) (skips : (rest : A) → step false rest ≡ rest)
+    (steps : (x : X) (xs : List X) → measure (x ∷ xs) ≡ step (test x) (measure xs)) (f : List ℕ → X → Option X) where
+  one-left : (name : List ℕ) (x : X) (o : Option X) (ls : List (List ℕ × X)) (rest : A) → Passes test o x → measure (values_of ls) ≡ rest
+      → measure (values_of (option_map_or (λ y. (name, y) ∷ ls) o ls)) ≡ step (test x) rest
+  one-left name x None ls rest h e = e ∙ sym (skips rest) ∙ ap (λ (b : Bool). step b rest) h
+  one-left name x (Some y) ls rest h e = steps y (values_of ls) ∙ (λ i. step (h i) (e i))
 
-  any-left : (es : List (List ℕ × X)) → Each (λ name x. Passes test (f name x) x) es → list_any test (values_of (kept_list f es)) ≡ list_any test (values_of es)
-  any-left [] each = refl
-  any-left (e ∷ es) each = any-one e.0 e.1 (f e.0 e.1) (kept_list f es) (list_any test (values_of es)) each.0 (any-left es each.1)
-
-  count-one : (name : List ℕ) (x : X) (o : Option X) (ls : List (List ℕ × X)) (rest : ℕ) → Passes test o x → count test (values_of ls) ≡ rest → count test (values_of (option_map_or (λ y. (name, y) ∷ ls) o ls)) ≡ one_if (test x) rest
-  count-one name x None ls rest h e = e ∙ ap (λ (b : Bool). one_if b rest) h
-  count-one name x (Some y) ls rest h e = count-cons test y (values_of ls) ∙ (λ i. one_if (h i) (e i))
-
-  count-left : (es : List (List ℕ × X)) → Each (λ name x. Passes test (f name x) x) es → count test (values_of (kept_list f es)) ≡ count test (values_of es)
-  count-left [] each = refl
-  count-left (e ∷ es) each = count-one e.0 e.1 (f e.0 e.1) (kept_list f es) (count test (values_of es)) each.0 (count-left es each.1) ∙ sym (count-cons test e.1 (values_of es))
+  measure-left : (es : List (List ℕ × X)) → Each (λ name x. Passes test (f name x) x) es → measure (values_of (kept_list f es)) ≡ measure (values_of es)
+  measure-left [] each = refl
+  measure-left (e ∷ es) each = one-left e.0 e.1 (f e.0 e.1) (kept_list f es) (measure (values_of es)) each.0 (measure-left es each.1) ∙ sym (steps e.1 (values_of es))
 
 -- ---- graces, of which lines on another domain tell nothing
 
@@ -112,19 +108,13 @@ module _ (p : PolicyRules) (t : ℕ) (roid : Roid) (since : Option ℕ) where
 
 -- ---- a registry in which nothing is due that a registrar's command concerns, and what it is now
 
-to-false : (b : Bool) → (b ≡ true → ⊥) → b ≡ false
-to-false true never = absurd (never refl)
-to-false false never = refl
+object-stays : {X : Type 0} (f : X → Lapsed X) (o : Option X) → ((x : X) → o ≡ Some x → f x ≡ leaves x []) → option_map_or (λ x. (f x).object) o None ≡ o
+object-stays f None stays = refl
+object-stays f (Some x) stays = ap (λ (l : Lapsed _). l.object) (stays x refl)
 
-some-only : {X : Type 0} (x y : X) → (let o : Option X = Some x in o) ≡ Some y → x ≡ y
-some-only x y e = cc
-
-and-second : (a b : Bool) → a ≡ true → (a && b) ≡ false → b ≡ false
-and-second true b e h = h
-and-second false b e h = cc
-
-contact-stays : (t : ℕ) (x : Contact) → due_by t x.transfer ≡ None → lapse_contact t x ≡ leaves x []
-contact-stays t x none = ap (λ (o : Option Transfer). contact_completed o x) none
+fails-left : {X : Type 0} (test : X → Bool) (o : Option X) → ((x : X) → o ≡ Some x → test x ≡ false) → option_map_or test o false ≡ false
+fails-left test None fails = refl
+fails-left test (Some x) fails = fails x refl
 
 module _ (p : PolicyRules) (r : Option ℕ) (g : Names) (u : Registry) (is : IsSettledIn p (concerned r g u) u) where
   abbrev t : ℕ
@@ -136,32 +126,20 @@ module _ (p : PolicyRules) (r : Option ℕ) (g : Names) (u : Registry) (is : IsS
   -- ---- what is concerned stays
 
   contact-left-so : (name : List ℕ) (x : Contact) → get u.contacts name ≡ Some x → chosen.contacts name ≡ true → lapse_contact t x ≡ leaves x []
-  contact-left-so name x at chose = contact-stays t x (is.contacts name x at chose)
+  contact-left-so name x at chose = ap (λ (o : Option Transfer). contact_completed o x) (is.contacts name x at chose)
 
   domain-left-so : (name : List ℕ) (d : Domain) → get u.domains name ≡ Some d → chosen.domains name ≡ true → lapse p t d ≡ leaves d []
   domain-left-so name d at chose = lapse-stays p t d (is.domains name d at chose)
 
-  named-contact : (name : List ℕ) → is_in name g.contacts ≡ true → chosen.contacts name ≡ true
-  named-contact name e = or_left (has_name (meant contact_name u.contacts g.contacts) name) _ (in-first name g.contacts (read_at contact_name u.contacts g.contacts) e)
-
-  named-domain : (name : List ℕ) → is_in name g.domains ≡ true → chosen.domains name ≡ true
-  named-domain name e = or_left (has_name (meant domain_name u.domains g.domains) name) _ (in-first name g.domains (read_at domain_name u.domains g.domains) e)
-
   pub contact-at : (name : List ℕ) → is_in name g.contacts ≡ true → get (now p u).contacts name ≡ get u.contacts name
   unfolding contacts_at
-  contact-at name e = get-kept (slice_cmp nat_cmp) nat_list_cmp_total names_apart (left (λ name. lapse_contact t)) u.contacts name ∙ by (get u.contacts name) refl
-    where
-      by : (o : Option Contact) → get u.contacts name ≡ o → option_map_or (λ x. (lapse_contact t x).object) o None ≡ o
-      by None at = refl
-      by (Some x) at = ap (λ (l : Lapsed Contact). l.object) (contact-left-so name x at (named-contact name e))
+  contact-at name e = get-kept (slice_cmp nat_cmp) nat_list_cmp_total names_apart (left (λ name. lapse_contact t)) u.contacts name
+      ∙ object-stays (lapse_contact t) (get u.contacts name) (λ x at. contact-left-so name x at (meant-named contact_name u.contacts g.contacts name _ e))
 
   pub domain-at : (name : List ℕ) → is_in name g.domains ≡ true → get (now p u).domains name ≡ get u.domains name
   unfolding domains_at
-  domain-at name e = get-kept (slice_cmp nat_cmp) nat_list_cmp_total names_apart (left (λ name. lapse p t)) u.domains name ∙ by (get u.domains name) refl
-    where
-      by : (o : Option Domain) → get u.domains name ≡ o → option_map_or (λ d. (lapse p t d).object) o None ≡ o
-      by None at = refl
-      by (Some d) at = ap (λ (l : Lapsed Domain). l.object) (domain-left-so name d at (named-domain name e))
+  domain-at name e = get-kept (slice_cmp nat_cmp) nat_list_cmp_total names_apart (left (λ name. lapse p t)) u.domains name
+      ∙ object-stays (lapse p t) (get u.domains name) (λ d at. domain-left-so name d at (meant-named domain_name u.domains g.domains name _ e))
 
   -- ---- what isn't concerned is no concern in each way
 
@@ -175,14 +153,14 @@ module _ (p : PolicyRules) (r : Option ℕ) (g : Names) (u : Registry) (is : IsS
   domain-not-about name d at none = (or_parts (is_about r d.sponsor d.transfer) _ (unconcerned name d at none)).0
 
   none-in : (test : List ℕ → Bool) (name : List ℕ) (names : List (List ℕ)) → is_in name names ≡ true → list_any test names ≡ false → test name ≡ false
-  none-in test name names e none = to-false (test name) (λ yes. let never : true ≡ false = sym (any-in test name names e yes) ∙ none in cc)
+  none-in test name names e none = false_from_ne_true (test name) (λ yes. let never : true ≡ false = sym (any-in test name names e yes) ∙ none in cc)
 
   -- its ROID isn't that of a domain that is named
   pub roid-off : (name : List ℕ) (d : Domain) → get u.domains name ≡ Some d → chosen.domains name ≡ false → (n : List ℕ) (e : Domain) → is_in n g.domains ≡ true → get u.domains n ≡ Some e → is_same_roid d.roid e.roid ≡ false
   roid-off name d at none n e named found =
       let parts = or_parts (is_about r d.sponsor d.transfer) _ (unconcerned name d at none) in
       let off : list_any (is_same_roid d.roid) (read_at domain_roid u.domains g.domains) ≡ false = (or_parts (list_any (is_same_roid d.roid) (read_at domain_roid u.domains g.domains)) _ parts.1).0 in
-      to-false (is_same_roid d.roid e.roid) (λ yes. let never : true ≡ false = sym (any-read domain_roid (is_same_roid d.roid) u.domains n g.domains e named found yes) ∙ off in cc)
+      false_from_ne_true (is_same_roid d.roid e.roid) (λ yes. let never : true ≡ false = sym (any-read domain_roid (is_same_roid d.roid) u.domains n g.domains e named found yes) ∙ off in cc)
 
   links-off : (name : List ℕ) (d : Domain) → get u.domains name ≡ Some d → chosen.domains name ≡ false
       → (list_any (λ contact. names_contact contact d.links) g.contacts ≡ false) × (list_any (λ host. names_host host d.links) g.hosts ≡ false)
@@ -192,40 +170,21 @@ module _ (p : PolicyRules) (r : Option ℕ) (g : Names) (u : Registry) (is : IsS
 
   -- ---- what is posted
 
-  silent-contact : (P : Posting → Type 0) (name : List ℕ) (x : Contact) → get u.contacts name ≡ Some x → (chosen.contacts name ≡ false → AllPost P (lapse_contact t x).postings) → AllPost P (lapse_contact t x).postings
-  silent-contact P name x at other = by (chosen.contacts name) refl
-    where
-      by : (b : Bool) → chosen.contacts name ≡ b → AllPost P (lapse_contact t x).postings
-      by true e = subst (λ (l : Lapsed Contact). AllPost P l.postings) (sym (contact-left-so name x at e)) tt
-      by false e = other e
-
-  silent-domain : (P : Posting → Type 0) (name : List ℕ) (d : Domain) → get u.domains name ≡ Some d → (chosen.domains name ≡ false → AllPost P (lapse p t d).postings) → AllPost P (lapse p t d).postings
-  silent-domain P name d at other = by (chosen.domains name) refl
-    where
-      by : (b : Bool) → chosen.domains name ≡ b → AllPost P (lapse p t d).postings
-      by true e = subst (λ (l : Lapsed Domain). AllPost P l.postings) (sym (domain-left-so name d at e)) tt
-      by false e = other e
-
   abbrev all_postings : List Posting
   all_postings = postings (λ name. lapse_contact t) (λ name. lapse p t) u
 
+  -- of all that is posted, what is so of all that contacts post and of what domains post that aren't concerned
+  all-post : (P : Posting → Type 0) → ((name : List ℕ) (x : Contact) → get u.contacts name ≡ Some x → chosen.contacts name ≡ false → AllPosted P (lapse_contact t x).postings)
+      → ((name : List ℕ) (d : Domain) → get u.domains name ≡ Some d → chosen.domains name ≡ false → AllPosted P (lapse p t d).postings) → AllPosted P all_postings
+  all-post P of-contact of-domain = postings-posted p t P u (λ name x at. ⊎_elim
+      (λ chose. subst (λ (l : Lapsed Contact). AllPosted P l.postings) (sym (contact-left-so name x at chose)) tt) (λ none. of-contact name x at none) (cases_Bool (chosen.contacts name)))
+      (λ name d at. ⊎_elim
+      (λ chose. subst (λ (l : Lapsed Domain). AllPosted P l.postings) (sym (domain-left-so name d at chose)) tt) (λ none. of-domain name d at none) (cases_Bool (chosen.domains name)))
+
   -- no line of them is on a domain that is named
-  abbrev off_line : Roid → Posting → Type 0
-  off_line roid e = AllOff roid (e ∷ [])
-
-  to-off : (roid : Roid) (es : List Posting) → AllPost (off_line roid) es → AllOff roid es
-  to-off roid [] all = tt
-  to-off roid (e ∷ es) all = (all.0.0, to-off roid es all.1)
-
-  from-off : (roid : Roid) (es : List Posting) → AllOff roid es → AllPost (off_line roid) es
-  from-off roid [] all = tt
-  from-off roid (e ∷ es) all = ((all.0, tt), from-off roid es all.1)
-
   postings-off : (n : List ℕ) (e : Domain) → is_in n g.domains ≡ true → get u.domains n ≡ Some e → AllOff e.roid all_postings
-  postings-off n e named found = to-off e.roid all_postings
-      (post-both (off_line e.roid) (given (λ name x. (lapse_contact t x).postings) u.contacts) (given (λ name d. (lapse p t d).postings) u.domains)
-      (post-given (off_line e.roid) (λ name x. (lapse_contact t x).postings) u.contacts (λ name x at. from-off e.roid (lapse_contact t x).postings (completed-off p e.roid (due_by t x.transfer) x)))
-      (post-given (off_line e.roid) (λ name d. (lapse p t d).postings) u.domains (λ name d at. silent-domain (off_line e.roid) name d at (λ none. from-off e.roid (lapse p t d).postings (domain-off p e.roid t d (roid-off name d at none n e named found))))))
+  postings-off n e named found = all-post (λ (f : Posting). IsOff e.roid f.what)
+      (λ name x at none. completed-off p e.roid (due_by t x.transfer) x) (λ name d at none. domain-off p e.roid t d (roid-off name d at none n e named found))
 
   -- so the graces of a domain that is named are the same
   pub graces-now : (n : List ℕ) (e : Domain) → is_in n g.domains ≡ true → get u.domains n ≡ Some e → graces_of p (now p u) e ≡ graces_of p u e
@@ -234,40 +193,39 @@ module _ (p : PolicyRules) (r : Option ℕ) (g : Names) (u : Registry) (is : IsS
       let P : List Line → Type 0 = λ ls. graces p t e.roid e.transferred ls ≡ graces_of p u e in
       keep-posted P e.sponsor all_postings (off-keep e.roid P (graces-kept-off p t e.roid e.transferred (graces_of p u e)) e.sponsor all_postings (postings-off n e named found)) u refl
 
-  -- ---- what domains name
+  -- ---- tests of domains
 
-  module _ (test : Domain → Bool) (linked : (d e : Domain) → e.links ≡ d.links → test e ≡ test d)
-      (chose : (name : List ℕ) (d : Domain) → get u.domains name ≡ Some d → test d ≡ true → chosen.domains name ≡ true) where
-    link-passes : (name : List ℕ) (d : Domain) → get u.domains name ≡ Some d → Passes test (lapse p t d).object d
-    link-passes name d at = by (test d) refl
-      where
-        after-one : (o : Option Domain) → (lapse p t d).object ≡ o → test d ≡ false → option_map_or test o false ≡ false
-        after-one None is none = refl
-        after-one (Some e) is none = domain-left p t d (λ (z : Domain). test z ≡ false) (λ x gone. none) (λ alive years. linked d _ refl ∙ none) (λ alive x due years. linked d _ refl ∙ none) e is
+  -- it fails of what isn't concerned, as it is and as it is left
+  abbrev Fails : (Domain → Bool) → Domain → Type 0
+  Fails test d = (test d ≡ false) × ((e : Domain) → (lapse p t d).object ≡ Some e → test e ≡ false)
 
-        by : (b : Bool) → test d ≡ b → Passes test (lapse p t d).object d
-        by true e = ap (λ (l : Lapsed Domain). option_map_or test l.object false) (domain-left-so name d at (chose name d at e))
-        by false e = after-one (lapse p t d).object refl e ∙ sym e
+  module _ (test : Domain → Bool) (fails : (name : List ℕ) (d : Domain) → get u.domains name ≡ Some d → chosen.domains name ≡ false → Fails test d) where
+    passes : (name : List ℕ) (d : Domain) → get u.domains name ≡ Some d → Passes test (lapse p t d).object d
+    passes name d at = ⊎_elim (λ chose. ap (λ (l : Lapsed Domain). option_map_or test l.object false) (domain-left-so name d at chose))
+        (λ none. let off = fails name d at none in fails-left test (lapse p t d).object off.1 ∙ sym off.0) (cases_Bool (chosen.domains name))
 
-    any-now : list_any test (values (now p u).domains) ≡ list_any test (values u.domains)
+    measure-now : {A : Type 0} (measure : List Domain → A) (step : Bool → A → A) → ((rest : A) → step false rest ≡ rest)
+        → ((d : Domain) (ds : List Domain) → measure (d ∷ ds) ≡ step (test d) (measure ds)) → measure (values (now p u).domains) ≡ measure (values u.domains)
     unfolding domains_at
-    any-now = ap (λ (es : List (List ℕ × Domain)). list_any test (values_of es)) (entries-kept (slice_cmp nat_cmp) (left (λ name. lapse p t)) nat_list_cmp_total names_apart u.domains)
-        ∙ any-left (left (λ name. lapse p t)) test (entries u.domains) (each_entry (slice_cmp nat_cmp) nat_list_cmp_total names_apart (λ name d. Passes test (lapse p t d).object d) u.domains link-passes)
+    measure-now measure step skips steps = ap (λ (es : List (List ℕ × Domain)). measure (values_of es)) (entries-kept (slice_cmp nat_cmp) (left (λ name. lapse p t)) nat_list_cmp_total names_apart u.domains)
+        ∙ measure-left test measure step skips steps (left (λ name. lapse p t)) (entries u.domains) (each_entry (slice_cmp nat_cmp) nat_list_cmp_total names_apart (λ name d. Passes test (lapse p t d).object d) u.domains passes)
 
-  chosen-by : (name : List ℕ) (d : Domain) → get u.domains name ≡ Some d → (chosen.domains name ≡ false → ⊥) → chosen.domains name ≡ true
-  chosen-by name d at never = by (chosen.domains name) refl
-    where
-      by : (b : Bool) → chosen.domains name ≡ b → b ≡ true
-      by true e = refl
-      by false e = absurd (never e)
+  -- what domains name
+  linked-now : (test : Domain → Bool) → ((d e : Domain) → e.links ≡ d.links → test e ≡ test d)
+      → ((name : List ℕ) (d : Domain) → get u.domains name ≡ Some d → chosen.domains name ≡ false → test d ≡ false)
+      → list_any test (values (now p u).domains) ≡ list_any test (values u.domains)
+  linked-now test linked fails = measure-now test (λ name d at none.
+      let off = fails name d at none in
+      (off, domain-left p t d (λ (z : Domain). test z ≡ false) (λ x gone. off) (λ alive years. linked d _ refl ∙ off) (λ alive x due years. linked d _ refl ∙ off)))
+      (list_any test) (λ b rest. b || rest) (λ rest. refl) (λ d ds. refl)
 
   pub contact-linked : (contact : List ℕ) → is_in contact g.contacts ≡ true → is_linked_contact (now p u) contact ≡ is_linked_contact u contact
-  contact-linked contact named = any-now (λ d. names_contact contact d.links) (λ d e same. ap (names_contact contact) same)
-      (λ name d at yes. chosen-by name d at (λ none. let never : true ≡ false = sym yes ∙ none-in (λ n. names_contact n d.links) contact g.contacts named (links-off name d at none).0 in cc))
+  contact-linked contact named = linked-now (λ d. names_contact contact d.links) (λ d e same. ap (names_contact contact) same)
+      (λ name d at none. none-in (λ n. names_contact n d.links) contact g.contacts named (links-off name d at none).0)
 
   pub host-linked : (host : List ℕ) → is_in host g.hosts ≡ true → is_linked_host (now p u) host ≡ is_linked_host u host
-  host-linked host named = any-now (λ d. names_host host d.links) (λ d e same. ap (names_host host) same)
-      (λ name d at yes. chosen-by name d at (λ none. let never : true ≡ false = sym yes ∙ none-in (λ n. names_host n d.links) host g.hosts named (links-off name d at none).1 in cc))
+  host-linked host named = linked-now (λ d. names_host host d.links) (λ d e same. ap (names_host host) same)
+      (λ name d at none. none-in (λ n. names_host n d.links) host g.hosts named (links-off name d at none).1)
 
   -- ---- contacts are there still
 
@@ -291,33 +249,19 @@ module _ (p : PolicyRules) (r : ℕ) (c : Command) (u : Registry) (is : IsSettle
 
   pub account-now : account_of r (now p u) ≡ account_of r u
   unfolding accounts_at
-  account-now = elsewhere-posted r (all_postings p (Some r) (named_by c) u is)
-      (post-both (IsElsewhere r) (given (λ name x. (lapse_contact moment x).postings) u.contacts) (given (λ name d. (lapse p moment d).postings) u.domains)
-      (post-given (IsElsewhere r) (λ name x. (lapse_contact moment x).postings) u.contacts
-      (λ name x at. silent-contact p (Some r) (named_by c) u is (IsElsewhere r) name x at (λ none. contact-elsewhere r moment x (contact-not-about p (Some r) (named_by c) u is name x at none))))
-      (post-given (IsElsewhere r) (λ name d. (lapse p moment d).postings) u.domains
-      (λ name d at. silent-domain p (Some r) (named_by c) u is (IsElsewhere r) name d at (λ none. domain-elsewhere r moment p d (domain-not-about p (Some r) (named_by c) u is name d at none))))) u
+  account-now = elsewhere-posted r (all_postings p (Some r) (named_by c) u is) (all-post p (Some r) (named_by c) u is (IsElsewhere r)
+      (λ name x at none. contact-elsewhere r moment p x (contact-not-about p (Some r) (named_by c) u is name x at none))
+      (λ name d at none. domain-elsewhere r moment p d (domain-not-about p (Some r) (named_by c) u is name d at none))) u
 
   abbrev is_mine : Domain → Bool
   is_mine d = is_party r d.sponsor d.transfer
 
-  mine-passes : (name : List ℕ) (d : Domain) → get u.domains name ≡ Some d → Passes is_mine (lapse p moment d).object d
-  mine-passes name d at = by ((concerned (Some r) (named_by c) u).domains name) refl
-    where
-      after-one : (o : Option Domain) → (lapse p moment d).object ≡ o → is_about (Some r) d.sponsor d.transfer ≡ false → option_map_or is_mine o false ≡ false
-      after-one None is none = refl
-      after-one (Some e) is none =
-          let party : is_mine d ≡ false = not-party r d.sponsor moment d.transfer none in
-          domain-left p moment d (λ (z : Domain). is_mine z ≡ false) (λ x gone. party) (λ alive years. party) (λ alive x due years. ap (λ (b : Bool). b || false) (requester-off r d.sponsor moment d.transfer none x due)) e is
-
-      by : (b : Bool) → (concerned (Some r) (named_by c) u).domains name ≡ b → Passes is_mine (lapse p moment d).object d
-      by true e = ap (λ (l : Lapsed Domain). option_map_or is_mine l.object false) (domain-left-so p (Some r) (named_by c) u is name d at e)
-      by false e = let none = domain-not-about p (Some r) (named_by c) u is name d at e in after-one (lapse p moment d).object refl none ∙ sym (not-party r d.sponsor moment d.transfer none)
-
   pub held-now : held r (now p u) ≡ held r u
-  unfolding domains_at
-  held-now = ap (λ (es : List (List ℕ × Domain)). count is_mine (values_of es)) (entries-kept (slice_cmp nat_cmp) (left (λ name. lapse p moment)) nat_list_cmp_total names_apart u.domains)
-      ∙ count-left (left (λ name. lapse p moment)) is_mine (entries u.domains) (each_entry (slice_cmp nat_cmp) nat_list_cmp_total names_apart (λ name d. Passes is_mine (lapse p moment d).object d) u.domains mine-passes)
+  held-now = measure-now p (Some r) (named_by c) u is is_mine (λ name d at none.
+      let apart = domain-not-about p (Some r) (named_by c) u is name d at none in
+      let party : is_mine d ≡ false = not-party r d.sponsor moment d.transfer apart in
+      (party, domain-left p moment d (λ (z : Domain). is_mine z ≡ false) (λ x gone. party) (λ alive years. party) (λ alive x due years. ap (λ (b : Bool). b || false) (requester-off r d.sponsor moment d.transfer apart x due))))
+      (count is_mine) one_if (λ rest. refl) (count-cons is_mine)
 
   -- ---- what is found at the names of the command
 

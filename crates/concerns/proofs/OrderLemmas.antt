@@ -1,6 +1,6 @@
 -- An order of the operator is answered, and changes the registry, in the same way whether all that is due
 -- has lapsed or what an info of its object concerns.
-use Rattle.std.proofs.Common.{◌≡◌, inr, ℕ, Bool, true, false, cond, List, [], Option, Some, None, option_and_then, option_map, refl, sym, ap, ◌∙◌, ℤ}
+use Rattle.std.proofs.Common.{◌≡◌, inr, ℕ, true, false, List, [], ◌∷◌, Option, Some, None, option_and_then, option_map, refl, sym, ap, ◌∙◌, ℤ}
 use Rattle.std.specs.FinMap.{get}
 use Rattle.objects.specs.declared.contact.Contact.{Contact}
 use Rattle.objects.specs.declared.domain.Domain.{Domain}
@@ -17,31 +17,25 @@ use Rattle.model.specs.declared.object.Object.TheVariants as objects
 use Rattle.model.specs.Lapse.{now}
 use Rattle.model.specs.Objects.{object_at}
 use Rattle.model.specs.Registry.{Registry}
-use Rattle.decisions.specs.declared.change.Change.{Change}
 use Rattle.decisions.specs.declared.order.OrderDecision.{OrderDecision}
 use Rattle.decisions.specs.Changes.{changed_all}
 use Rattle.protocol.specs.Requests.{holds_of}
-use Rattle.concerns.specs.declared.given.Names.{Names}
-use Rattle.concerns.specs.Concerns.{IsSettledIn, concerned, is_about, is_concerned}
+use Rattle.concerns.specs.Concerns.{IsSettledIn, concerned, contact_name, domain_name}
 use Rattle.concerns.specs.ConcernLaws.{IsSettledFor}
 use Rattle.concerns.specs.Names.{named_of, no_names}
 use Rattle.decisions.specs.Orders.{cents_of, decided_order, deposited, deposited_to, order_answer, order_changes, order_effect, status_decision}
-use Rattle.concerns.proofs.CommandLemmas.{contact-borne, domain-borne}
-use Rattle.concerns.proofs.ChangeLemmas.{AllSuit, changed-now}
-use Rattle.concerns.proofs.ConcernLemmas.{in-itself}
+use Rattle.concerns.proofs.ChangeLemmas.{AllSuit, changed-now, suits-if}
+use Rattle.concerns.proofs.ConcernLemmas.{in-itself, meant-borne}
 use Rattle.concerns.proofs.FactsLemmas.{contact-at, domain-at}
 use Rattle.rules.specs.Orders.{order_code}
 
 -- ---- the object under a name
 
-module _ (p : PolicyRules) (kind : ObjectKind) (name : List ℕ) (u : Registry) (is : IsSettledIn p (concerned None (named_of kind name) u) u) where
-  pub object-now : object_at (now p u) kind name ≡ object_at u kind name
-  object-now = by kind is
-    where
-      by : (k : ObjectKind) → IsSettledIn p (concerned None (named_of k name) u) u → object_at (now p u) k name ≡ object_at u k name
-      by kinds.Contact is = ap (option_map objects.Contact) (contact-at p None (named_of kinds.Contact name) u is name (in-itself name []))
-      by kinds.Domain is = ap (option_map objects.Domain) (domain-at p None (named_of kinds.Domain name) u is name (in-itself name []))
-      by kinds.Host is = refl
+pub object-now : (p : PolicyRules) (kind : ObjectKind) (name : List ℕ) (u : Registry) → IsSettledIn p (concerned None (named_of kind name) u) u
+    → object_at (now p u) kind name ≡ object_at u kind name
+object-now p kinds.Contact name u is = ap (option_map objects.Contact) (contact-at p None (named_of kinds.Contact name) u is name (in-itself name []))
+object-now p kinds.Domain name u is = ap (option_map objects.Domain) (domain-at p None (named_of kinds.Domain name) u is name (in-itself name []))
+object-now p kinds.Host name u is = refl
 
 -- ---- statuses
 
@@ -52,11 +46,11 @@ module _ (p : PolicyRules) (o : StatusOrder) (u : Registry) where
 
   suits-contact : (name : List ℕ) (found : Option Contact) → get u.contacts name ≡ found → AllSuit p None (named_of kinds.Contact name) u (order_changes o (option_map objects.Contact found))
   suits-contact name None at = tt
-  suits-contact name (Some x) at = (contact-borne None (named_of kinds.Contact name) u name x (in-itself name []) at, tt)
+  suits-contact name (Some x) at = (meant-borne contact_name u.contacts (name ∷ []) name x _ (in-itself name []) at, tt)
 
   suits-domain : (name : List ℕ) (found : Option Domain) → get u.domains name ≡ found → AllSuit p None (named_of kinds.Domain name) u (order_changes o (option_map objects.Domain found))
   suits-domain name None at = tt
-  suits-domain name (Some d) at = (domain-borne None (named_of kinds.Domain name) u name d (in-itself name []) at, tt)
+  suits-domain name (Some d) at = (meant-borne domain_name u.domains (name ∷ []) name d _ (in-itself name []) at, tt)
 
   suits-host : (name : List ℕ) (found : Option Host) → AllSuit p None (named_of kinds.Host name) u (order_changes o (option_map objects.Host found))
   suits-host name None = tt
@@ -67,19 +61,15 @@ module _ (p : PolicyRules) (o : StatusOrder) (u : Registry) where
   suits-at kinds.Domain name = suits-domain name (get u.domains name) refl
   suits-at kinds.Host name = suits-host name (get u.hosts name)
 
-  suits-if : (g : Names) (b : Bool) (changes : List Change) → AllSuit p None g u changes → AllSuit p None g u (cond b changes [])
-  suits-if g true changes h = h
-  suits-if g false changes h = tt
-
   abbrev decided_at : Option Object → OrderDecision
   decided_at found = decided_order o found (order_code o found)
 
   changes-now : (name : Option (List ℕ)) → IsSettledFor p o.kind name u
       → now p (changed_all p (decided_at (option_and_then (object_at u o.kind) name)).changes u) ≡ now p (changed_all p (decided_at (option_and_then (object_at u o.kind) name)).changes (now p u))
-  changes-now None is = changed-now p None no_names u is (decided_at None).changes (suits-if no_names (is_accepted (order_code o None)) [] tt)
+  changes-now None is = changed-now p None no_names u is (decided_at None).changes (suits-if p None no_names u [] (is_accepted (order_code o None)) tt)
   changes-now (Some name) is =
       let found : Option Object = object_at u o.kind name in
-      changed-now p None (named_of o.kind name) u is (decided_at found).changes (suits-if (named_of o.kind name) (is_accepted (order_code o found)) (order_changes o found) (suits-at o.kind name))
+      changed-now p None (named_of o.kind name) u is (decided_at found).changes (suits-if p None (named_of o.kind name) u (order_changes o found) (is_accepted (order_code o found)) (suits-at o.kind name))
 
   module _ (is : IsSettledFor p o.kind (name_ordered p.zone o) u) where
     status-now : status_decision p.zone o (now p u) ≡ status_decision p.zone o u
@@ -102,19 +92,15 @@ module _ (p : PolicyRules) (u : Registry) where
   deposit-cents id None = tt
   deposit-cents id (Some cents) = deposit-place cents (place_of id p)
 
-  about-none : (o : Option Contact) → holds_of (λ (x : Contact). is_about None x.sponsor x.transfer) o ≡ true → ⊥
-  about-none None e = cc
-  about-none (Some x) e = cc
-
-  concerned-none : (o : Option Domain) → holds_of (is_concerned None no_names u) o ≡ true → ⊥
-  concerned-none None e = cc
-  concerned-none (Some d) e = cc
+  none-holds : {X : Type 0} (o : Option X) → holds_of (λ (x : X). false) o ≡ true → ⊥
+  none-holds None e = cc
+  none-holds (Some x) e = cc
 
   -- nothing is concerned where nothing is named and nobody asks
   pub nothing-due : IsSettledIn p (concerned None no_names u) u
   nothing-due = record {
-    contacts = λ name x at e. absurd (about-none (get u.contacts name) e);
-    domains = λ name d at e. absurd (concerned-none (get u.domains name) e);
+    contacts = λ name x at e. absurd (none-holds (get u.contacts name) e);
+    domains = λ name d at e. absurd (none-holds (get u.domains name) e);
   }
 
   pub deposit-effect-now : (id : List ℕ) (cents : ℤ) → now p (order_effect p (orders.Deposit id cents) u) ≡ now p (order_effect p (orders.Deposit id cents) (now p u))
