@@ -1,48 +1,35 @@
 -- An account without its deposits: what is done to it is done to what is left.
 use Rattle.std.proofs.Common.{◌≡◌, ℕ, Bool, true, false, cond, not, ◌&&◌, ◌==◌, List, [], ◌∷◌, ◌++◌, map, filter, Option, Some, None, refl, sym, ap, ◌∙◌, arith, eqb-true}
-use Rattle.std.specs.Prelude.{is_some, nat_lt}
 use Rattle.std.specs.declared.cmp.Ordering.TheVariants.{Less, Equal, Greater}
-use Rattle.std.specs.Cmp.Lexicographic.{slice_cmp}
-use Rattle.std.specs.List.{list_any, sum_by}
-use Rattle.std.specs.Ordering.{is_le, nat_cmp, ordering_then}
 use Rattle.std.proofs.lemmas.Bool.Decides.{nat_tests}
 use Rattle.std.proofs.lemmas.List.Sums.{sum_by-cons}
 use Rattle.std.proofs.lemmas.Map.Views.{any-filter_same}
-use Rattle.accounts.specs.declared.account.Account.{Account}
 use Rattle.accounts.specs.declared.entries.LapseEntry.{LapseEntry}
 use Rattle.accounts.specs.declared.entries.LapseEntry.TheVariants.{Renewal, Start, Notice}
-use Rattle.accounts.specs.declared.line.Line.{Line}
 use Rattle.accounts.specs.declared.line.LineKind.{LineKind}
 use Rattle.accounts.specs.declared.line.LineKind.TheVariants as kinds
-use Rattle.accounts.specs.Entries.{entered, renewal_line, with_lines}
 use Rattle.accounts.specs.Lines.{in_order, is_kind, is_on, kind_rank, maybe_number, numbers, roid_numbers, transfer_refunded, transfer_started}
-use Rattle.accounts.proofs.LineLaws.{lines_in_order}
 use Rattle.basis.specs.Bag.{add, bag_of, precedes, remade}
 use Rattle.basis.proofs.BagLaws.{filter-bag_of}
-use Rattle.lifecycle.specs.declared.change.AccountChange.{AccountChange}
-use Rattle.lifecycle.specs.declared.change.AccountChange.TheVariants.{Charge, RefundRunning, RefundTransfer, Lapse, Notify, Ack, CountCommand, TakeSerial}
-use Rattle.lifecycle.specs.declared.change.RunningRefund.{RunningRefund}
 use Rattle.lifecycle.specs.Changes.{changed, refunded_by}
 use Rattle.lifecycle.specs.Graces.{gives, graces, period_of, runs, runs_from}
-use Rattle.lifecycle.specs.Refunds.{cents_back, given_back, years_back}
-use Rattle.objects.specs.declared.roid.Roid.{Roid}
 use Rattle.policy.specs.declared.days.Period.{Period}
-use Rattle.policy.specs.Rules.{PolicyRules}
-use Rattle.isolation.specs.Redaction.{is_charge, without_deposits}
+use Rattle.isolation.proofs.Words.{is_some, nat_lt, slice_cmp, list_any, sum_by, is_le, nat_cmp, ordering_then, not-false, not-true, Account, Line, entered}
+use Rattle.isolation.proofs.Words.{renewal_line, with_lines, lines_in_order, AccountChange, Charge, RefundRunning, RefundTransfer, Lapse}
+use Rattle.isolation.proofs.Words.{RunningRefund, cents_back, given_back, years_back, Roid, PolicyRules, is_charge}
+use Rattle.isolation.proofs.Words.{without_deposits}
 
 -- ---- lists without what fails a test
 
 module _ {A : Type 0} (le : A → A → Bool) (test : A → Bool) (x : A) where
-  skip-step : (y : A) (ys : List A) (b c : Bool) → test x ≡ false → filter test (add le x ys) ≡ filter test ys
-      → filter test (cond b (x ∷ y ∷ ys) (y ∷ add le x ys)) ≡ filter test (y ∷ ys)
-  skip-step y ys true c fails ih = ap (λ (t : Bool). cond t (x ∷ filter test (y ∷ ys)) (filter test (y ∷ ys))) fails
-  skip-step y ys false c fails ih = ap (λ (zs : List A). cond (test y) (y ∷ zs) zs) ih
-
   -- what fails it is left out where it is added
   pub filter-skip : test x ≡ false → (ys : List A) → filter test (add le x ys) ≡ filter test ys
   unfolding add
   filter-skip fails [] = ap (λ (t : Bool). cond t (x ∷ []) []) fails
-  filter-skip fails (y ∷ ys) = skip-step y ys (le x y) false fails (filter-skip fails ys)
+  filter-skip fails (y ∷ ys) = elim (le x y) as (λ (b : Bool). filter test (cond b (x ∷ y ∷ ys) (y ∷ add le x ys)) ≡ filter test (y ∷ ys)) [
+    | true ↦ ap (λ (t : Bool). cond t (x ∷ filter test (y ∷ ys)) (filter test (y ∷ ys))) fails
+    | false ↦ ap (λ (zs : List A). cond (test y) (y ∷ zs) zs) (filter-skip fails ys)
+  ]
 
   module _ (passes : test x ≡ true) (behind : (y : A) → test y ≡ false → le x y ≡ false) where
     keep-later : (y : A) (ys : List A) (c : Bool) → test y ≡ c → le x y ≡ false → add le x (cond c (y ∷ filter test ys) (filter test ys)) ≡ cond c (y ∷ add le x (filter test ys)) (add le x (filter test ys))
@@ -97,18 +84,10 @@ module _ {A : Type 0} (test : A → Bool) where
 
 -- what isn't a charge is a deposit
 deposit-rank : (l : Line) → is_charge l ≡ false → kind_rank l.kind ≡ 0
-deposit-rank l e = eqb-true (kind_rank l.kind) 0 (by (is_kind l.kind kinds.Deposit) e)
-  where
-    by : (b : Bool) → not b ≡ false → b ≡ true
-    by true e = refl
-    by false e = cc
+deposit-rank l e = eqb-true (kind_rank l.kind) 0 (not-false (is_kind l.kind kinds.Deposit) e)
 
 charge-rank : (l : Line) → is_charge l ≡ true → (kind_rank l.kind == 0) ≡ false
-charge-rank l e = by (is_kind l.kind kinds.Deposit) e
-  where
-    by : (b : Bool) → not b ≡ true → b ≡ false
-    by true e = cc
-    by false e = refl
+charge-rank l e = not-true (is_kind l.kind kinds.Deposit) e
 
 behind-all : (m : ℕ) → nat_lt m 0 ≡ false
 behind-all m = grind (arith, nat_tests)
@@ -131,11 +110,7 @@ module _ (l : Line) (deposit : is_charge l ≡ false) where
 
   no-period : (kind : LineKind) → kind_rank kind ≡ 0 → period_of kind ≡ None
   no-period kinds.Deposit z = refl
-  no-period kinds.Create z = absurd (omega (arith, z))
-  no-period kinds.Renew z = absurd (omega (arith, z))
-  no-period kinds.AutoRenew z = absurd (omega (arith, z))
-  no-period kinds.Transfer z = absurd (omega (arith, z))
-  no-period kinds.Restore z = absurd (omega (arith, z))
+  no-period kind z = absurd (omega (arith, z))
 
   never : (a b : Bool) → (a && (b && false)) ≡ false
   never true true = refl
@@ -200,13 +175,7 @@ turned-kind false l m e = refl
 -- what is left of the change of an account, by what was left of it
 left_changed : PolicyRules → AccountChange → Account → Account
 left_changed p (Charge line) a = with_lines (λ lines. cond (is_charge line) (add in_order line lines) lines) a
-left_changed p (RefundRunning x) a = changed p (RefundRunning x) a
-left_changed p (RefundTransfer x) a = changed p (RefundTransfer x) a
-left_changed p (Lapse what) a = changed p (Lapse what) a
-left_changed p (Notify n) a = changed p (Notify n) a
-left_changed p (Ack id) a = changed p (Ack id) a
-left_changed p CountCommand a = changed p CountCommand a
-left_changed p TakeSerial a = changed p TakeSerial a
+left_changed p what a = changed p what a
 
 entered-left : (what : LapseEntry) (a : Account) → without_deposits (entered what a) ≡ entered what (without_deposits a)
 entered-left (Renewal x) a = ap (λ (lines : List Line). record a { lines = lines }) (add-left (renewal_line x) true refl a.lines)
@@ -219,10 +188,7 @@ changed-left p (Charge line) a = ap (λ (lines : List Line). record a { lines = 
 changed-left p (RefundRunning x) a = ap (λ (lines : List Line). record a { lines = lines }) (remade-left (refunded_by p x) (refund-kind p x) a.lines)
 changed-left p (RefundTransfer x) a = ap (λ (lines : List Line). record a { lines = lines }) (remade-left (transfer_refunded x) (λ l. turned-kind _ l (record l { refunded = Some x.moment }) refl) a.lines)
 changed-left p (Lapse what) a = entered-left what a
-changed-left p (Notify n) a = refl
-changed-left p (Ack id) a = refl
-changed-left p CountCommand a = refl
-changed-left p TakeSerial a = refl
+changed-left p what a = refl
 
 -- accounts that are one but for deposits stay so
 pub account-changed : (p : PolicyRules) (what : AccountChange) (a b : Account) → without_deposits a ≡ without_deposits b → without_deposits (changed p what a) ≡ without_deposits (changed p what b)

@@ -1,36 +1,19 @@
 -- Registries that are one but for what is redacted stay so, where each changes as the other.
 use Rattle.std.proofs.Common.{◌≡◌, ◌≢◌, ℕ, max, Bool, true, false, cond, ◌==◌, List, [], ◌∷◌, Option, Some, None, refl, sym, ap, subst, ◌∙◌, eqb-true}
-use Rattle.std.specs.Prelude.{unwrap_or}
-use Rattle.std.specs.Cmp.{nat_cmp_total}
-use Rattle.std.specs.Cmp.Lexicographic.{slice_cmp, nat_list_cmp_total}
-use Rattle.std.specs.FinMap.{FinMap, get, insert, remove, nat_cmp-IsAntisymmetric}
-use Rattle.std.specs.Ordering.{nat_cmp}
-use Rattle.accounts.specs.declared.account.Account.{Account}
-use Rattle.accounts.specs.declared.line.Line.{Line}
-use Rattle.accounts.specs.declared.entries.Posting.{Posting}
-use Rattle.accounts.specs.Account.{empty_account}
-use Rattle.accounts.specs.Entries.{entered}
-use Rattle.basis.specs.Maps.{map_values}
-use Rattle.basis.proofs.MapLemmas.{names_apart, map_values-insert, map_values-remove, map_values-twice}
-use Rattle.lifecycle.specs.declared.change.AccountChange.{AccountChange}
-use Rattle.lifecycle.specs.declared.change.AccountChange.TheVariants.{Charge}
 use Rattle.lifecycle.specs.Changes.{changed as account_changed}
-use Rattle.model.specs.Registry.{Registry}
-use Rattle.objects.specs.declared.contact.Contact.{Contact}
-use Rattle.objects.specs.declared.domain.Domain.{Domain}
-use Rattle.objects.specs.declared.host.Host.{Host}
-use Rattle.policy.specs.Rules.{PolicyRules}
-use Rattle.decisions.specs.declared.change.Change.{Change}
 use Rattle.decisions.specs.declared.change.Change.TheVariants.{MoveClock, OpenAccount, PutContact, DropContact, PutDomain, DropDomain, PutHost, DropHost, RenameHost, LapseContact, LapseDomain, Post}
-use Rattle.decisions.specs.Changes.{changed, changed_all, host_renamed, itself, may_rename, with_host_renamed}
-use Rattle.isolation.specs.Redaction.{Objects, AreOne, is_charge, redacted, redacted_account, redacted_contact, redacted_domain, without_deposits}
 use Rattle.isolation.proofs.AccountLemmas.{account-changed, account-entered, deposited-left}
 use Rattle.isolation.proofs.RedactionLemmas.{account-found}
+use Rattle.isolation.proofs.Words.{unwrap_or, nat_cmp_total, slice_cmp, nat_list_cmp_total, FinMap, get, insert, remove, nat_cmp-IsAntisymmetric, nat_cmp}
+use Rattle.isolation.proofs.Words.{Account, Line, Posting, empty_account, entered, map_values, names_apart, map_values-insert, map_values-remove}
+use Rattle.isolation.proofs.Words.{map_values-twice, AccountChange, Charge, Registry, Contact, Domain, Host, PolicyRules, Change, changed, changed_all}
+use Rattle.isolation.proofs.Words.{host_renamed, itself, may_rename, with_host_renamed, Objects, AreOne, is_charge, redacted_account}
+use Rattle.isolation.proofs.Words.{redacted_contact, redacted_domain, without_deposits}
 
-abbrev Named : Type 0 → Type 0
+abbrev pub Named : Type 0 → Type 0
 Named X = FinMap (slice_cmp nat_cmp) X
 
-abbrev Accounts : Type 0
+abbrev pub Accounts : Type 0
 Accounts = FinMap nat_cmp Account
 
 -- ---- accounts
@@ -68,6 +51,21 @@ module _ (r q : ℕ) (f g : Account → Account) (alike : ChangesAlike r q f g) 
       ∙ (λ i. insert (one i) q (alike (of_map a) (of_map b) (account-found r q a ∙ ap of_map one ∙ sym (account-found r q b)) i))
       ∙ sym (map_values-insert nat_cmp nat_cmp_total nat_cmp-IsAntisymmetric (redacted_account r) b q (g (of_map b)))
 
+-- ---- objects by their names
+
+module _ {X : Type 0} (out : X → X) (m n : Named X) (one : map_values (λ (name : List ℕ). out) m ≡ map_values (λ (name : List ℕ). out) n) where
+  put-left : (x y : X) → out x ≡ out y → {a b : List ℕ} → a ≡ b → map_values (λ (name : List ℕ). out) (insert m a x) ≡ map_values (λ (name : List ℕ). out) (insert n b y)
+  put-left x y same {a} {b} names =
+      map_values-insert (slice_cmp nat_cmp) nat_list_cmp_total names_apart (λ (name : List ℕ). out) m a x
+      ∙ (λ i. insert (one i) (names i) (same i))
+      ∙ sym (map_values-insert (slice_cmp nat_cmp) nat_list_cmp_total names_apart (λ (name : List ℕ). out) n b y)
+
+  drop-left : (name : List ℕ) → map_values (λ (name : List ℕ). out) (remove m name) ≡ map_values (λ (name : List ℕ). out) (remove n name)
+  drop-left name =
+      map_values-remove (slice_cmp nat_cmp) nat_list_cmp_total names_apart (λ (name : List ℕ). out) m name
+      ∙ (λ i. remove (one i) name)
+      ∙ sym (map_values-remove (slice_cmp nat_cmp) nat_list_cmp_total names_apart (λ (name : List ℕ). out) n name)
+
 -- ---- each change
 
 -- two changes leave registries one that were
@@ -75,38 +73,14 @@ pub record IsAlikeChange (p : PolicyRules) (r : ℕ) (touched : Objects) (x y : 
   pub leaves : (s t : Registry) → AreOne r touched s t → AreOne r touched (changed p x s) (changed p y t)
 
 module _ (p : PolicyRules) (r : ℕ) (touched : Objects) where
-  abbrev contacts_left : Named Contact → Named Contact
-  contacts_left m = map_values (λ name. redacted_contact r touched) m
-
-  abbrev domains_left : Named Domain → Named Domain
-  domains_left m = map_values (λ name. redacted_domain r touched) m
-
-  contacts-insert : (m : Named Contact) (name : List ℕ) (c : Contact) → contacts_left (insert m name c) ≡ insert (contacts_left m) name (redacted_contact r touched c)
-  contacts-insert m name c = map_values-insert (slice_cmp nat_cmp) nat_list_cmp_total names_apart (λ name. redacted_contact r touched) m name c
-
-  domains-insert : (m : Named Domain) (name : List ℕ) (d : Domain) → domains_left (insert m name d) ≡ insert (domains_left m) name (redacted_domain r touched d)
-  domains-insert m name d = map_values-insert (slice_cmp nat_cmp) nat_list_cmp_total names_apart (λ name. redacted_domain r touched) m name d
-
-  contacts-remove : (m : Named Contact) (name : List ℕ) → contacts_left (remove m name) ≡ remove (contacts_left m) name
-  contacts-remove m name = map_values-remove (slice_cmp nat_cmp) nat_list_cmp_total names_apart (λ name. redacted_contact r touched) m name
-
-  domains-remove : (m : Named Domain) (name : List ℕ) → domains_left (remove m name) ≡ remove (domains_left m) name
-  domains-remove m name = map_values-remove (slice_cmp nat_cmp) nat_list_cmp_total names_apart (λ name. redacted_domain r touched) m name
-
   pub put-contact-alike : (c d : Contact) → redacted_contact r touched c ≡ redacted_contact r touched d → IsAlikeChange p r touched (PutContact c) (PutContact d)
   put-contact-alike c d same = record {
-    leaves = λ s t one.
-        ap (λ (m : Named Contact). record (redacted r touched s) { contacts = m }) (contacts-insert s.contacts c.name c)
-        ∙ (λ i. record (one i) { contacts = insert (one i).contacts (same i).name (same i) })
-        ∙ sym (ap (λ (m : Named Contact). record (redacted r touched t) { contacts = m }) (contacts-insert t.contacts d.name d));
+    leaves = λ s t one i. record (one i) { contacts = put-left (redacted_contact r touched) s.contacts t.contacts (λ j. (one j).contacts) c d same (λ j. (same j).name) i };
   }
 
   pub put-domain-alike : (c d : Domain) → redacted_domain r touched c ≡ redacted_domain r touched d → IsAlikeChange p r touched (PutDomain c) (PutDomain d)
   put-domain-alike c d same = record {
-    leaves = λ s t one.
-        ap (λ (m : Named Domain). record (redacted r touched s) { domains = m }) (domains-insert s.domains c.name c)
-        ∙ (λ i. record (one i) { domains = insert (one i).domains (same i).name (same i) })
-        ∙ sym (ap (λ (m : Named Domain). record (redacted r touched t) { domains = m }) (domains-insert t.domains d.name d));
+    leaves = λ s t one i. record (one i) { domains = put-left (redacted_domain r touched) s.domains t.domains (λ j. (one j).domains) c d same (λ j. (same j).name) i };
   }
 
   pub give-alike : (q : ℕ) (x y : AccountChange) → ChangesAlike r q (account_changed p x) (account_changed p y) → IsAlikeChange p r touched (Post q x) (Post q y)
@@ -117,35 +91,23 @@ module _ (p : PolicyRules) (r : ℕ) (touched : Objects) where
   }
 
   contact-left-by : (name : List ℕ) (left : Option Contact) (s t : Registry) → AreOne r touched s t → AreOne r touched (changed p (LapseContact name left) s) (changed p (LapseContact name left) t)
-  contact-left-by name None s t one =
-      ap (λ (m : Named Contact). record (redacted r touched s) { contacts = m }) (contacts-remove s.contacts name)
-      ∙ (λ i. record (one i) { contacts = remove (one i).contacts name })
-      ∙ sym (ap (λ (m : Named Contact). record (redacted r touched t) { contacts = m }) (contacts-remove t.contacts name))
-  contact-left-by name (Some c) s t one =
-      ap (λ (m : Named Contact). record (redacted r touched s) { contacts = m }) (contacts-insert s.contacts name c)
-      ∙ (λ i. record (one i) { contacts = insert (one i).contacts name (redacted_contact r touched c) })
-      ∙ sym (ap (λ (m : Named Contact). record (redacted r touched t) { contacts = m }) (contacts-insert t.contacts name c))
+  contact-left-by name None s t one = λ i. record (one i) { contacts = drop-left (redacted_contact r touched) s.contacts t.contacts (λ j. (one j).contacts) name i }
+  contact-left-by name (Some c) s t one = λ i. record (one i) { contacts = put-left (redacted_contact r touched) s.contacts t.contacts (λ j. (one j).contacts) c c refl (λ j. name) i }
 
   domain-left-by : (name : List ℕ) (left : Option Domain) (s t : Registry) → AreOne r touched s t → AreOne r touched (changed p (LapseDomain name left) s) (changed p (LapseDomain name left) t)
-  domain-left-by name None s t one =
-      ap (λ (m : Named Domain). record (redacted r touched s) { domains = m }) (domains-remove s.domains name)
-      ∙ (λ i. record (one i) { domains = remove (one i).domains name })
-      ∙ sym (ap (λ (m : Named Domain). record (redacted r touched t) { domains = m }) (domains-remove t.domains name))
-  domain-left-by name (Some d) s t one =
-      ap (λ (m : Named Domain). record (redacted r touched s) { domains = m }) (domains-insert s.domains name d)
-      ∙ (λ i. record (one i) { domains = insert (one i).domains name (redacted_domain r touched d) })
-      ∙ sym (ap (λ (m : Named Domain). record (redacted r touched t) { domains = m }) (domains-insert t.domains name d))
+  domain-left-by name None s t one = λ i. record (one i) { domains = drop-left (redacted_domain r touched) s.domains t.domains (λ j. (one j).domains) name i }
+  domain-left-by name (Some d) s t one = λ i. record (one i) { domains = put-left (redacted_domain r touched) s.domains t.domains (λ j. (one j).domains) d d refl (λ j. name) i }
 
-  domains-renamed : (old new : List ℕ) (m : Named Domain) → domains_left (map_values (λ name. with_host_renamed old new) m) ≡ map_values (λ name. with_host_renamed old new) (domains_left m)
+  domains-renamed : (old new : List ℕ) (m : Named Domain) → map_values (λ name. redacted_domain r touched) (map_values (λ name. with_host_renamed old new) m) ≡ map_values (λ name. with_host_renamed old new) (map_values (λ name. redacted_domain r touched) m)
   domains-renamed old new m =
       map_values-twice (slice_cmp nat_cmp) nat_list_cmp_total names_apart (λ name. with_host_renamed old new) (λ name. redacted_domain r touched) (λ name d. redacted_domain r touched (with_host_renamed old new d)) (λ name d. refl) m
       ∙ sym (map_values-twice (slice_cmp nat_cmp) nat_list_cmp_total names_apart (λ name. redacted_domain r touched) (λ name. with_host_renamed old new) (λ name d. redacted_domain r touched (with_host_renamed old new d)) (λ name d. refl) m)
 
   renamed-alike : (old : List ℕ) (h : Host) (s t : Registry) → AreOne r touched s t → (b : Bool) → AreOne r touched (cond b (host_renamed old h s) s) (cond b (host_renamed old h t) t)
-  renamed-alike old h s t one true =
-      ap (λ (m : Named Domain). record (redacted r touched s) { hosts = insert (remove s.hosts old) h.name h; domains = m }) (domains-renamed old h.name s.domains)
-      ∙ (λ i. record (one i) { hosts = insert (remove (one i).hosts old) h.name h; domains = map_values (λ name. with_host_renamed old h.name) (one i).domains })
-      ∙ sym (ap (λ (m : Named Domain). record (redacted r touched t) { hosts = insert (remove t.hosts old) h.name h; domains = m }) (domains-renamed old h.name t.domains))
+  renamed-alike old h s t one true = λ i. record (one i) {
+    hosts = insert (remove (one i).hosts old) h.name h;
+    domains = (domains-renamed old h.name s.domains ∙ (λ j. map_values (λ name. with_host_renamed old h.name) (one j).domains) ∙ sym (domains-renamed old h.name t.domains)) i;
+  }
   renamed-alike old h s t one false = one
 
   -- the same change in both
@@ -173,9 +135,8 @@ module _ (p : PolicyRules) (r : ℕ) (touched : Objects) where
 
   abbrev pub AreAlikeChanges : List Change → List Change → Type 0
   AreAlikeChanges [] [] = Unit {0}
-  AreAlikeChanges [] (y ∷ ys) = ⊥
-  AreAlikeChanges (x ∷ xs) [] = ⊥
   AreAlikeChanges (x ∷ xs) (y ∷ ys) = IsAlikeChange p r touched x y × AreAlikeChanges xs ys
+  AreAlikeChanges xs ys = ⊥
 
   pub same-changes : (xs : List Change) → AreAlikeChanges xs xs
   same-changes [] = tt
@@ -183,6 +144,5 @@ module _ (p : PolicyRules) (r : ℕ) (touched : Objects) where
 
   pub changed-alike : (xs ys : List Change) → AreAlikeChanges xs ys → (s t : Registry) → AreOne r touched s t → AreOne r touched (changed_all p xs s) (changed_all p ys t)
   changed-alike [] [] alike s t one = one
-  changed-alike [] (y ∷ ys) alike s t one = absurd alike
-  changed-alike (x ∷ xs) [] alike s t one = absurd alike
   changed-alike (x ∷ xs) (y ∷ ys) alike s t one = changed-alike xs ys alike.1 (changed p x s) (changed p y t) (alike.0.leaves s t one)
+  changed-alike xs ys alike s t one = absurd alike

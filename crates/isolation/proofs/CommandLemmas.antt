@@ -1,81 +1,41 @@
 -- What another registrar's command changes, in registries that are one but for what is redacted.
 use Rattle.std.proofs.Common.{◌≡◌, ◌≢◌, inl, inr, ℕ, ◌+◌, ◌*◌, Bool, true, false, cond, not, ◌&&◌, ◌||◌, ◌==◌, List, [], ◌∷◌, Option, Some, None, is_none, option_and_then, option_map, refl, sym, ap, subst, ◌∙◌, eqb-true}
-use Rattle.std.specs.FinMap.{FinMap, get}
-use Rattle.std.specs.Ordering.{nat_cmp}
-use Rattle.std.specs.List.{list_any}
 use Rattle.std.specs.Str.{bytes_eq}
-use Rattle.std.specs.Cmp.Lexicographic.{slice_cmp}
-use Rattle.std.proofs.lemmas.Bool.{or_parts}
-use Rattle.accounts.specs.declared.account.Account.{Account}
 use Rattle.accounts.specs.declared.line.LineKind.TheVariants as lines
 use Rattle.accounts.specs.Lines.{is_same_roid}
-use Rattle.accounts.proofs.LineLaws.{itself-roid}
 use Rattle.facts.specs.declared.facts.ContactFacts.{ContactFacts}
 use Rattle.facts.specs.declared.facts.DomainFacts.{DomainFacts}
 use Rattle.facts.specs.declared.facts.HostFacts.{HostFacts}
-use Rattle.facts.specs.declared.facts.Facts.{Facts}
 use Rattle.facts.specs.Facts.{contact_facts, contact_seen, domain_at, domain_facts, domain_facts_of, domain_seen, facts, host_facts, host_seen, lookups, or_else}
-use Rattle.lifecycle.specs.declared.change.AccountChange.TheVariants.{Charge, RefundRunning, TakeSerial}
-use Rattle.lifecycle.specs.declared.change.RunningRefund.{RunningRefund}
-use Rattle.lifecycle.specs.Refunds.{given_back, refund_at}
 use Rattle.lifecycle.specs.Turns.{turns}
-use Rattle.model.specs.Registry.{Registry, account_of}
-use Rattle.model.specs.Standing.{standing_of}
-use Rattle.model.specs.View.{domain_sight}
 use Rattle.names.specs.RequestedName.{RequestedName, name_of}
-use Rattle.objects.specs.declared.contact.Contact.{Contact}
-use Rattle.objects.specs.declared.contact.ContactFace.{ContactFace}
-use Rattle.objects.specs.declared.domain.Domain.{Domain}
-use Rattle.objects.specs.declared.domain.DomainFace.{DomainFace}
-use Rattle.objects.specs.declared.domain.FullDomain.{FullDomain}
-use Rattle.objects.specs.declared.host.Host.{Host}
 use Rattle.objects.specs.declared.roid.ObjectKind.TheVariants as kinds
-use Rattle.objects.specs.declared.roid.Roid.{Roid}
-use Rattle.objects.specs.declared.sight.Seen.{Seen}
-use Rattle.objects.specs.declared.sight.Seen.TheVariants.{Full, TransferParty, Public}
 use Rattle.objects.specs.declared.status.Status.TheVariants.{PendingTransfer}
-use Rattle.objects.specs.declared.transfer.Transfer.{Transfer}
-use Rattle.objects.specs.Contacts.{contact_face_of}
-use Rattle.objects.specs.Domains.{face_of}
-use Rattle.objects.specs.Sight.{authorizes, contact_as, is_party}
-use Rattle.objects.specs.Transfers.{is_incoming, is_pending}
-use Rattle.policy.specs.Rules.{PolicyRules}
 use Rattle.protocol.specs.declared.command.Action.TheVariants.{ReportRestore}
-use Rattle.protocol.specs.declared.command.Command.TheVariants.{Asked}
-use Rattle.protocol.specs.declared.command.ContactUpdate.{ContactUpdate}
-use Rattle.protocol.specs.declared.command.DomainUpdate.{DomainUpdate}
 use Rattle.protocol.specs.declared.command.HostUpdate.{HostUpdate}
 use Rattle.protocol.specs.declared.command.NewContact.{NewContact}
 use Rattle.protocol.specs.declared.command.NewDomain.{NewDomain}
 use Rattle.protocol.specs.declared.command.NewHost.{NewHost}
-use Rattle.protocol.specs.declared.command.Request.{Request}
 use Rattle.protocol.specs.declared.command.Request.TheVariants as requests
-use Rattle.protocol.specs.declared.transfer.TransferOp.{TransferOp}
 use Rattle.protocol.specs.declared.transfer.TransferOp.TheVariants as ops
-use Rattle.protocol.specs.Requests.{asks_of, holds_of, presented, presented_contact}
-use Rattle.decisions.specs.declared.change.Change.{Change}
-use Rattle.decisions.specs.declared.change.Change.TheVariants.{DropDomain, PutContact, PutDomain, PutHost, Post}
 use Rattle.decisions.specs.Decisions.{changes_of, charge, contact_changes, deleted_domain, deletion_at, deletion_changes, domain_changes, host_changes, new_contact, new_domain, new_host, new_roid, or_old, renewal_changes, renewed_domain, report_changes, restore_changes, restored_domain, restoring_domain, updated_contact, updated_domain}
 use Rattle.decisions.specs.Transfers.{contact_transfer_changes, contact_transferred_if, domain_transfer_changes, domain_transferred_if}
 use Rattle.decisions.proofs.CommandLemmas.{at-itself}
-use Rattle.decisions.proofs.SightLemmas.{full_as}
 use Rattle.rules.specs.declared.rules.Condition.TheVariants as conditions
 use Rattle.rules.specs.Conditions.{contact_secret, contact_seen_shows, contact_sponsor, contact_transfer, domain_secret, domain_seen_shows, domain_sponsor, domain_transfer, is_anothers, is_authorized, is_shown, last_seen}
 use Rattle.rules.specs.Charges.{price_of, years_needed}
-use Rattle.rules.specs.Rules.{refusal_of}
-use Rattle.rules.specs.Transfers.{transfer_after}
-use Rattle.rules.proofs.RowLemmas.{unrefused}
-use Rattle.isolation.specs.Alike.{Hidden, puts, with_hidden}
-use Rattle.isolation.specs.Redaction.{Objects, AreOne, is_redacted, no_postal, redacted_contact, redacted_domain, blank_if}
 use Rattle.isolation.proofs.AccountLemmas.{given-charges}
 use Rattle.isolation.proofs.ChangeLemmas.{AreAlikeChanges, IsAlikeChange, put-contact-alike, put-domain-alike, same-change}
-use Rattle.isolation.proofs.PairLemmas.{alike-then, alike-turned, authorized-open, contact-pair, domain-pair, equal-lists, own-open, requester-open, same-standing, through}
-use Rattle.isolation.proofs.PutLemmas.{contact-hidden, contact-transfers, contact-updated, domain-hidden, domain-transfers, domain-updated}
+use Rattle.isolation.proofs.PairLemmas.{IsClosed, across, alike-then, alike-turned, authorized-open, contact-pair, domain-pair, equal-lists, own-open, requester-open, same-standing, through}
+use Rattle.isolation.proofs.PutLemmas.{contact-hidden, contact-natural, contact-updated, domain-hidden, domain-natural, domain-updated}
 use Rattle.isolation.proofs.RedactionLemmas.{apart, same-clock, same-hosts, same-others, secret-twice, with_data, with_secret}
-
-not-false : (b : Bool) → not b ≡ false → b ≡ true
-not-false true e = refl
-not-false false e = cc
+use Rattle.isolation.proofs.Words.{FinMap, get, nat_cmp, list_any, slice_cmp, and_from, not-false, not_from_false, or_from, or_left, or_parts, Account}
+use Rattle.isolation.proofs.Words.{itself-roid, Facts, Charge, RefundRunning, TakeSerial, RunningRefund, given_back, refund_at, Registry, account_of}
+use Rattle.isolation.proofs.Words.{standing_of, domain_sight, Contact, ContactFace, Domain, DomainFace, FullDomain, Host, Roid, Seen, Full}
+use Rattle.isolation.proofs.Words.{Transfer, contact_face_of, face_of, authorizes, contact_as, is_party, is_incoming, is_pending, PolicyRules}
+use Rattle.isolation.proofs.Words.{Asked, ContactUpdate, DomainUpdate, Request, TransferOp, asks_of, holds_of, presented, presented_contact, Change}
+use Rattle.isolation.proofs.Words.{DropDomain, PutContact, PutDomain, PutHost, Post, full_as, refusal_of, transfer_after, unrefused, Hidden, puts}
+use Rattle.isolation.proofs.Words.{with_hidden, Objects, AreOne, is_redacted, no_postal, redacted_contact, redacted_domain, blank_if}
 
 not-incoming : (r : ℕ) (last : Option Transfer) → is_pending last ≡ false → is_incoming r last ≡ false
 not-incoming r None e = refl
@@ -83,10 +43,7 @@ not-incoming r (Some x) e = ap (λ (b : Bool). b && (x.requester == r)) e
 
 -- who sponsors an object that no transfer pends of is its one party
 out-own : (touched : Bool) (a b : Bool) → touched ≡ true → a ≡ false → b ≡ false → (touched && not (a || b)) ≡ true
-out-own true false false e f g = refl
-out-own true true b e f g = cc
-out-own true false true e f g = cc
-out-own false a b e f g = cc
+out-own touched a b e f g = and_from touched _ e (not_from_false _ (or_from a b f g))
 
 module _ (p : PolicyRules) (r q : ℕ) (other : q ≢ r) (touched : Objects) (s t : Registry) (one : AreOne r touched s t) (cl_trid : Option (List ℕ)) where
   abbrev AreAlike : List Change → List Change → Type 0
@@ -140,11 +97,19 @@ module _ (p : PolicyRules) (r q : ℕ) (other : q ≢ r) (touched : Objects) (s 
   equal-change x y same = subst (λ (z : Change). IsAlikeChange p r touched x z) same (same-change p r touched x)
 
   -- what no secret opens is seen in full by its parties alone
-  contact-opens : (c d : Contact) → redacted_contact r touched c ≡ redacted_contact r touched d → (is_party q c.sponsor c.transfer || false) ≡ (is_party q d.sponsor d.transfer || false)
-  contact-opens c d same = λ i. is_party q (same i).sponsor (same i).transfer || false
+  party-contact : (name : List ℕ) (xs ys : Option (Seen Contact ContactFace) → List Change) → IsClosed xs → IsClosed ys → (seen seen_too : Option (Seen Contact ContactFace))
+      → seen ≡ option_map (contact_as q None) (get s.contacts name) → seen_too ≡ option_map (contact_as q None) (get t.contacts name)
+      → ((c d : Contact) → redacted_contact r touched c ≡ redacted_contact r touched d → seen ≡ Some (Full c) → seen_too ≡ Some (Full d) → AreAlike (xs (Some (Full c))) (ys (Some (Full d))))
+      → AreAlike (xs seen) (ys seen_too)
+  party-contact name xs ys closed closed_too seen seen_too is is_too full =
+      contact-pair p r q touched s t one name None None xs ys closed closed_too seen seen_too is is_too (λ c d same e f i. is_party q (same i).sponsor (same i).transfer || false) full
 
-  domain-opens : (c d : Domain) → redacted_domain r touched c ≡ redacted_domain r touched d → (is_party q c.sponsor c.transfer || false) ≡ (is_party q d.sponsor d.transfer || false)
-  domain-opens c d same = λ i. is_party q (same i).sponsor (same i).transfer || false
+  party-domain : (name : List ℕ) (xs ys : Option (Seen FullDomain DomainFace) → List Change) → IsClosed xs → IsClosed ys → (seen seen_too : Option (Seen FullDomain DomainFace))
+      → seen ≡ option_map (domain_sight p q s None) (get s.domains name) → seen_too ≡ option_map (domain_sight p q t None) (get t.domains name)
+      → ((c d : Domain) → redacted_domain r touched c ≡ redacted_domain r touched d → seen ≡ Some (Full (full_as (standing_of p s c) c)) → seen_too ≡ Some (Full (full_as (standing_of p t d) d))
+      → AreAlike (xs (Some (Full (full_as (standing_of p s c) c)))) (ys (Some (Full (full_as (standing_of p t d) d))))) → AreAlike (xs seen) (ys seen_too)
+  party-domain name xs ys closed closed_too seen seen_too is is_too full =
+      domain-pair p r q touched s t one name None None xs ys closed closed_too seen seen_too is is_too (λ c d same e f i. is_party q (same i).sponsor (same i).transfer || false) full
 
   -- ---- creates
 
@@ -168,13 +133,14 @@ module _ (p : PolicyRules) (r q : ℕ) (other : q ≢ r) (touched : Objects) (s 
       let f : ℕ → Facts = serial_at (here (requests.CreateDomain new)) in
       equal-lists p r touched _ _ (λ i. PutDomain (new_domain q s.clock (f (same-serial i)) new) ∷ Post q TakeSerial ∷ domain_charge new (f (same-serial i)) ∷ [])
 
-  -- what the caller creates isn't the registrar's
+  -- what the caller sponsors, and no transfer pends of, isn't the registrar's
+  sponsored-out : (roid : Roid) (sponsor : ℕ) (last : Option Transfer) → touched roid ≡ true → not (sponsor == q) ≡ false → is_pending last ≡ false → is_redacted r touched roid sponsor last ≡ true
+  sponsored-out roid sponsor last mine own over =
+      out-own (touched roid) (sponsor == r) (is_incoming r last) mine (ap (λ (n : ℕ). n == r) (eqb-true sponsor q (not-false _ own)) ∙ apart q r other) (not-incoming r last over)
+
+  -- nor is what it creates
   new-out : (roid : Roid) → touched roid ≡ true → is_redacted r touched roid q None ≡ true
   new-out roid e = out-own (touched roid) (q == r) false e (apart q r other) refl
-
-  one-of : (a b : Bool) → a ≡ true → (a || b) ≡ true
-  one-of true b e = refl
-  one-of false b e = cc
 
   abbrev other_contact : Hidden → NewContact → NewContact
   other_contact h new = record new { secret = or_old h.secret new.secret; postal = or_old h.postal new.postal; voice = h.voice; mail = or_old h.mail new.mail }
@@ -186,7 +152,7 @@ module _ (p : PolicyRules) (r q : ℕ) (other : q ≢ r) (touched : Objects) (s 
   create-contact-hidden h new marks =
       let f : ℕ → Facts = serial_at (here (requests.CreateContact new)) in
       let roid : Roid = new_roid kinds.Contact q (here (requests.CreateContact new)) in
-      let mine : touched roid ≡ true = marks roid (one-of (is_same_roid roid roid) false (itself-roid roid)) in
+      let mine : touched roid ≡ true = marks roid (or_left (is_same_roid roid roid) false (itself-roid roid)) in
       let same : roid ≡ new_roid kinds.Contact q (there (requests.CreateContact (other_contact h new))) = λ i. new_roid kinds.Contact q (f (same-serial i)) in (
         put-contact-alike p r touched _ _ (contact-hidden r touched (new_contact q s.clock (here (requests.CreateContact new)) new) (new_contact q s.clock (there (requests.CreateContact (other_contact h new))) (other_contact h new))
             (new-out roid mine) (new-out _ (sym (ap touched same) ∙ mine))
@@ -204,7 +170,7 @@ module _ (p : PolicyRules) (r q : ℕ) (other : q ≢ r) (touched : Objects) (s 
   create-domain-hidden h new marks =
       let f : ℕ → Facts = serial_at (here (requests.CreateDomain new)) in
       let roid : Roid = new_roid kinds.Domain q (here (requests.CreateDomain new)) in
-      let mine : touched roid ≡ true = marks roid (one-of (is_same_roid roid roid) false (itself-roid roid)) in
+      let mine : touched roid ≡ true = marks roid (or_left (is_same_roid roid roid) false (itself-roid roid)) in
       let same : roid ≡ new_roid kinds.Domain q (there (requests.CreateDomain (other_domain h new))) = λ i. new_roid kinds.Domain q (f (same-serial i)) in (
         put-domain-alike p r touched _ _ (domain-hidden r touched (new_domain q s.clock (here (requests.CreateDomain new)) new) (new_domain q s.clock (there (requests.CreateDomain (other_domain h new))) (other_domain h new))
             (new-out roid mine) (new-out _ (sym (ap touched same) ∙ mine))
@@ -217,20 +183,18 @@ module _ (p : PolicyRules) (r q : ℕ) (other : q ≢ r) (touched : Objects) (s 
   update-contact : (u : ContactUpdate) → let request = requests.UpdateContact u in AreAlike (contact_changes s.clock u (contact_seen (here request) u.name)) (contact_changes s.clock u (contact_seen (there request) u.name))
   update-contact u =
       let request : Request = requests.UpdateContact u in
-      contact-pair p r q touched s t one u.name (contact_changes s.clock u) (contact_changes s.clock u)
-      (record { none = refl; party = λ face x. refl; public = λ face. refl }) (record { none = refl; party = λ face x. refl; public = λ face. refl }) None None
+      party-contact u.name (contact_changes s.clock u) (contact_changes s.clock u)
+      (record { none = refl; party = λ face x. refl; public = λ face. refl }) (record { none = refl; party = λ face x. refl; public = λ face. refl })
       (contact_seen (here request) u.name) (contact_seen (there request) u.name) (seen-contact s request u.name) (seen-contact t request u.name)
-      (λ c d same e f. contact-opens c d same)
       (λ c d same e f. through p r touched (redacted_contact r touched) (λ x. PutContact (updated_contact s.clock u x) ∷ []) c d same
       (put-contact-alike p r touched _ _ (contact-updated r touched s.clock u c), tt) (put-contact-alike p r touched _ _ (contact-updated r touched s.clock u d), tt))
 
   update-domain : (u : DomainUpdate) → let request = requests.UpdateDomain u in AreAlike (domain_changes s.clock u (domain_seen (here request) (name_of u.name))) (domain_changes s.clock u (domain_seen (there request) (name_of u.name)))
   update-domain u =
       let request : Request = requests.UpdateDomain u in
-      domain-pair p r q touched s t one (name_of u.name) (domain_changes s.clock u) (domain_changes s.clock u)
-      (record { none = refl; party = λ face x. refl; public = λ face. refl }) (record { none = refl; party = λ face x. refl; public = λ face. refl }) None None
+      party-domain (name_of u.name) (domain_changes s.clock u) (domain_changes s.clock u)
+      (record { none = refl; party = λ face x. refl; public = λ face. refl }) (record { none = refl; party = λ face x. refl; public = λ face. refl })
       (domain_seen (here request) (name_of u.name)) (domain_seen (there request) (name_of u.name)) (seen-domain s request (name_of u.name)) (seen-domain t request (name_of u.name))
-      (λ c d same e f. domain-opens c d same)
       (λ c d same e f. through p r touched (redacted_domain r touched) (λ x. PutDomain (updated_domain s.clock u x) ∷ []) c d same
       (put-domain-alike p r touched _ _ (domain-updated r touched s.clock u c), tt) (put-domain-alike p r touched _ _ (domain-updated r touched s.clock u d), tt))
 
@@ -242,11 +206,9 @@ module _ (p : PolicyRules) (r q : ℕ) (other : q ≢ r) (touched : Objects) (s 
   unfolding contact_seen_shows
   updated-out u c taken e mine =
       let request : Request = requests.UpdateContact u in
-      let own : is_anothers contact_sponsor q (contact_seen (here request) u.name) ≡ false = (or_parts _ _ (unrefused p q s.clock request (here request) taken conditions.IsAnothers (search (inl, inr) depth 20))).0 in
-      let sponsor : c.sponsor ≡ q = eqb-true c.sponsor q (not-false (c.sponsor == q) (sym (ap (is_anothers contact_sponsor q) e) ∙ own)) in
-      let rests : is_shown contact_seen_shows PendingTransfer (contact_seen (here request) u.name) ≡ false = (or_parts _ _ (unrefused p q s.clock request (here request) taken (conditions.Shows PendingTransfer) (search (inl, inr) depth 20))).0 in
-      let over : is_pending c.transfer ≡ false = sym (ap (is_shown contact_seen_shows PendingTransfer) e) ∙ rests in
-      out-own (touched c.roid) (c.sponsor == r) (is_incoming r c.transfer) mine (ap (λ (n : ℕ). n == r) sponsor ∙ apart q r other) (not-incoming r c.transfer over)
+      sponsored-out c.roid c.sponsor c.transfer mine
+      (sym (ap (is_anothers contact_sponsor q) e) ∙ (or_parts _ _ (unrefused p q s.clock request (here request) taken conditions.IsAnothers (search (inl, inr) depth 20))).0)
+      (sym (ap (is_shown contact_seen_shows PendingTransfer) e) ∙ (or_parts _ _ (unrefused p q s.clock request (here request) taken (conditions.Shows PendingTransfer) (search (inl, inr) depth 20))).0)
 
   update-contact-hidden : (h : Hidden) (u : ContactUpdate) → let request = requests.UpdateContact u in let request_too = requests.UpdateContact (other_contact_update h u) in
       IsTakenHere request → ((roid : Roid) → list_any (puts roid) (contact_changes s.clock u (contact_seen (here request) u.name)) ≡ true → touched roid ≡ true)
@@ -254,12 +216,11 @@ module _ (p : PolicyRules) (r q : ℕ) (other : q ≢ r) (touched : Objects) (s 
   update-contact-hidden h u taken marks =
       let request : Request = requests.UpdateContact u in
       let request_too : Request = requests.UpdateContact (other_contact_update h u) in
-      contact-pair p r q touched s t one u.name (contact_changes s.clock u) (contact_changes s.clock (other_contact_update h u))
-      (record { none = refl; party = λ face x. refl; public = λ face. refl }) (record { none = refl; party = λ face x. refl; public = λ face. refl }) None None
+      party-contact u.name (contact_changes s.clock u) (contact_changes s.clock (other_contact_update h u))
+      (record { none = refl; party = λ face x. refl; public = λ face. refl }) (record { none = refl; party = λ face x. refl; public = λ face. refl })
       (contact_seen (here request) u.name) (contact_seen (there request_too) u.name) (seen-contact s request u.name) (seen-contact t request_too u.name)
-      (λ c d same e f. contact-opens c d same)
       (λ c d same e f.
-      let mine : touched c.roid ≡ true = marks c.roid (ap (λ seen. list_any (puts c.roid) (contact_changes s.clock u seen)) e ∙ one-of (is_same_roid c.roid c.roid) false (itself-roid c.roid)) in
+      let mine : touched c.roid ≡ true = marks c.roid (ap (λ seen. list_any (puts c.roid) (contact_changes s.clock u seen)) e ∙ or_left (is_same_roid c.roid c.roid) false (itself-roid c.roid)) in
       let out : is_redacted r touched c.roid c.sponsor c.transfer ≡ true = updated-out u c taken e mine in (
         put-contact-alike p r touched _ _ (contact-hidden r touched (updated_contact s.clock u c) (updated_contact s.clock (other_contact_update h u) d) out
             (sym (λ i. is_redacted r touched (same i).roid (same i).sponsor (same i).transfer) ∙ out)
@@ -275,12 +236,9 @@ module _ (p : PolicyRules) (r q : ℕ) (other : q ≢ r) (touched : Objects) (s 
   unfolding domain_seen_shows
   domain-updated-out u full taken e mine =
       let request : Request = requests.UpdateDomain u in
-      let d : Domain = full.domain in
-      let own : is_anothers domain_sponsor q (domain_seen (here request) (name_of u.name)) ≡ false = (or_parts _ _ (unrefused p q s.clock request (here request) taken conditions.IsAnothers (search (inl, inr) depth 20))).0 in
-      let sponsor : d.sponsor ≡ q = eqb-true d.sponsor q (not-false (d.sponsor == q) (sym (ap (is_anothers domain_sponsor q) e) ∙ own)) in
-      let rests : is_shown domain_seen_shows PendingTransfer (domain_seen (here request) (name_of u.name)) ≡ false = (or_parts _ _ (unrefused p q s.clock request (here request) taken (conditions.Shows PendingTransfer) (search (inl, inr) depth 20))).0 in
-      let over : is_pending d.transfer ≡ false = sym (ap (is_shown domain_seen_shows PendingTransfer) e) ∙ rests in
-      out-own (touched d.roid) (d.sponsor == r) (is_incoming r d.transfer) mine (ap (λ (n : ℕ). n == r) sponsor ∙ apart q r other) (not-incoming r d.transfer over)
+      sponsored-out full.domain.roid full.domain.sponsor full.domain.transfer mine
+      (sym (ap (is_anothers domain_sponsor q) e) ∙ (or_parts _ _ (unrefused p q s.clock request (here request) taken conditions.IsAnothers (search (inl, inr) depth 20))).0)
+      (sym (ap (is_shown domain_seen_shows PendingTransfer) e) ∙ (or_parts _ _ (unrefused p q s.clock request (here request) taken (conditions.Shows PendingTransfer) (search (inl, inr) depth 20))).0)
 
   update-domain-hidden : (h : Hidden) (u : DomainUpdate) → let request = requests.UpdateDomain u in let request_too = requests.UpdateDomain (other_domain_update h u) in
       IsTakenHere request → ((roid : Roid) → list_any (puts roid) (domain_changes s.clock u (domain_seen (here request) (name_of u.name))) ≡ true → touched roid ≡ true)
@@ -288,12 +246,11 @@ module _ (p : PolicyRules) (r q : ℕ) (other : q ≢ r) (touched : Objects) (s 
   update-domain-hidden h u taken marks =
       let request : Request = requests.UpdateDomain u in
       let request_too : Request = requests.UpdateDomain (other_domain_update h u) in
-      domain-pair p r q touched s t one (name_of u.name) (domain_changes s.clock u) (domain_changes s.clock (other_domain_update h u))
-      (record { none = refl; party = λ face x. refl; public = λ face. refl }) (record { none = refl; party = λ face x. refl; public = λ face. refl }) None None
+      party-domain (name_of u.name) (domain_changes s.clock u) (domain_changes s.clock (other_domain_update h u))
+      (record { none = refl; party = λ face x. refl; public = λ face. refl }) (record { none = refl; party = λ face x. refl; public = λ face. refl })
       (domain_seen (here request) (name_of u.name)) (domain_seen (there request_too) (name_of u.name)) (seen-domain s request (name_of u.name)) (seen-domain t request_too (name_of u.name))
-      (λ c d same e f. domain-opens c d same)
       (λ c d same e f.
-      let mine : touched c.roid ≡ true = marks c.roid (ap (λ seen. list_any (puts c.roid) (domain_changes s.clock u seen)) e ∙ one-of (is_same_roid c.roid c.roid) false (itself-roid c.roid)) in
+      let mine : touched c.roid ≡ true = marks c.roid (ap (λ seen. list_any (puts c.roid) (domain_changes s.clock u seen)) e ∙ or_left (is_same_roid c.roid c.roid) false (itself-roid c.roid)) in
       let out : is_redacted r touched c.roid c.sponsor c.transfer ≡ true = domain-updated-out u (full_as (standing_of p s c) c) taken e mine in (
         put-domain-alike p r touched _ _ (domain-hidden r touched (updated_domain s.clock u c) (updated_domain s.clock (other_domain_update h u) d) out
             (sym (λ i. is_redacted r touched (same i).roid (same i).sponsor (same i).transfer) ∙ out)
@@ -317,10 +274,9 @@ module _ (p : PolicyRules) (r q : ℕ) (other : q ≢ r) (touched : Objects) (s 
       AreAlike (renewal_changes p q s.clock request (here request) (domain_seen (here request) (name_of name))) (renewal_changes p q s.clock request (there request) (domain_seen (there request) (name_of name)))
   renew-domain name expires years =
       let request : Request = requests.RenewDomain name expires years in
-      domain-pair p r q touched s t one (name_of name) (renewal_changes p q s.clock request (here request)) (renewal_changes p q s.clock request (there request))
-      (record { none = refl; party = λ face x. refl; public = λ face. refl }) (record { none = refl; party = λ face x. refl; public = λ face. refl }) None None
+      party-domain (name_of name) (renewal_changes p q s.clock request (here request)) (renewal_changes p q s.clock request (there request))
+      (record { none = refl; party = λ face x. refl; public = λ face. refl }) (record { none = refl; party = λ face x. refl; public = λ face. refl })
       (domain_seen (here request) (name_of name)) (domain_seen (there request) (name_of name)) (seen-domain s request (name_of name)) (seen-domain t request (name_of name))
-      (λ c d same e f. domain-opens c d same)
       (λ c d same e f. through p r touched (redacted_domain r touched) (λ x. PutDomain (renewed_domain s.clock years x) ∷ charge lines.Renew p q s.clock x.roid request (here request) ∷ []) c d same
       (put-domain-alike p r touched _ _ (kept-secret c (renewed_domain s.clock years c)), (same-change p r touched _, tt)) (put-domain-alike p r touched _ _ (kept-secret d (renewed_domain s.clock years d)), (same-change p r touched _, tt)))
 
@@ -328,10 +284,9 @@ module _ (p : PolicyRules) (r q : ℕ) (other : q ≢ r) (touched : Objects) (s 
       AreAlike (restore_changes s.clock (domain_seen (here request) (name_of name))) (restore_changes s.clock (domain_seen (there request) (name_of name)))
   restore-domain name =
       let request : Request = requests.RequestRestore name in
-      domain-pair p r q touched s t one (name_of name) (restore_changes s.clock) (restore_changes s.clock)
-      (record { none = refl; party = λ face x. refl; public = λ face. refl }) (record { none = refl; party = λ face x. refl; public = λ face. refl }) None None
+      party-domain (name_of name) (restore_changes s.clock) (restore_changes s.clock)
+      (record { none = refl; party = λ face x. refl; public = λ face. refl }) (record { none = refl; party = λ face x. refl; public = λ face. refl })
       (domain_seen (here request) (name_of name)) (domain_seen (there request) (name_of name)) (seen-domain s request (name_of name)) (seen-domain t request (name_of name))
-      (λ c d same e f. domain-opens c d same)
       (λ c d same e f. through p r touched (redacted_domain r touched) (λ x. PutDomain (restoring_domain s.clock x) ∷ []) c d same
       (put-domain-alike p r touched _ _ (kept-secret c (restoring_domain s.clock c)), tt) (put-domain-alike p r touched _ _ (kept-secret d (restoring_domain s.clock d)), tt))
 
@@ -364,10 +319,9 @@ module _ (p : PolicyRules) (r q : ℕ) (other : q ≢ r) (touched : Objects) (s 
   unfolding report_charge
   report-domain name del_time res_time =
       let request : Request = requests.ReportRestore name del_time res_time in
-      domain-pair p r q touched s t one (name_of name) (report_changes p q s.clock request (here request)) (report_changes p q s.clock request (there request))
-      (record { none = refl; party = λ face x. refl; public = λ face. refl }) (record { none = refl; party = λ face x. refl; public = λ face. refl }) None None
+      party-domain (name_of name) (report_changes p q s.clock request (here request)) (report_changes p q s.clock request (there request))
+      (record { none = refl; party = λ face x. refl; public = λ face. refl }) (record { none = refl; party = λ face x. refl; public = λ face. refl })
       (domain_seen (here request) (name_of name)) (domain_seen (there request) (name_of name)) (seen-domain s request (name_of name)) (seen-domain t request (name_of name))
-      (λ c d same e f. domain-opens c d same)
       (λ c d same e f.
       let needed : years_needed s.clock (domain_seen (here request) (name_of name)) ≡ years_needed s.clock (domain_seen (there request) (name_of name)) = ap (years_needed s.clock) e ∙ same-turns c d s.clock same ∙ sym (ap (years_needed s.clock) f) in (
         put-domain-alike p r touched _ _ (restored-natural c ∙ ap (λ (x : Domain). redacted_domain r touched (restored_domain s.clock x)) same ∙ sym (restored-natural d)),
@@ -398,10 +352,9 @@ module _ (p : PolicyRules) (r q : ℕ) (other : q ≢ r) (touched : Objects) (s 
       let yours : Option (Seen FullDomain DomainFace) = option_map (domain_sight p q t None) (get t.domains (name_of name)) in
       subst (λ (xs : List Change). AreAlike xs (deletion_at q s.clock (domain_at (there (requests.DeleteDomain name)) (name_of name)))) (sym (deletion-is s name))
       (subst (λ (ys : List Change). AreAlike (deletion_changes q s.clock (known_of s name mine) mine) ys) (sym (deletion-is t name))
-      (domain-pair p r q touched s t one (name_of name) (λ seen. deletion_changes q s.clock (known_of s name seen) seen) (λ seen. deletion_changes q s.clock (known_of t name seen) seen)
-      (record { none = refl; party = λ face x. refl; public = λ face. refl }) (record { none = refl; party = λ face x. refl; public = λ face. refl }) None None
+      (party-domain (name_of name) (λ seen. deletion_changes q s.clock (known_of s name seen) seen) (λ seen. deletion_changes q s.clock (known_of t name seen) seen)
+      (record { none = refl; party = λ face x. refl; public = λ face. refl }) (record { none = refl; party = λ face x. refl; public = λ face. refl })
       mine yours refl refl
-      (λ c d same e f. domain-opens c d same)
       (λ c d same e f.
       let back : given_back p (refund_at s.clock c) (account_of q s).lines ≡ given_back p (refund_at t.clock d) (account_of q t).lines = same-back (refund_at s.clock c) (refund_at t.clock d) (λ i. refund_at (same-clock r touched s t one i) (same i)) in
       let standing : standing_of p s c ≡ standing_of p t d = same-standing p r q touched s t one (name_of name) c d same in
@@ -446,16 +399,6 @@ module _ (p : PolicyRules) (r q : ℕ) (other : q ≢ r) (touched : Objects) (s 
         ∙ sym (or-false (holds_of (is_authorized contact_secret secret) (contact_seen f name)))
         ∙ not-false _ (unrefused p q x.clock request f taken conditions.SecretIsNotRight (search (inl, inr) depth 20)))
     contact-transfer-opens x secret ops.Query c taken e changes = absurd (changes refl)
-    contact-transfer-opens x secret ops.Approve c taken e changes =
-        let request : Request = requests.TransferContact name ops.Approve secret in
-        let f : Facts = facts p q (Asked cl_trid request) x in
-        own-open q c (contact_face_of c) c.transfer contact_sponsor _
-        (sym (ap (is_anothers contact_sponsor q) e) ∙ (or_parts _ _ (unrefused p q x.clock request f taken conditions.IsAnothers (search (inl, inr) depth 20))).0)
-    contact-transfer-opens x secret ops.Reject c taken e changes =
-        let request : Request = requests.TransferContact name ops.Reject secret in
-        let f : Facts = facts p q (Asked cl_trid request) x in
-        own-open q c (contact_face_of c) c.transfer contact_sponsor _
-        (sym (ap (is_anothers contact_sponsor q) e) ∙ (or_parts _ _ (unrefused p q x.clock request f taken conditions.IsAnothers (search (inl, inr) depth 20))).0)
     contact-transfer-opens x secret ops.Cancel c taken e changes =
         let request : Request = requests.TransferContact name ops.Cancel secret in
         let f : Facts = facts p q (Asked cl_trid request) x in
@@ -466,6 +409,11 @@ module _ (p : PolicyRules) (r q : ℕ) (other : q ≢ r) (touched : Objects) (s 
         (sym (ap (λ seen. is_pending (option_and_then (last_seen contact_transfer) seen)) e)
         ∙ sym (ap is_pending (or-none (option_and_then (last_seen contact_transfer) (contact_seen f name))))
         ∙ not-false _ (unrefused p q x.clock request f taken conditions.IsNotPending (search (inl, inr) depth 20)))
+    contact-transfer-opens x secret op c taken e changes =
+        let request : Request = requests.TransferContact name op secret in
+        let f : Facts = facts p q (Asked cl_trid request) x in
+        own-open q c (contact_face_of c) c.transfer contact_sponsor _
+        (sym (ap (is_anothers contact_sponsor q) e) ∙ (or_parts _ _ (unrefused p q x.clock request f taken conditions.IsAnothers (search (inl, inr) depth 20))).0)
 
     -- a transfer that is approved is pending
     contact-approved-pends : (x : Registry) (secret : Option (List ℕ)) (op : TransferOp) (c : Contact)
@@ -477,40 +425,32 @@ module _ (p : PolicyRules) (r q : ℕ) (other : q ≢ r) (touched : Objects) (s 
         sym (ap (λ seen. is_pending (option_and_then (last_seen contact_transfer) seen)) e)
         ∙ sym (ap is_pending (or-none (option_and_then (last_seen contact_transfer) (contact_seen f name))))
         ∙ not-false _ (unrefused p q x.clock request f taken conditions.IsNotPending (search (inl, inr) depth 20))
-    contact-approved-pends x secret ops.Request c taken e is = absurd cc
-    contact-approved-pends x secret ops.Query c taken e is = absurd cc
-    contact-approved-pends x secret ops.Reject c taken e is = absurd cc
-    contact-approved-pends x secret ops.Cancel c taken e is = absurd cc
+    contact-approved-pends x secret op c taken e is = absurd cc
 
     query-changes-nothing : (u : ℕ) (seen : Option (Seen Contact ContactFace)) → contact_transfer_changes p q u ops.Query seen ≡ []
-    query-changes-nothing u None = refl
     query-changes-nothing u (Some (Full c)) = by c.transfer
       where
         by : (last : Option Transfer) → contact_transferred_if u ops.Query last c ≡ []
         by None = refl
         by (Some y) = refl
-    query-changes-nothing u (Some (TransferParty face y)) = refl
-    query-changes-nothing u (Some (Public face)) = refl
+    query-changes-nothing u seen = refl
 
     transfer-contact-by : (op : TransferOp) → op ≢ ops.Query → IsTakenHere (asks op) → IsTakenThere (asks_too op)
         → AreAlike (contact_transfer_changes p q s.clock op (contact_seen (here (asks op)) name)) (contact_transfer_changes p q s.clock op (contact_seen (there (asks_too op)) name))
     transfer-contact-by op changes taken taken_too =
-        contact-pair p r q touched s t one name (contact_transfer_changes p q s.clock op) (contact_transfer_changes p q s.clock op)
+        contact-pair p r q touched s t one name (presented_contact (Asked cl_trid (asks op)) name) (presented_contact (Asked cl_trid (asks_too op)) name)
+        (contact_transfer_changes p q s.clock op) (contact_transfer_changes p q s.clock op)
         (record { none = refl; party = λ face x. refl; public = λ face. refl }) (record { none = refl; party = λ face x. refl; public = λ face. refl })
-        (presented_contact (Asked cl_trid (asks op)) name) (presented_contact (Asked cl_trid (asks_too op)) name)
         (contact_seen (here (asks op)) name) (contact_seen (there (asks_too op)) name) (seen-contact s (asks op) name) (seen-contact t (asks_too op) name)
         (λ c d same e f. contact-transfer-opens s mine op c taken e changes ∙ sym (contact-transfer-opens t yours op d taken_too f changes))
         (λ c d same e f. through p r touched (redacted_contact r touched) (λ x. contact_transferred_if s.clock op (transfer_after p q s.clock op x.sponsor x.transfer) x) c d same
-        (contact-transfers p r q (apart q r other) touched s.clock op c (contact-approved-pends s mine op c taken e))
-        (contact-transfers p r q (apart q r other) touched s.clock op d (contact-approved-pends t yours op d taken_too f)))
+        (contact-natural p r q (apart q r other) touched s.clock op c c.transfer refl (contact-approved-pends s mine op c taken e))
+        (contact-natural p r q (apart q r other) touched s.clock op d d.transfer refl (contact-approved-pends t yours op d taken_too f)))
 
     transfer-contact : (op : TransferOp) → IsTakenHere (asks op) → IsTakenThere (asks_too op)
         → AreAlike (contact_transfer_changes p q s.clock op (contact_seen (here (asks op)) name)) (contact_transfer_changes p q s.clock op (contact_seen (there (asks_too op)) name))
     transfer-contact ops.Query taken taken_too = equal-lists p r touched _ _ (query-changes-nothing s.clock _ ∙ sym (query-changes-nothing s.clock _))
-    transfer-contact ops.Request taken taken_too = transfer-contact-by ops.Request (λ e. cc) taken taken_too
-    transfer-contact ops.Approve taken taken_too = transfer-contact-by ops.Approve (λ e. cc) taken taken_too
-    transfer-contact ops.Reject taken taken_too = transfer-contact-by ops.Reject (λ e. cc) taken taken_too
-    transfer-contact ops.Cancel taken taken_too = transfer-contact-by ops.Cancel (λ e. cc) taken taken_too
+    transfer-contact op taken taken_too = transfer-contact-by op (λ e. cc) taken taken_too
 
   -- ---- transfers of domains
 
@@ -532,16 +472,6 @@ module _ (p : PolicyRules) (r q : ℕ) (other : q ≢ r) (touched : Objects) (s 
         (sym (ap (λ seen. holds_of (is_authorized domain_secret secret) seen) e)
         ∙ not-false _ (unrefused p q x.clock request f taken conditions.SecretIsNotRight (search (inl, inr) depth 20)))
     domain-transfer-opens x secret ops.Query d taken e changes = absurd (changes refl)
-    domain-transfer-opens x secret ops.Approve d taken e changes =
-        let request : Request = requests.TransferDomain name ops.Approve secret in
-        let f : Facts = facts p q (Asked cl_trid request) x in
-        own-open q (full_as (standing_of p x d) d) (face_of (standing_of p x d) d) d.transfer domain_sponsor _
-        (sym (ap (is_anothers domain_sponsor q) e) ∙ (or_parts _ _ (unrefused p q x.clock request f taken conditions.IsAnothers (search (inl, inr) depth 20))).0)
-    domain-transfer-opens x secret ops.Reject d taken e changes =
-        let request : Request = requests.TransferDomain name ops.Reject secret in
-        let f : Facts = facts p q (Asked cl_trid request) x in
-        own-open q (full_as (standing_of p x d) d) (face_of (standing_of p x d) d) d.transfer domain_sponsor _
-        (sym (ap (is_anothers domain_sponsor q) e) ∙ (or_parts _ _ (unrefused p q x.clock request f taken conditions.IsAnothers (search (inl, inr) depth 20))).0)
     domain-transfer-opens x secret ops.Cancel d taken e changes =
         let request : Request = requests.TransferDomain name ops.Cancel secret in
         let f : Facts = facts p q (Asked cl_trid request) x in
@@ -550,6 +480,11 @@ module _ (p : PolicyRules) (r q : ℕ) (other : q ≢ r) (touched : Objects) (s 
         ∙ not-false _ (unrefused p q x.clock request f taken conditions.IsNotRequester (search (inl, inr) depth 20)))
         (sym (ap (λ seen. is_pending (option_and_then (last_seen domain_transfer) seen)) e)
         ∙ not-false _ (unrefused p q x.clock request f taken conditions.IsNotPending (search (inl, inr) depth 20)))
+    domain-transfer-opens x secret op d taken e changes =
+        let request : Request = requests.TransferDomain name op secret in
+        let f : Facts = facts p q (Asked cl_trid request) x in
+        own-open q (full_as (standing_of p x d) d) (face_of (standing_of p x d) d) d.transfer domain_sponsor _
+        (sym (ap (is_anothers domain_sponsor q) e) ∙ (or_parts _ _ (unrefused p q x.clock request f taken conditions.IsAnothers (search (inl, inr) depth 20))).0)
 
     domain-approved-pends : (x : Registry) (secret : Option (List ℕ)) (op : TransferOp) (full : FullDomain)
         → refusal_of p q x.clock (requests.TransferDomain name op secret) (facts p q (Asked cl_trid (requests.TransferDomain name op secret)) x) ≡ None
@@ -559,74 +494,41 @@ module _ (p : PolicyRules) (r q : ℕ) (other : q ≢ r) (touched : Objects) (s 
         let f : Facts = facts p q (Asked cl_trid request) x in
         sym (ap (λ seen. is_pending (option_and_then (last_seen domain_transfer) seen)) e)
         ∙ not-false _ (unrefused p q x.clock request f taken conditions.IsNotPending (search (inl, inr) depth 20))
-    domain-approved-pends x secret ops.Request full taken e is = absurd cc
-    domain-approved-pends x secret ops.Query full taken e is = absurd cc
-    domain-approved-pends x secret ops.Reject full taken e is = absurd cc
-    domain-approved-pends x secret ops.Cancel full taken e is = absurd cc
+    domain-approved-pends x secret op full taken e is = absurd cc
 
     domain-query-changes-nothing : (u : ℕ) (request : Request) (f : Facts) (seen : Option (Seen FullDomain DomainFace)) → domain_transfer_changes p q u ops.Query request f seen ≡ []
-    domain-query-changes-nothing u request f None = refl
     domain-query-changes-nothing u request f (Some (Full full)) = by full.domain.transfer
       where
         by : (last : Option Transfer) → domain_transferred_if p q u ops.Query request f last full.domain ≡ []
         by None = refl
         by (Some y) = refl
-    domain-query-changes-nothing u request f (Some (TransferParty face y)) = refl
-    domain-query-changes-nothing u request f (Some (Public face)) = refl
-
-    -- what is charged hangs neither on the secret nor on the facts
-    same-transferred : (op : TransferOp) (last : Option Transfer) (d : Domain)
-        → domain_transferred_if p q s.clock op (domain_asks op) (here (domain_asks op)) last d ≡ domain_transferred_if p q s.clock op (domain_asks_too op) (there (domain_asks_too op)) last d
-    same-transferred ops.Request None d = refl
-    same-transferred ops.Request (Some y) d = refl
-    same-transferred ops.Query None d = refl
-    same-transferred ops.Query (Some y) d = refl
-    same-transferred ops.Approve None d = refl
-    same-transferred ops.Approve (Some y) d = refl
-    same-transferred ops.Reject None d = refl
-    same-transferred ops.Reject (Some y) d = refl
-    same-transferred ops.Cancel None d = refl
-    same-transferred ops.Cancel (Some y) d = refl
+    domain-query-changes-nothing u request f seen = refl
 
     transfer-domain-by : (op : TransferOp) → op ≢ ops.Query → IsTakenHere (domain_asks op) → IsTakenThere (domain_asks_too op)
         → AreAlike (domain_transfer_changes p q s.clock op (domain_asks op) (here (domain_asks op)) (domain_seen (here (domain_asks op)) (name_of name)))
         (domain_transfer_changes p q s.clock op (domain_asks_too op) (there (domain_asks_too op)) (domain_seen (there (domain_asks_too op)) (name_of name)))
     transfer-domain-by op changes taken taken_too =
-        let f : Facts = here (domain_asks op) in
-        domain-pair p r q touched s t one (name_of name) (domain_transfer_changes p q s.clock op (domain_asks op) (here (domain_asks op))) (domain_transfer_changes p q s.clock op (domain_asks_too op) (there (domain_asks_too op)))
+        domain-pair p r q touched s t one (name_of name) (presented (Asked cl_trid (domain_asks op)) (name_of name)) (presented (Asked cl_trid (domain_asks_too op)) (name_of name))
+        (domain_transfer_changes p q s.clock op (domain_asks op) (here (domain_asks op))) (domain_transfer_changes p q s.clock op (domain_asks_too op) (there (domain_asks_too op)))
         (record { none = refl; party = λ face x. refl; public = λ face. refl }) (record { none = refl; party = λ face x. refl; public = λ face. refl })
-        (presented (Asked cl_trid (domain_asks op)) (name_of name)) (presented (Asked cl_trid (domain_asks_too op)) (name_of name))
         (domain_seen (here (domain_asks op)) (name_of name)) (domain_seen (there (domain_asks_too op)) (name_of name)) (seen-domain s (domain_asks op) (name_of name)) (seen-domain t (domain_asks_too op) (name_of name))
         (λ c d same e g. domain-transfer-opens s mine op c taken e changes ∙ sym (domain-transfer-opens t yours op d taken_too g changes))
-        (λ c d same e g.
-        subst (λ (ys : List Change). AreAlike (domain_transferred_if p q s.clock op (domain_asks op) f (transfer_after p q s.clock op c.sponsor c.transfer) c) ys)
-        (same-transferred op (transfer_after p q s.clock op d.sponsor d.transfer) d)
-        (through p r touched (redacted_domain r touched) (λ x. domain_transferred_if p q s.clock op (domain_asks op) f (transfer_after p q s.clock op x.sponsor x.transfer) x) c d same
-        (domain-transfers p r q (apart q r other) touched s.clock op (domain_asks op) f c (domain-approved-pends s mine op (full_as (standing_of p s c) c) taken e))
-        (domain-transfers p r q (apart q r other) touched s.clock op (domain_asks op) f d (domain-approved-pends t yours op (full_as (standing_of p t d) d) taken_too g))))
+        (λ c d same e g. across p r touched (redacted_domain r touched) (λ x. domain_transferred_if p q s.clock op (domain_asks op) (here (domain_asks op)) (transfer_after p q s.clock op x.sponsor x.transfer) x)
+        (λ x. domain_transferred_if p q s.clock op (domain_asks_too op) (there (domain_asks_too op)) (transfer_after p q s.clock op x.sponsor x.transfer) x) c d same
+        (domain-natural p r q (apart q r other) touched s.clock name mine yours (here (domain_asks op)) (there (domain_asks_too op)) op c c.transfer refl (domain-approved-pends s mine op (full_as (standing_of p s c) c) taken e))
+        (domain-natural p r q (apart q r other) touched s.clock name yours yours (there (domain_asks_too op)) (there (domain_asks_too op)) op d d.transfer refl (domain-approved-pends t yours op (full_as (standing_of p t d) d) taken_too g)))
 
     transfer-domain : (op : TransferOp) → IsTakenHere (domain_asks op) → IsTakenThere (domain_asks_too op)
         → AreAlike (domain_transfer_changes p q s.clock op (domain_asks op) (here (domain_asks op)) (domain_seen (here (domain_asks op)) (name_of name)))
         (domain_transfer_changes p q s.clock op (domain_asks_too op) (there (domain_asks_too op)) (domain_seen (there (domain_asks_too op)) (name_of name)))
     transfer-domain ops.Query taken taken_too = equal-lists p r touched _ _
         (domain-query-changes-nothing s.clock (domain_asks ops.Query) (here (domain_asks ops.Query)) _ ∙ sym (domain-query-changes-nothing s.clock (domain_asks_too ops.Query) (there (domain_asks_too ops.Query)) _))
-    transfer-domain ops.Request taken taken_too = transfer-domain-by ops.Request (λ e. cc) taken taken_too
-    transfer-domain ops.Approve taken taken_too = transfer-domain-by ops.Approve (λ e. cc) taken taken_too
-    transfer-domain ops.Reject taken taken_too = transfer-domain-by ops.Reject (λ e. cc) taken taken_too
-    transfer-domain ops.Cancel taken taken_too = transfer-domain-by ops.Cancel (λ e. cc) taken taken_too
+    transfer-domain op taken taken_too = transfer-domain-by op (λ e. cc) taken taken_too
 
   -- ---- each request
 
   pub same-request : (request : Request) → IsTakenHere request → IsTakenThere request → AreAlike (changes_of p q s.clock request (here request)) (changes_of p q s.clock request (there request))
   unfolding changes_of
-  same-request requests.Logout taken taken_too = tt
-  same-request requests.Balance taken taken_too = tt
-  same-request (requests.CheckContact names) taken taken_too = tt
-  same-request (requests.CheckDomain names) taken taken_too = tt
-  same-request (requests.CheckHost names) taken taken_too = tt
-  same-request (requests.InfoContact name secret) taken taken_too = tt
-  same-request (requests.InfoDomain name secret) taken taken_too = tt
-  same-request (requests.InfoHost name) taken taken_too = tt
   same-request (requests.CreateContact new) taken taken_too = create-contact new
   same-request (requests.CreateDomain new) taken taken_too = create-domain new
   same-request (requests.CreateHost new) taken taken_too = create-host new
@@ -641,8 +543,8 @@ module _ (p : PolicyRules) (r q : ℕ) (other : q ≢ r) (touched : Objects) (s 
   same-request (requests.ReportRestore name del_time res_time) taken taken_too = report-domain name del_time res_time
   same-request (requests.TransferContact name op secret) taken taken_too = transfer-contact name secret secret op taken taken_too
   same-request (requests.TransferDomain name op secret) taken taken_too = transfer-domain name secret secret op taken taken_too
-  same-request requests.PollRequest taken taken_too = tt
   same-request (requests.PollAck id) taken taken_too = (same-change p r touched _, tt)
+  same-request request taken taken_too = tt
 
   -- the objects that are put are touched
   abbrev pub Marks : List Change → Type 0
@@ -651,14 +553,6 @@ module _ (p : PolicyRules) (r q : ℕ) (other : q ≢ r) (touched : Objects) (s 
   pub hidden-request : (h : Hidden) (request : Request) → IsTakenHere request → IsTakenThere (with_hidden h request) → (is_none (asks_of request).secret ≡ true → Marks (changes_of p q s.clock request (here request)))
       → AreAlike (changes_of p q s.clock request (here request)) (changes_of p q s.clock (with_hidden h request) (there (with_hidden h request)))
   unfolding changes_of
-  hidden-request h requests.Logout taken taken_too marks = tt
-  hidden-request h requests.Balance taken taken_too marks = tt
-  hidden-request h (requests.CheckContact names) taken taken_too marks = tt
-  hidden-request h (requests.CheckDomain names) taken taken_too marks = tt
-  hidden-request h (requests.CheckHost names) taken taken_too marks = tt
-  hidden-request h (requests.InfoContact name secret) taken taken_too marks = tt
-  hidden-request h (requests.InfoDomain name secret) taken taken_too marks = tt
-  hidden-request h (requests.InfoHost name) taken taken_too marks = tt
   hidden-request h (requests.CreateContact new) taken taken_too marks = create-contact-hidden h new (marks refl)
   hidden-request h (requests.CreateDomain new) taken taken_too marks = create-domain-hidden h new (marks refl)
   hidden-request h (requests.CreateHost new) taken taken_too marks = create-host new
@@ -673,5 +567,5 @@ module _ (p : PolicyRules) (r q : ℕ) (other : q ≢ r) (touched : Objects) (s 
   hidden-request h (requests.ReportRestore name del_time res_time) taken taken_too marks = report-domain name del_time res_time
   hidden-request h (requests.TransferContact name op secret) taken taken_too marks = transfer-contact name secret h.secret op taken taken_too
   hidden-request h (requests.TransferDomain name op secret) taken taken_too marks = transfer-domain name secret h.secret op taken taken_too
-  hidden-request h requests.PollRequest taken taken_too marks = tt
   hidden-request h (requests.PollAck id) taken taken_too marks = (same-change p r touched _, tt)
+  hidden-request h request taken taken_too marks = tt

@@ -1,3 +1,4 @@
+pub mod Words
 pub mod AccountLemmas
 pub mod RedactionLemmas
 pub mod ChangeLemmas

@@ -1,42 +1,18 @@
 -- A registrar that presents no right secret of what is touched sees registries alike that are one but
 -- for that, and is told the same.
-use Rattle.std.proofs.Common.{◌≡◌, ℕ, Bool, true, false, cond, not, ◌&&◌, ◌==◌, List, [], Option, Some, None, option_map, refl, sym, ap, ◌∙◌}
-use Rattle.std.specs.Cmp.Lexicographic.{slice_cmp, nat_list_cmp_total}
-use Rattle.std.specs.FinMap.{FinMap, get, same_map}
-use Rattle.std.specs.Ordering.{nat_cmp}
-use Rattle.accounts.specs.declared.account.Account.{Account}
-use Rattle.basis.specs.Maps.{map_values}
-use Rattle.basis.proofs.MapLemmas.{names_apart, get-map_values}
-use Rattle.facts.specs.Facts.{facts}
+use Rattle.std.proofs.Common.{◌≡◌, ℕ, Bool, true, false, cond, not, ◌==◌, List, [], Option, Some, None, option_map, refl, sym, ap, ◌∙◌}
 use Rattle.lifecycle.specs.Graces.{graces}
-use Rattle.model.specs.Registry.{Registry, account_of}
-use Rattle.model.specs.Standing.{standing_of}
-use Rattle.model.specs.View.{domain_sight, view_for}
-use Rattle.objects.specs.declared.contact.Contact.{Contact}
-use Rattle.objects.specs.declared.contact.ContactFace.{ContactFace}
-use Rattle.objects.specs.declared.domain.Domain.{Domain}
-use Rattle.objects.specs.declared.domain.DomainFace.{DomainFace}
-use Rattle.objects.specs.declared.domain.FullDomain.{FullDomain}
 use Rattle.objects.specs.declared.grace.Graces.{Graces}
 use Rattle.objects.specs.declared.grace.Standing.{Standing}
-use Rattle.objects.specs.declared.sight.Seen.{Seen}
-use Rattle.objects.specs.Contacts.{contact_face_of}
-use Rattle.objects.specs.Domains.{face_of}
-use Rattle.objects.specs.Sight.{authorizes, contact_as, domain_as, is_party}
-use Rattle.policy.specs.Rules.{PolicyRules}
-use Rattle.protocol.specs.declared.command.Command.{Command}
-use Rattle.protocol.specs.Requests.{presented, presented_contact}
-use Rattle.decisions.specs.Decisions.{decided}
-use Rattle.decisions.specs.Steps.{answer, decision, reply_of}
 use Rattle.decisions.proofs.ViewLemmas.{same_facts}
-use Rattle.isolation.specs.Alike.{PresentsNone}
 use Rattle.isolation.specs.Public.{public_part}
-use Rattle.isolation.specs.Redaction.{Objects, AreOne, is_redacted, no_postal, redacted, redacted_contact, redacted_domain, without_deposits}
 use Rattle.isolation.proofs.AccountLemmas.{graces-charges}
 use Rattle.isolation.proofs.RedactionLemmas.{account-left, same-clock, same-hosts, same-own}
-
-abbrev Named : Type 0 → Type 0
-Named X = FinMap (slice_cmp nat_cmp) X
+use Rattle.isolation.proofs.Words.{slice_cmp, nat_list_cmp_total, FinMap, get, same_map, nat_cmp, and_parts, false_from_ne_true, not-true, true≢false}
+use Rattle.isolation.proofs.Words.{Account, map_values, names_apart, get-map_values, facts, Registry, account_of, standing_of, domain_sight, view_for}
+use Rattle.isolation.proofs.Words.{Contact, ContactFace, Domain, DomainFace, FullDomain, Seen, contact_face_of, face_of, authorizes, contact_as, domain_as}
+use Rattle.isolation.proofs.Words.{is_party, PolicyRules, Command, presented, presented_contact, decided, answer, decision, reply_of, PresentsNone, Objects}
+use Rattle.isolation.proofs.Words.{AreOne, is_redacted, no_postal, redacted, redacted_contact, redacted_domain, without_deposits}
 
 -- ---- graces hang on no deposit
 
@@ -56,19 +32,6 @@ module _ (p : PolicyRules) (r : ℕ) (touched : Objects) (s : Registry) where
 abbrev looked_at : Bool → Option (List ℕ) → Option (List ℕ)
 looked_at out presented = cond out None presented
 
-parts : (a b : Bool) → (a && b) ≡ true → (a ≡ true) × (b ≡ true)
-parts true true e = (refl, refl)
-parts true false e = cc
-parts false b e = cc
-
-stranger : (party : Bool) → not party ≡ true → party ≡ false
-stranger true e = cc
-stranger false e = refl
-
-no-more : (a b : Bool) → a ≡ true → (b ≡ true → a ≡ false) → b ≡ false
-no-more a true e f = sym e ∙ f refl
-no-more a false e f = refl
-
 module _ (r : ℕ) (touched : Objects) where
   contact-seen : (c : Contact) (secret : Option (List ℕ)) → (authorizes secret c.secret ≡ true → touched c.roid ≡ false)
       → contact_as r secret c ≡ contact_as r (looked_at (is_redacted r touched c.roid c.sponsor c.transfer) secret) (redacted_contact r touched c)
@@ -77,8 +40,8 @@ module _ (r : ℕ) (touched : Objects) where
       by : (out : Bool) → is_redacted r touched c.roid c.sponsor c.transfer ≡ out
           → contact_as r secret c ≡ contact_as r (looked_at out secret) (record c { secret = cond out [] c.secret; postal = cond out no_postal c.postal; voice = cond out None c.voice; mail = cond out [] c.mail })
       by true e =
-          let here = parts (touched c.roid) (not (is_party r c.sponsor c.transfer)) e in
-          rw (stranger (is_party r c.sponsor c.transfer) here.1, no-more (touched c.roid) (authorizes secret c.secret) here.0 none) refl
+          let here = and_parts (touched c.roid) (not (is_party r c.sponsor c.transfer)) e in
+          rw (not-true (is_party r c.sponsor c.transfer) here.1, false_from_ne_true (authorizes secret c.secret) (λ right. true≢false (sym here.0 ∙ none right))) refl
       by false e = refl
 
   domain-seen : (d : Domain) (standing : Standing) (secret : Option (List ℕ)) → (authorizes secret d.secret ≡ true → touched d.roid ≡ false)
@@ -88,14 +51,14 @@ module _ (r : ℕ) (touched : Objects) where
       by : (out : Bool) → is_redacted r touched d.roid d.sponsor d.transfer ≡ out
           → domain_as r secret standing d ≡ domain_as r (looked_at out secret) standing (record d { secret = cond out [] d.secret })
       by true e =
-          let here = parts (touched d.roid) (not (is_party r d.sponsor d.transfer)) e in
-          rw (stranger (is_party r d.sponsor d.transfer) here.1, no-more (touched d.roid) (authorizes secret d.secret) here.0 none) refl
+          let here = and_parts (touched d.roid) (not (is_party r d.sponsor d.transfer)) e in
+          rw (not-true (is_party r d.sponsor d.transfer) here.1, false_from_ne_true (authorizes secret d.secret) (λ right. true≢false (sym here.0 ∙ none right))) refl
       by false e = refl
 
 -- ---- the view
 
 -- values that look alike at each name of a map, and once more what is left of them
-seen-left : {X Y : Type 0} (see : List ℕ → X → Y) (out : X → X) (see_left : List ℕ → X → Y) (m : Named X)
+seen-left : {X Y : Type 0} (see : List ℕ → X → Y) (out : X → X) (see_left : List ℕ → X → Y) (m : FinMap (slice_cmp nat_cmp) X)
     → ((name : List ℕ) (x : X) → get m name ≡ Some x → see name x ≡ see_left name (out x)) → map_values see m ≡ map_values see_left (map_values (λ (name : List ℕ). out) m)
 seen-left {X} {Y} see out see_left m alike = same_map nat_list_cmp_total names_apart _ _ (λ q.
     get-map_values (slice_cmp nat_cmp) nat_list_cmp_total names_apart see m q

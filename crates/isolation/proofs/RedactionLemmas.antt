@@ -1,23 +1,10 @@
 -- What is left out once is left out twice, and more is left out of what is left.
 use Rattle.std.proofs.Common.{◌≡◌, ◌≢◌, ℕ, Bool, true, false, cond, ◌&&◌, ◌==◌, List, [], Option, Some, None, option_map, refl, sym, ap, ◌∙◌, eqb-true}
-use Rattle.std.specs.Prelude.{unwrap_or}
-use Rattle.std.specs.Cmp.{nat_cmp_total}
-use Rattle.std.specs.Cmp.Lexicographic.{slice_cmp, nat_list_cmp_total}
-use Rattle.std.specs.FinMap.{FinMap, get, nat_cmp-IsAntisymmetric}
-use Rattle.std.specs.Ordering.{nat_cmp}
-use Rattle.std.proofs.lemmas.Bool.{eq-eqb}
-use Rattle.accounts.specs.declared.account.Account.{Account}
-use Rattle.accounts.specs.declared.line.Line.{Line}
-use Rattle.accounts.specs.Account.{empty_account}
-use Rattle.basis.specs.Maps.{map_values}
-use Rattle.basis.proofs.MapLemmas.{names_apart, get-map_values, map_values-twice}
-use Rattle.model.specs.Registry.{Registry, account_of}
-use Rattle.objects.specs.declared.contact.Contact.{Contact}
-use Rattle.objects.specs.declared.contact.Postal.{Postal}
-use Rattle.objects.specs.declared.domain.Domain.{Domain}
-use Rattle.objects.specs.declared.roid.Roid.{Roid}
-use Rattle.isolation.specs.Redaction.{Objects, AreOne, is_charge, is_redacted, no_postal, redacted, redacted_account, redacted_contact, redacted_domain, blank_if, without_deposits}
 use Rattle.isolation.proofs.AccountLemmas.{filter-twice}
+use Rattle.isolation.proofs.Words.{unwrap_or, nat_cmp_total, slice_cmp, nat_list_cmp_total, FinMap, get, nat_cmp-IsAntisymmetric, nat_cmp, and_from}
+use Rattle.isolation.proofs.Words.{and_parts, eq-eqb, false_from_ne_true, Account, Line, empty_account, map_values, names_apart, get-map_values}
+use Rattle.isolation.proofs.Words.{map_values-twice, Registry, account_of, Contact, Postal, Domain, Roid, Objects, AreOne, is_charge, is_redacted}
+use Rattle.isolation.proofs.Words.{no_postal, redacted, redacted_account, redacted_contact, redacted_domain, blank_if, without_deposits}
 
 -- ---- hidden data
 
@@ -46,18 +33,12 @@ secret-twice false c more secret d = refl
 
 -- what is left out stays so, where who is no party stays none
 pub still-out : (a b c : Bool) → (b ≡ true → c ≡ true) → (a && b) ≡ true → (a && c) ≡ true
-still-out true b c more e = more e
-still-out false b c more e = absurd cc
+still-out a b c more e = let both = and_parts a b e in and_from a c both.0 (more both.1)
 
 -- ---- larger sets
 
-pub IsWithin : Objects → Objects → Type 0
-IsWithin touched more = (roid : Roid) → touched roid ≡ true → more roid ≡ true
-
 both-more : (a b c : Bool) → (a ≡ true → b ≡ true) → (a && c) ≡ true → (b && c) ≡ true
-both-more true true c more e = e
-both-more true false c more e = let never : false ≡ true = more refl in absurd cc
-both-more false b c more e = absurd cc
+both-more a b c more e = let both = and_parts a c e in and_from b c (more both.0) both.1
 
 module _ (r : ℕ) (touched more : Objects) (within : (roid : Roid) → touched roid ≡ true → more roid ≡ true) where
   contact-more : (c : Contact) → redacted_contact r more (redacted_contact r touched c) ≡ redacted_contact r more c
@@ -103,11 +84,7 @@ module _ (r q : ℕ) where
 -- ---- what registries that are one share
 
 pub apart : (q r : ℕ) → q ≢ r → (q == r) ≡ false
-apart q r other = by (q == r) refl
-  where
-    by : (b : Bool) → (q == r) ≡ b → b ≡ false
-    by true e = absurd (other (eqb-true q r e))
-    by false e = refl
+apart q r other = false_from_ne_true (q == r) (λ e. other (eqb-true q r e))
 
 module _ (r : ℕ) (touched : Objects) where
   contact-left : (s : Registry) (name : List ℕ) → get (redacted r touched s).contacts name ≡ option_map (redacted_contact r touched) (get s.contacts name)

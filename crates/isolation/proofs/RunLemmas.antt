@@ -1,22 +1,19 @@
 -- Alike lists tell a registrar the same, and leave everybody the same to look up.
 use Rattle.std.proofs.Common.{◌≡◌, ℕ, max, Bool, true, false, cond, List, [], ◌∷◌, refl, sym, ap, ap₂, ◌∙◌, arith}
 use Rattle.model.specs.Lapse.{lapse, lapsed, now}
-use Rattle.model.specs.Registry.{Registry}
 use Rattle.model.proofs.LapseLaws.{lapses-on}
-use Rattle.policy.specs.Rules.{PolicyRules}
-use Rattle.isolation.specs.Alike.{AreAlikeInTurn, Pair, deposits, first, firsts, hidden, same, second, seconds, touched_by}
 use Rattle.isolation.specs.Laws.{AlikeListsShowTheSame, AlikeListsTellTheSame, CallsAreStepsOfTwo, none}
-use Rattle.isolation.specs.Redaction.{Objects, AreOne, redacted}
 use Rattle.isolation.specs.Runs.{Answer, Question, answer_to, effect_of, is_asked_by, left_after, left_by_question, answers_to}
 use Rattle.isolation.proofs.OwnLemmas.{same-public}
 use Rattle.isolation.proofs.StepLemmas.{pairs-step}
 use Rattle.isolation.proofs.RedactionLemmas.{same-clock}
 use Rattle.isolation.proofs.TimeLemmas.{lapse-alike, lapsed-alike}
+use Rattle.isolation.proofs.Words.{Registry, PolicyRules, AreAlikeInTurn, Pair, first, firsts, same, second, seconds, touched_by, Objects}
+use Rattle.isolation.proofs.Words.{AreOne, redacted}
 
 same-asker : (r : ℕ) (pair : Pair) → is_asked_by r (first pair) ≡ is_asked_by r (second pair)
 same-asker r (same x) = refl
-same-asker r (hidden q cl_trid request h) = refl
-same-asker r (deposits registrar cents other) = refl
+same-asker r pair = refl
 
 told-by : (b : Bool) (x y : Answer) (xs ys : List Answer) → (b ≡ true → x ≡ y) → xs ≡ ys → cond b (x ∷ xs) xs ≡ cond b (y ∷ ys) ys
 told-by true x y xs ys answered more = ap₂ (λ (a : Answer) (rest : List Answer). a ∷ rest) (answered refl) more

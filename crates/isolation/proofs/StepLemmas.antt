@@ -1,57 +1,32 @@
 -- One step in each of two runs.
-use Rattle.std.proofs.Common.{◌≡◌, ◌≢◌, ℕ, ℤ, Bool, true, false, cond, ◌&&◌, ◌||◌, ◌==◌, List, [], Option, Some, None, is_none, option_and_then, option_map, refl, sym, ap, subst, ◌∙◌, eqb-true}
-use Rattle.std.specs.Cmp.Lexicographic.{slice_cmp}
-use Rattle.std.specs.FinMap.{FinMap, get}
-use Rattle.std.specs.List.{list_any}
-use Rattle.std.specs.Ordering.{nat_cmp}
-use Rattle.std.proofs.lemmas.Bool.{eq-eqb}
-use Rattle.std.proofs.lemmas.Option.{same_Some}
-use Rattle.facts.specs.declared.facts.Facts.{Facts}
-use Rattle.facts.specs.Facts.{facts}
-use Rattle.lifecycle.specs.declared.change.AccountChange.TheVariants.{CountCommand}
+use Rattle.std.proofs.Common.{◌≡◌, ◌≢◌, ℕ, ℤ, Bool, true, false, cond, ◌&&◌, ◌==◌, List, [], Option, Some, None, is_none, option_and_then, option_map, refl, sym, ap, subst, ◌∙◌, eqb-true}
 use Rattle.model.specs.declared.object.Object.TheVariants as objects
 use Rattle.model.specs.Objects.{object_at}
-use Rattle.model.specs.Registry.{Registry}
-use Rattle.objects.specs.declared.contact.Contact.{Contact}
-use Rattle.objects.specs.declared.domain.Domain.{Domain}
-use Rattle.objects.specs.declared.host.Host.{Host}
 use Rattle.objects.specs.declared.roid.ObjectKind.{ObjectKind}
 use Rattle.objects.specs.declared.roid.ObjectKind.TheVariants as kinds
-use Rattle.objects.specs.declared.roid.Roid.{Roid}
-use Rattle.policy.specs.Rules.{PolicyRules, place_of}
 use Rattle.protocol.specs.Codes.{is_accepted}
 use Rattle.protocol.specs.declared.code.Code.{Code}
-use Rattle.protocol.specs.declared.command.Command.{Command}
-use Rattle.protocol.specs.declared.command.Command.TheVariants.{Asked, Bad}
-use Rattle.protocol.specs.declared.command.Request.{Request}
 use Rattle.protocol.specs.declared.order.Order.{Order}
 use Rattle.protocol.specs.declared.order.Order.TheVariants as orders
 use Rattle.protocol.specs.declared.order.StatusOrder.{StatusOrder}
 use Rattle.protocol.specs.Orders.{name_ordered}
-use Rattle.protocol.specs.Requests.{asks_of}
-use Rattle.decisions.specs.declared.change.Change.{Change}
-use Rattle.decisions.specs.declared.change.Change.TheVariants.{Post, PutContact}
-use Rattle.decisions.specs.Changes.{changed_all}
 use Rattle.decisions.specs.Decisions.{changes_after, changes_of}
 use Rattle.decisions.specs.Orders.{cents_of, deposit_line, deposited, deposited_to, order_answer, order_changes, order_effect, ordered}
-use Rattle.decisions.specs.Steps.{answer, decision, effect}
 use Rattle.decisions.proofs.AcceptedLemmas.{carried-out}
-use Rattle.rules.proofs.RowLemmas.{refusing}
-use Rattle.rules.specs.Rules.{refusal_of}
 use Rattle.rules.specs.Verdicts.{granted, judged, unless_refused}
-use Rattle.isolation.specs.Alike.{Hidden, IsAlike, Pair, PresentsNone, code_given, deposits, first, hidden, puts, same, second, touched_by, with_hidden}
-use Rattle.isolation.specs.Redaction.{Objects, AreOne, is_redacted, redacted, redacted_contact, redacted_domain}
 use Rattle.isolation.specs.Runs.{answer_to, command, date, dated, effect_of, inspection, is_asked_by, look_up, order, reply, shown}
 use Rattle.isolation.proofs.ChangeLemmas.{AreAlikeChanges, IsAlikeChange, changed-alike, deposited-alike, give-alike, put-contact-alike, put-domain-alike, same-change, same-changes}
 use Rattle.isolation.proofs.CommandLemmas.{hidden-request, same-request}
 use Rattle.isolation.proofs.OwnLemmas.{answer-alike, decision-alike, same-public}
 use Rattle.isolation.proofs.PairLemmas.{equal-lists, no-changes, through}
 use Rattle.isolation.proofs.RedactionLemmas.{apart, left_out-twice, one-but-more, same-clock, same-contact, same-domain, same-hosts, secret-twice}
+use Rattle.isolation.proofs.Words.{slice_cmp, FinMap, get, list_any, nat_cmp, and_from, eq-eqb, false≢true, or_left, or_right, true≢false, same_Some, Facts}
+use Rattle.isolation.proofs.Words.{facts, CountCommand, Registry, Contact, Domain, Host, Roid, PolicyRules, place_of, Command, Asked, Bad, Request, asks_of}
+use Rattle.isolation.proofs.Words.{Change, Post, PutContact, changed_all, answer, decision, effect, refusing, refusal_of, Hidden, IsAlike, Pair}
+use Rattle.isolation.proofs.Words.{PresentsNone, deposits, first, hidden, puts, same, second, touched_by, with_hidden, Objects, AreOne}
+use Rattle.isolation.proofs.Words.{is_redacted, redacted, redacted_contact, redacted_domain}
 
 -- ---- a command that is carried out, and one that isn't
-
-never-both : {A : Type 0} → true ≡ false → A
-never-both e = absurd cc
 
 accepted-changes : (p : PolicyRules) (q u : ℕ) (cl_trid : Option (List ℕ)) (request : Request) (f : Facts) → refusal_of p q u request f ≡ None
     → changes_after p q u (Asked cl_trid request) f (judged p q u (Asked cl_trid request) f).code ≡ changes_of p q u request f
@@ -98,8 +73,8 @@ module _ (p : PolicyRules) (r q : ℕ) (other : q ≢ r) (touched : Objects) (s 
         subst (λ (xs : List Change). AreAlikeChanges p r touched xs (changes_after p q t.clock asked_too there (answer p q asked_too t).code)) (sym (accepted-changes p q s.clock cl_trid request here e))
         (subst (λ (ys : List Change). AreAlikeChanges p r touched (changes_of p q s.clock request here) ys)
         (ap (λ (u : ℕ). changes_of p q u request_too there) (same-clock r touched s t one) ∙ sym (accepted-changes p q t.clock cl_trid request_too there f)) (alike e f))
-    after-by None (Some code) e f = never-both (sym (accepted-code p q s.clock cl_trid request here e) ∙ ap is_accepted codes ∙ refused-code p q t.clock cl_trid request_too there code f)
-    after-by (Some code) None e f = never-both (sym (accepted-code p q t.clock cl_trid request_too there f) ∙ ap is_accepted (sym codes) ∙ refused-code p q s.clock cl_trid request here code e)
+    after-by None (Some code) e f = absurd (true≢false (sym (accepted-code p q s.clock cl_trid request here e) ∙ ap is_accepted codes ∙ refused-code p q t.clock cl_trid request_too there code f))
+    after-by (Some code) None e f = absurd (true≢false (sym (accepted-code p q t.clock cl_trid request_too there f) ∙ ap is_accepted (sym codes) ∙ refused-code p q s.clock cl_trid request here code e))
     after-by (Some code) (Some other_code) e f =
         no-changes p r touched _ _ (refused-changes p q s.clock cl_trid request here code e) (refused-changes p q t.clock cl_trid request_too there other_code f)
 
@@ -113,18 +88,6 @@ module _ (p : PolicyRules) (r q : ℕ) (other : q ≢ r) (touched : Objects) (s 
   other-command (Bad cl_trid fault) codes = changed-alike p r touched (decision p q (Bad cl_trid fault) s).changes (decision p q (Bad cl_trid fault) t).changes (same-change p r touched (Post q CountCommand), tt) s t one
   other-command (Asked cl_trid request) codes = other-asked p r q other touched s t one cl_trid request request codes (same-request p r q other touched s t one cl_trid request)
 
-either-way : (a b : Bool) → b ≡ true → (a || b) ≡ true
-either-way true b e = refl
-either-way false b e = e
-
-both-ways : (a b : Bool) → a ≡ true → b ≡ true → (a && b) ≡ true
-both-ways true b e f = f
-both-ways false b e f = cc
-
-first-way : (a b : Bool) → a ≡ true → (a || b) ≡ true
-first-way true b e = refl
-first-way false b e = cc
-
 module _ (p : PolicyRules) (r q : ℕ) (other : q ≢ r) (touched : Objects) (s t : Registry) (one : AreOne r touched s t) (cl_trid : Option (List ℕ)) (request : Request) (h : Hidden) where
   abbrev later : Objects
   later = touched_by p (hidden q cl_trid request h) s touched
@@ -133,13 +96,13 @@ module _ (p : PolicyRules) (r q : ℕ) (other : q ≢ r) (touched : Objects) (s 
   put-marks : refusal_of p q s.clock request (facts p q (Asked cl_trid request) s) ≡ None → is_none (asks_of request).secret ≡ true → (roid : Roid)
       → list_any (puts roid) (changes_of p q s.clock request (facts p q (Asked cl_trid request) s)) ≡ true → later roid ≡ true
   put-marks taken sets roid put =
-      either-way (touched roid) (is_none (asks_of request).secret && list_any (puts roid) (decision p q (Asked cl_trid request) s).changes)
-      (both-ways (is_none (asks_of request).secret) _ sets (ap (λ (xs : List Change). list_any (puts roid) xs) (accepted-changes p q s.clock cl_trid request (facts p q (Asked cl_trid request) s) taken) ∙ put))
+      or_right (touched roid) (is_none (asks_of request).secret && list_any (puts roid) (decision p q (Asked cl_trid request) s).changes)
+      (and_from (is_none (asks_of request).secret) _ sets (ap (λ (xs : List Change). list_any (puts roid) xs) (accepted-changes p q s.clock cl_trid request (facts p q (Asked cl_trid request) s) taken) ∙ put))
 
   pub other-hidden : (answer p q (Asked cl_trid request) s).code ≡ (answer p q (Asked cl_trid (with_hidden h request)) t).code
       → AreOne r later (effect p q (Asked cl_trid request) s) (effect p q (Asked cl_trid (with_hidden h request)) t)
   other-hidden codes =
-      let more : AreOne r later s t = one-but-more r touched later (λ roid e. first-way (touched roid) _ e) s t one in
+      let more : AreOne r later s t = one-but-more r touched later (λ roid e. or_left (touched roid) _ e) s t one in
       other-asked p r q other later s t more cl_trid request (with_hidden h request) codes
       (λ taken taken_too. hidden-request p r q other later s t more cl_trid h request taken taken_too (put-marks taken))
 
@@ -150,23 +113,21 @@ module _ (p : PolicyRules) (r : ℕ) (touched : Objects) (s t : Registry) (one :
     ordered-contact : (a b : Option Contact) → option_map (redacted_contact r touched) a ≡ option_map (redacted_contact r touched) b
         → AreAlikeChanges p r touched (order_changes o (option_map objects.Contact a)) (order_changes o (option_map objects.Contact b))
     ordered-contact None None alike = tt
-    ordered-contact None (Some d) alike = absurd cc
-    ordered-contact (Some c) None alike = absurd cc
     ordered-contact (Some c) (Some d) alike = through p r touched (redacted_contact r touched) (λ x. order_changes o (Some (objects.Contact x))) c d (same_Some _ _ alike) (kept c, tt) (kept d, tt)
       where
         kept : (x : Contact) → IsAlikeChange p r touched (PutContact (record x { statuses = ordered o x.statuses })) (PutContact (record (redacted_contact r touched x) { statuses = ordered o x.statuses }))
         kept x = put-contact-alike p r touched _ _ (left_out-twice (is_redacted r touched x.roid x.sponsor x.transfer) (is_redacted r touched x.roid x.sponsor x.transfer) (λ e. e) x.secret x.postal x.voice x.mail (record x { statuses = ordered o x.statuses }))
+    ordered-contact a b alike = absurd cc
 
     ordered-domain : (a b : Option Domain) → option_map (redacted_domain r touched) a ≡ option_map (redacted_domain r touched) b
         → AreAlikeChanges p r touched (order_changes o (option_map objects.Domain a)) (order_changes o (option_map objects.Domain b))
     ordered-domain None None alike = tt
-    ordered-domain None (Some d) alike = absurd cc
-    ordered-domain (Some c) None alike = absurd cc
     ordered-domain (Some c) (Some d) alike = through p r touched (redacted_domain r touched) (λ x. order_changes o (Some (objects.Domain x))) c d (same_Some _ _ alike)
         (put-domain-alike p r touched _ _ (kept c), tt) (put-domain-alike p r touched _ _ (kept d), tt)
       where
         kept : (x : Domain) → redacted_domain r touched (record x { statuses = ordered o x.statuses }) ≡ redacted_domain r touched (record (redacted_domain r touched x) { statuses = ordered o x.statuses })
         kept x = secret-twice (is_redacted r touched x.roid x.sponsor x.transfer) (is_redacted r touched x.roid x.sponsor x.transfer) (λ e. e) x.secret (record x { statuses = ordered o x.statuses })
+    ordered-domain a b alike = absurd cc
 
     ordered-kind : (kind : ObjectKind) (name : List ℕ) → AreAlikeChanges p r touched (order_changes o (object_at s kind name)) (order_changes o (object_at t kind name))
     ordered-kind kinds.Contact name = ordered-contact (get s.contacts name) (get t.contacts name) (same-contact r touched s t one name)
@@ -180,8 +141,8 @@ module _ (p : PolicyRules) (r : ℕ) (touched : Objects) (s t : Registry) (one :
     -- by whether it is refused
     ordered-by : (a b : Bool) (xs ys : List Change) → a ≡ b → AreAlikeChanges p r touched xs ys → AreAlikeChanges p r touched (cond a xs []) (cond b ys [])
     ordered-by true true xs ys e alike = alike
-    ordered-by true false xs ys e alike = never-both e
-    ordered-by false true xs ys e alike = never-both (sym e)
+    ordered-by true false xs ys e alike = absurd (true≢false e)
+    ordered-by false true xs ys e alike = absurd (false≢true e)
     ordered-by false false xs ys e alike = tt
 
   pub same-order : (o : Order) → order_answer p o s ≡ order_answer p o t → AreOne r touched (order_effect p o s) (order_effect p o t)
@@ -221,34 +182,25 @@ module _ (p : PolicyRules) (r : ℕ) (touched : Objects) (s t : Registry) (one :
     answer-alike p r touched c s t one mine yours,
   )
 
-  same-reply : (q : ℕ) (c : Command) → q ≡ r → answer p r c s ≡ answer p r c t → answer p q c s ≡ answer p q c t
-  same-reply q c e answer_is = subst (λ (n : ℕ). answer p n c s ≡ answer p n c t) (sym e) answer_is
-
-  codes-of : (q : ℕ) (c d : Command) → code_given (answer_to p (command q c) s) ≡ code_given (answer_to p (command q d) t) → (answer p q c s).code ≡ (answer p q d t).code
-  codes-of q c d e = same_Some _ _ e
-
   by-caller : (q : ℕ) (c : Command) (b : Bool) → (q == r) ≡ b → IsAlike p r touched (same (command q c)) s t
       → AreOne r touched (effect p q c s) (effect p q c t) × (b ≡ true → answer_to p (command q c) s ≡ answer_to p (command q c) t)
   by-caller q c true e alike =
       let own : q ≡ r = eqb-true q r e in
       let mine = own-command c (alike.presents own) (alike.presents_too own) in
-      (subst (λ (n : ℕ). AreOne r touched (effect p n c s) (effect p n c t)) (sym own) mine.0, λ f. ap reply (same-reply q c own mine.1))
-  by-caller q c false e alike = (other-command p r q (λ own. never-both (sym (ap (λ (n : ℕ). n == r) own ∙ eq-eqb r r refl) ∙ e)) touched s t one c (codes-of q c c (alike.codes e)), λ f. never-both (sym f))
-
-not-asked : (q r : ℕ) → q ≢ r → (q == r) ≡ false
-not-asked q r other = apart q r other
+      (subst (λ (n : ℕ). AreOne r touched (effect p n c s) (effect p n c t)) (sym own) mine.0, λ f. ap reply (subst (λ (n : ℕ). answer p n c s ≡ answer p n c t) (sym own) mine.1))
+  by-caller q c false e alike = (other-command p r q (λ own. absurd (true≢false (sym (ap (λ (n : ℕ). n == r) own ∙ eq-eqb r r refl) ∙ e))) touched s t one c (same_Some _ _ (alike.codes e)), λ f. absurd (false≢true f))
 
 -- registries that are one but for what is touched are so afterwards, and the registrar is told the same
 pub pairs-step : (p : PolicyRules) (r : ℕ) (touched : Objects) (pair : Pair) (s t : Registry) → AreOne r touched s t → IsAlike p r touched pair s t
     → AreOne r (touched_by p pair s touched) (effect_of p (first pair) s) (effect_of p (second pair) t)
     × (is_asked_by r (first pair) ≡ true → answer_to p (first pair) s ≡ answer_to p (second pair) t)
 pairs-step p r touched (same (command q c)) s t one alike = by-caller p r touched s t one q c (q == r) refl alike
-pairs-step p r touched (same (order o)) s t one alike = (same-order p r touched s t one o (same_Some _ _ (alike.codes refl)), λ e. never-both (sym e))
+pairs-step p r touched (same (order o)) s t one alike = (same-order p r touched s t one o (same_Some _ _ (alike.codes refl)), λ e. absurd (false≢true e))
 pairs-step p r touched (same date) s t one alike = (one, λ e. ap dated (same-clock r touched s t one))
 pairs-step p r touched (same look_up) s t one alike = (one, λ e. ap shown (same-public p r touched s t one))
-pairs-step p r touched (same inspection) s t one alike = (one, λ e. never-both (sym e))
+pairs-step p r touched (same inspection) s t one alike = (one, λ e. absurd (false≢true e))
 pairs-step p r touched (hidden q cl_trid request h) s t one alike =
-    let apart_too : (q == r) ≡ false = not-asked q r alike.elsewhere in
-    (other-hidden p r q alike.elsewhere touched s t one cl_trid request h (same_Some _ _ (alike.codes apart_too)), λ e. never-both (sym e ∙ apart_too))
+    let apart_too : (q == r) ≡ false = apart q r alike.elsewhere in
+    (other-hidden p r q alike.elsewhere touched s t one cl_trid request h (same_Some _ _ (alike.codes apart_too)), λ e. absurd (true≢false (sym e ∙ apart_too)))
 pairs-step p r touched (deposits registrar cents others) s t one alike =
-    (other-deposit p r touched s t one registrar alike.elsewhere cents others (same_Some _ _ (alike.codes refl)), λ e. never-both (sym e))
+    (other-deposit p r touched s t one registrar alike.elsewhere cents others (same_Some _ _ (alike.codes refl)), λ e. absurd (false≢true e))

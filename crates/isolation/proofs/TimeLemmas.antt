@@ -1,38 +1,18 @@
 -- Time passes alike in registries that are one but for what is redacted.
 use Rattle.std.proofs.Common.{◌≡◌, ℕ, zero, suc, max, Bool, true, false, cond, not, ◌&&◌, ◌||◌, ◌==◌, nat_le, nat_lt, List, [], ◌∷◌, ◌++◌, map, Option, Some, None, option_map, refl, sym, ap, ap₂, ◌∙◌}
-use Rattle.std.specs.Prelude.{fold}
-use Rattle.std.specs.Cmp.Lexicographic.{slice_cmp, nat_list_cmp_total}
-use Rattle.std.specs.FinMap.{FinMap, entries, get, same_map}
 use Rattle.std.specs.Option.{option_map_or}
-use Rattle.std.specs.Ordering.{nat_cmp}
-use Rattle.accounts.specs.declared.account.Account.{Account}
-use Rattle.accounts.specs.declared.entries.Posting.{Posting}
-use Rattle.accounts.specs.Entries.{posted}
-use Rattle.basis.specs.Maps.{map_values}
 use Rattle.basis.specs.Sweeps.{given, given_list, kept}
 use Rattle.basis.proofs.ApartLaws.{get-kept}
-use Rattle.basis.proofs.MapLemmas.{names_apart, entries-map_values, get-map_values}
 use Rattle.lifecycle.specs.Lapse.{approved, completion, contact_completed, contact_moved, due_by, gained, lapse as lapse_domain, lapse_by, lapse_contact, leaves, lived, moved, purged, raised, renewals, turn}
 use Rattle.lifecycle.specs.Phases.{purge_at}
 use Rattle.lifecycle.specs.Turns.{turns}
-use Rattle.objects.specs.declared.contact.Contact.{Contact}
 use Rattle.objects.specs.declared.domain.Deletion.{Deletion}
-use Rattle.objects.specs.declared.domain.Domain.{Domain}
-use Rattle.objects.specs.declared.transfer.Transfer.{Transfer}
-use Rattle.objects.specs.Sight.{is_party}
-use Rattle.objects.specs.Transfers.{is_pending_state}
-use Rattle.policy.specs.Rules.{PolicyRules}
 use Rattle.model.specs.Lapse.{accounts_at, contacts_at, domains_at, lapse, lapsed, postings}
-use Rattle.model.specs.Registry.{Registry}
-use Rattle.isolation.specs.Redaction.{Objects, AreOne, is_redacted, redacted, redacted_account, redacted_contact, redacted_domain}
-use Rattle.isolation.proofs.ChangeLemmas.{account-alike, entered-alike}
+use Rattle.isolation.proofs.ChangeLemmas.{Accounts, Named, account-alike, entered-alike}
 use Rattle.isolation.proofs.RedactionLemmas.{left_out-twice, same-clock, secret-twice, still-out}
-
-abbrev Named : Type 0 → Type 0
-Named X = FinMap (slice_cmp nat_cmp) X
-
-abbrev Accounts : Type 0
-Accounts = FinMap nat_cmp Account
+use Rattle.isolation.proofs.Words.{fold, slice_cmp, nat_list_cmp_total, entries, get, same_map, nat_cmp, Posting, posted, map_values}
+use Rattle.isolation.proofs.Words.{names_apart, entries-map_values, get-map_values, Contact, Domain, Transfer, is_party, is_pending_state, PolicyRules}
+use Rattle.isolation.proofs.Words.{Registry, Objects, AreOne, is_redacted, redacted, redacted_account, redacted_contact, redacted_domain}
 
 -- ---- a completed transfer brings nothing to the registrar but what was coming to it
 
