@@ -32,91 +32,53 @@ postal_plain p = members_plain (postal_members p) (refl, (refl, (refl, (maybe_te
 contact_plain : (c : ContactInfo) → ArePlain (contact_members c)
 contact_plain c = (
   refl,
-  (
-    refl,
-    (
-      maybe_plain (λ h. string h.mail) c.hidden (λ h. refl),
-      (
-        refl,
-        (
-          maybe_plain (λ h. postal_value h.postal) c.hidden (λ h. postal_plain h.postal),
-          (
-            refl,
-            (
-              maybe_text (option_and_then (λ h. h.secret) c.hidden),
-              (
-                texts (map status_text c.face.statuses),
-                (
-                  maybe_moment c.face.transferred,
-                  (
-                    maybe_plain transfer_value (contact_transfer_of c) transfer_plain,
-                    (maybe_moment c.face.updated, (maybe_text (option_and_then (λ h. h.voice) c.hidden), tt)),
-                  ),
-                ),
-              ),
-            ),
-          ),
-        ),
-      ),
-    ),
-  ),
+  refl,
+  maybe_plain (λ h. string h.mail) c.hidden (λ h. refl),
+  refl,
+  maybe_plain (λ h. postal_value h.postal) c.hidden (λ h. postal_plain h.postal),
+  refl,
+  maybe_text (option_and_then (λ h. h.secret) c.hidden),
+  texts (map status_text c.face.statuses),
+  maybe_moment c.face.transferred,
+  maybe_plain transfer_value (contact_transfer_of c) transfer_plain,
+  maybe_moment c.face.updated,
+  maybe_text (option_and_then (λ h. h.voice) c.hidden),
+  tt,
 )
 
 host_plain : (h : HostInfo) → ArePlain (host_members h)
 host_plain h = (
   texts h.face.addresses,
-  (refl, (refl, (refl, (refl, (texts (map status_text h.face.statuses), (maybe_moment h.face.updated, tt)))))),
+  refl,
+  refl,
+  refl,
+  refl,
+  texts (map status_text h.face.statuses),
+  maybe_moment h.face.updated,
+  tt,
 )
 
 domain_plain : (d : DomainInfo) → ArePlain (domain_members d)
 domain_plain d = (
   texts d.face.links.admin,
-  (
-    refl,
-    (
-      refl,
-      (
-        maybe_moment (deleted_of d),
-        (
-          refl,
-          (
-            texts d.face.links.hosts,
-            (
-              refl,
-              (
-                refl,
-                (
-                  maybe_moment (restore_requested_of d),
-                  (
-                    texts (map rgp_text (states_of d.face.standing)),
-                    (
-                      refl,
-                      (
-                        maybe_text (secret_of d),
-                        (
-                          texts (map status_text d.face.statuses),
-                          (
-                            texts d.subordinate,
-                            (
-                              texts d.face.links.tech,
-                              (
-                                maybe_moment d.face.transferred,
-                                (maybe_plain transfer_value (transfer_of d) transfer_plain, (maybe_moment d.face.updated, tt)),
-                              ),
-                            ),
-                          ),
-                        ),
-                      ),
-                    ),
-                  ),
-                ),
-              ),
-            ),
-          ),
-        ),
-      ),
-    ),
-  ),
+  refl,
+  refl,
+  maybe_moment (deleted_of d),
+  refl,
+  texts d.face.links.hosts,
+  refl,
+  refl,
+  maybe_moment (restore_requested_of d),
+  texts (map rgp_text (states_of d.face.standing)),
+  refl,
+  maybe_text (secret_of d),
+  texts (map status_text d.face.statuses),
+  texts d.subordinate,
+  texts d.face.links.tech,
+  maybe_moment d.face.transferred,
+  maybe_plain transfer_value (transfer_of d) transfer_plain,
+  maybe_moment d.face.updated,
+  tt,
 )
 
 data_plain : (d : the_data.Data) → IsPlain (data_value d)
