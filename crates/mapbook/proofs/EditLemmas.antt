@@ -1,21 +1,13 @@
 -- To take an edit back is to go back.
 use Rattle.std.proofs.Common.{◌≡◌, ◌+◌, ◌-◌, ◌<◌, length, length-append, take, get_or, arith, List, [], ◌∷◌, ◌++◌, Option, Some, None, Result, Ok, Err, OnOk, OnErr, OnSome, refl, sym, ap, ◌∙◌}
-use Rattle.std.specs.Prelude.{option_map, slice_get}
 use Rattle.std.proofs.Math.Seq.{take-append_seam, take-length}
 use Rattle.std.proofs.lemmas.List.{take_more}
 use Rattle.std.proofs.lemmas.Option.{slice_get_within, slice_get-get_or}
-use Rattle.std.specs.Cmp.{nat_cmp_total}
-use Rattle.std.specs.Cmp.Lexicographic.{slice_cmp, nat_list_cmp_total}
-use Rattle.std.specs.FinMap.{get, nat_cmp-IsAntisymmetric}
-use Rattle.std.specs.Ordering.{nat_cmp}
 use Rattle.std.specs.Result.{IfOk}
-use Rattle.basis.proofs.MapLemmas.{names_apart}
-use Rattle.mapbook.specs.declared.edit.Edit.{Edit}
+use Rattle.mapbook.proofs.Words.{account_edited, Edit, edited, get, names_apart, nat_cmp, nat_cmp-IsAntisymmetric, nat_cmp_total, nat_list_cmp_total}
+use Rattle.mapbook.proofs.Words.{option_map, put-back, slice_cmp, slice_get, Stored, undone_all}
 use Rattle.mapbook.specs.declared.edit.Edit.TheVariants as edit
-use Rattle.books.specs.Book.{Stored}
 use Rattle.mapbook.specs.inner.Edits.{inverse}
-use Rattle.mapbook.specs.Edits.{account_edited, edited, undone_all}
-use Rattle.books.proofs.PutLemmas.{put-back}
 
 -- ---- what went well, and what didn't
 

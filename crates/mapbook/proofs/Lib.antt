@@ -4,3 +4,4 @@ pub mod QuietLemmas
 pub mod PlainLemmas
 pub mod HeldLemmas
 mod RenameLemmas
+pub mod Words

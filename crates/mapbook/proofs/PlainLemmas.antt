@@ -1,13 +1,7 @@
 -- What an edit leaves of records in ordered maps.
 use Rattle.std.proofs.Common.{◌≡◌, ℕ, [], Bool, true, refl, sym, ap, ◌∙◌, if◌then◌else◌}
-use Rattle.std.specs.Prelude.{is_some}
-use Rattle.std.specs.FinMap.{get}
-use Rattle.books.specs.Book.{Stored}
-use Rattle.mapbook.specs.Plain.{readiness_if_used}
+use Rattle.mapbook.proofs.Words.{account_opened, get, is_some, leaves-refl, readiness_if_used, Stored, Writes}
 use Rattle.books.specs.Records.{RecordsState}
-use Rattle.states.specs.States.{Writes}
-use Rattle.states.proofs.LeavingLemmas.{leaves-refl}
-use Rattle.mapbook.specs.inner.Posting.{account_opened}
 use Rattle.mapbook.proofs.PostingLemmas.{opened-same}
 
 -- in memory: what is in the maps, where going back leads, whether a transaction is open, and whether one was kept

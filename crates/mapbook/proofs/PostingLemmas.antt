@@ -1,31 +1,20 @@
 -- How an account in ordered maps is changed where it is there.
 use Rattle.std.proofs.Common.{◌≡◌, ℕ, Bool, true, false, cond, List, [], ◌∷◌, Option, Some, None, fold, is_some, IsSomeAnd, option_map, refl, sym, ap, ◌∙◌}
-use Rattle.std.specs.Prelude.{slice_get, unwrap_or}
-use Rattle.std.specs.Cmp.{eq_by_cmp_equiv, nat_cmp_total}
-use Rattle.std.specs.FinMap.{FinMap, get, insert, get-remove, nat_cmp-IsAntisymmetric}
-use Rattle.std.specs.Ordering.{nat_cmp}
-use Rattle.std.specs.Str.{bytes_eq}
+use Rattle.mapbook.proofs.Words.{account_edited, account_of, account_opened, AccountEdit, ack_edits, all_changed, all_edited, bytes_eq, changed}
+use Rattle.mapbook.proofs.Words.{changed-if, changed_each, changed_there, eq_by_cmp_equiv, FinMap, get, get-remove, insert, Message, nat_cmp}
+use Rattle.mapbook.proofs.Words.{nat_cmp-IsAntisymmetric, nat_cmp_total, posted_to, put-back, put-put, put-same, put-there, slice_get, Stored}
+use Rattle.mapbook.proofs.Words.{swap_edits, swapped, swapped_all, unwrap_or, with_accounts, with_acked}
 use Rattle.accounts.specs.declared.account.Account.{Account}
 use Rattle.accounts.specs.declared.line.LineSwap.{LineSwap}
-use Rattle.accounts.specs.declared.message.Message.{Message}
 use Rattle.accounts.specs.Account.{empty_account}
 use Rattle.accounts.specs.Entries.{with_lines}
-use Rattle.accounts.specs.Lines.{swapped, swapped_all}
 use Rattle.accounts.specs.MessageOrder.{message_eq_equiv}
 use Rattle.accounts.specs.Messages.{message_id}
 use Rattle.accounts.specs.Queue.{acked, dropped}
-use Rattle.lifecycle.specs.Changes.{all_changed, changed, with_acked}
 use Rattle.lifecycle.specs.declared.change.AccountChange.{AccountChange}
-use Rattle.model.specs.Registry.{account_of}
 use Rattle.policy.specs.Rules.{PolicyRules}
-use Rattle.books.specs.Book.{Stored}
 use Rattle.books.specs.Ledgers.{changed_if_there, entry_set}
-use Rattle.books.specs.Tables.{posted_to, with_accounts}
-use Rattle.books.proofs.PutLemmas.{changed-if, put-back, put-put, put-same, put-there}
-use Rattle.mapbook.specs.declared.account_edit.AccountEdit.{AccountEdit}
 use Rattle.mapbook.specs.declared.account_edit.AccountEdit.TheVariants.{TakeMessage}
-use Rattle.mapbook.specs.Edits.{account_edited, all_edited}
-use Rattle.mapbook.specs.inner.Posting.{account_opened, ack_edits, changed_each, changed_there, swap_edits}
 
 module _ (r : ℕ) (m : FinMap nat_cmp Account) where
   -- what is put where it was

@@ -1,33 +1,22 @@
 -- Until when nothing is due.
 use Rattle.std.proofs.Common.{◌≡◌, ◌⊎◌, ⊎_elim, ℕ, ◌<◌, ◌≤◌, Bool, true, false, cond, nat_lt, List, [], ◌∷◌, Option, Some, None, option_and_then, option_map, refl, sym, subst, ap, ◌∙◌, arith}
 use Rattle.std.proofs.lemmas.Bool.Decides.{nat_tests}
-use Rattle.std.specs.Prelude.{fold, unwrap_or}
-use Rattle.std.specs.Cmp.Lexicographic.{nat_list_cmp_total, slice_cmp}
-use Rattle.std.specs.FinMap.{entries, find, get, get-entries, insert}
-use Rattle.std.specs.Ordering.{eq_by_cmp, nat_cmp}
+use Rattle.mapbook.proofs.Words.{contact_due, Domain, domain_due, domain_set, due_then, Edit, edited, entries, eq_by_cmp, find, fold, found_due, get}
+use Rattle.mapbook.proofs.Words.{get-entries, HasDaysOf, insert, IsQuiet, names_apart, nat_cmp, nat_list_cmp_total, NoneBefore, quiet_after}
+use Rattle.mapbook.proofs.Words.{Registry, slice_cmp, sooner, sooner_with, Stored, until_contacts, until_domains, unwrap_or, with_due}
 use Rattle.basis.proofs.EntryLaws.{Each, each_entry}
-use Rattle.basis.proofs.MapLemmas.{names_apart}
 use Rattle.lifecycle.specs.Lapse.{completes_at, due_at, due_of}
 use Rattle.lifecycle.specs.Periods.{passed, rules_with}
 use Rattle.lifecycle.specs.Phases.{purge_at}
-use Rattle.model.specs.Registry.{Registry}
 use Rattle.objects.specs.declared.contact.Contact.{Contact}
 use Rattle.objects.specs.declared.domain.Deletion.{Deletion}
-use Rattle.objects.specs.declared.domain.Domain.{Domain}
 use Rattle.policy.specs.declared.schedule.Schedule.{Schedule}
 use Rattle.policy.specs.declared.terms.Terms.{Terms}
 use Rattle.policy.specs.Rules.{PolicyRules}
 use Rattle.decisions.proofs.NamedLemmas.{drop-cases, put-cases}
 use Rattle.lifecycle.specs.declared.due_object.Due.{Due}
-use Rattle.lifecycle.specs.DueObjects.{contact_due, domain_due, due_then, found_due, with_due}
 use Rattle.model.specs.DueBy.{due_by}
-use Rattle.mapbook.specs.declared.edit.Edit.{Edit}
 use Rattle.mapbook.specs.declared.edit.Edit.TheVariants as edit
-use Rattle.books.specs.Book.{Stored}
-use Rattle.mapbook.specs.Edits.{edited}
-use Rattle.mapbook.specs.Quiet.{HasDaysOf, IsQuiet, NoneBefore}
-use Rattle.mapbook.specs.inner.Quiet.{quiet_after, sooner, sooner_with, until_contacts, until_domains}
-use Rattle.books.specs.Tables.{domain_set}
 
 -- ---- under any policy with the same lengths
 

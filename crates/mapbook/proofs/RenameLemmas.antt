@@ -1,29 +1,19 @@
 -- To give a host its new name in the domains that name it, one after another, is to give it in all.
 use Rattle.std.proofs.Common.{◌≡◌, ℕ, Bool, true, false, cond, not, ◌&&◌, T, map, filter, List, [], ◌∷◌, Option, Some, None, refl, sym, ap, ◌∙◌}
-use Rattle.std.specs.Prelude.{option_map}
-use Rattle.std.specs.Ordering.{is_lt}
-use Rattle.std.specs.Str.{bytes_eq}
 use Rattle.std.specs.declared.cmp.Ordering.{Ordering}
 use Rattle.std.specs.declared.cmp.Ordering.TheVariants.{Less, Equal, Greater}
-use Rattle.std.specs.Cmp.{Equal-is, eq_by_cmp_equiv}
-use Rattle.std.specs.Cmp.Lexicographic.{slice_cmp, nat_list_cmp_total}
-use Rattle.std.specs.FinMap.{FinMap, entries, entries_sorted, find, get, get-entries, insert, is_sorted, get-insert, same_map}
 use Rattle.std.specs.FinMap.Entries.{below_all}
-use Rattle.std.specs.Ordering.{eq_by_cmp, nat_cmp}
-use Rattle.basis.specs.Bag.{add, precedes}
+use Rattle.mapbook.proofs.Words.{add, amended_entry, at_begin, bytes_eq, content_of, Domain, domains_naming, edited, entries, entries_sorted}
+use Rattle.mapbook.proofs.Words.{eq_by_cmp, eq_by_cmp_equiv, Equal-is, find, FinMap, get, get-entries, get-insert, get-map_values, host_moved}
+use Rattle.mapbook.proofs.Words.{host_renamed_at, host_renamed_in, host_set, insert, is_lt, is_sorted, names_apart, nat_cmp, nat_list_cmp_total}
+use Rattle.mapbook.proofs.Words.{option_map, plain_records, precedes, same_map, slice_cmp, Stored, with_domains}
 use Rattle.basis.specs.Maps.{map_values}
-use Rattle.basis.proofs.MapLemmas.{names_apart, get-map_values}
-use Rattle.objects.specs.declared.domain.Domain.{Domain}
 use Rattle.objects.specs.Links.{names_host}
 use Rattle.decisions.specs.Changes.{may_rename, with_host_renamed}
 use Rattle.mapbook.specs.declared.plain.Plain.{Plain}
-use Rattle.mapbook.specs.Plain.{at_begin, content_of, plain_records, registry_in}
-use Rattle.books.specs.Book.{Stored}
+use Rattle.mapbook.specs.Plain.{registry_in}
 use Rattle.objects.specs.declared.host.Host.{Host}
-use Rattle.books.specs.Tables.{host_moved, host_set, with_domains}
 use Rattle.mapbook.specs.declared.edit.Edit.TheVariants as edit
-use Rattle.mapbook.specs.Edits.{edited}
-use Rattle.mapbook.specs.Renaming.{amended_entry, domains_naming, host_renamed_at, host_renamed_in}
 
 -- ---- entries in order
 

@@ -1,25 +1,13 @@
 -- What one row more means for the accounts.
 use Rattle.std.proofs.Common.{◌≡◌, ℕ, ℤ, pos, negsuc, Bool, true, false, cond, ◌&&◌, length, List, [], ◌∷◌, Option, Some, None, inl, inr, refl, sym, ap, ◌∙◌, int_eq, arith}
-use Rattle.std.proofs.lemmas.Bool.{and_parts, cases_Bool}
-use Rattle.std.proofs.lemmas.Bool.Decides.{nat_tests}
-use Rattle.std.proofs.lemmas.Int.{ints}
-use Rattle.std.specs.Cmp.{eq_by_cmp_equiv, nat_cmp_total, Equal-is}
-use Rattle.std.specs.FinMap.{find, get, get-from_entries, get-insert, same_map, nat_cmp-IsAntisymmetric}
-use Rattle.std.specs.List.{list_all}
-use Rattle.std.specs.Option.{option_map, option_map_or, unwrap_or}
-use Rattle.std.specs.Ordering.{eq_by_cmp, nat_cmp}
-use Rattle.sqlite_keyed.specs.Keyed.{get_by, insert_by}
-use Rattle.sqlite_keyed.proofs.KeyedLemmas.{key-get_by, same_int}
-use Rattle.accounts.specs.declared.account.Account.{Account}
-use Rattle.accounts.specs.Account.{empty_account}
-use Rattle.accounts.specs.Counters.{counters_of}
+use Rattle.std.specs.FinMap.{find}
+use Rattle.sqlaccounts.proofs.Words.{Account, account_of_row, account_of_rows, AccountRow, accounts_of, and_parts, balance_in, cases_Bool, Content}
+use Rattle.sqlaccounts.proofs.Words.{counters_in, counters_of, empty_account, entries_of, eq_by_cmp, eq_by_cmp_equiv, Equal-is, exact_in, get}
+use Rattle.sqlaccounts.proofs.Words.{get-from_entries, get-insert, get_by, has_right_sums, insert_by, ints, is_exact, is_place, is_right, key-get_by}
+use Rattle.sqlaccounts.proofs.Words.{lines_under, list_all, nat_cmp, nat_cmp-IsAntisymmetric, nat_cmp_total, nat_tests, option_map, option_map_or}
+use Rattle.sqlaccounts.proofs.Words.{queue_under, registrar_in, row_of, same_int, same_map, sums_are_right, unwrap_or, with_account_changed}
 use Rattle.accounts.specs.Lines.{balance}
-use Rattle.sqlcolumns.specs.Numbers.{exact_in, is_exact, is_place, registrar_in}
 use Rattle.sqltables.specs.Account as table
-use Rattle.sqltables.specs.declared.account.AccountRow.{AccountRow}
-use Rattle.sqltables.specs.Content.{Content}
-use Rattle.sqlaccounts.specs.Accounts.{account_of_row, account_of_rows, accounts_of, balance_in, entries_of, has_right_sums, is_right, lines_under, queue_under, row_of, sums_are_right}
-use Rattle.sqlaccounts.specs.inner.Changes.{counters_in, with_account_changed}
 use Rattle.sqlrows.proofs.RowLemmas.{all-insert_by, all_with, get_by-insert_by}
 
 abbrev key : AccountRow → ℤ

@@ -1,8 +1,7 @@
 -- Parts of bags.
 use Rattle.std.proofs.Common.{◌≡◌, Bool, false, not, List, [], ◌∷◌, ◌++◌, map, filter, inl, inr, refl, sym, ap, ◌∙◌, append-nil}
-use Rattle.std.proofs.lemmas.Bool.{cases_Bool}
-use Rattle.basis.specs.Bag.{IsLinear, add, bag_of}
-use Rattle.basis.proofs.BagLaws.{add-add}
+use Rattle.sqlaccounts.proofs.Words.{add-add, cases_Bool, IsLinear}
+use Rattle.basis.specs.Bag.{add, bag_of}
 
 pub bag-nil : {A : Type 0} (le : A → A → Bool) → bag_of le [] ≡ []
 unfolding bag_of

@@ -1,14 +1,9 @@
 -- What calls on the store, one after another, leave.
 use Rattle.std.proofs.Common.{◌≡◌, true, sym, subst, ◌∙◌}
-use Rattle.states.specs.States.{Reads, StateOf, Stays, Writes}
+use Rattle.sqlaccounts.proofs.Words.{AccountRow, accounts_to, Content, insert_by, Reads, StateOf, Stays, then-made, Writes}
 use Rattle.states.proofs.LeavingLemmas.{leaves-on}
-use Rattle.sqlite_keyed.specs.Keyed.{insert_by}
 use Rattle.sqltables.specs.Account.{accounts}
-use Rattle.sqltables.specs.declared.account.AccountRow.{AccountRow}
-use Rattle.sqltables.specs.Content.{Content}
-use Rattle.sqltables.specs.inner.Content.{accounts_to}
 use Rattle.sqlrows.specs.Meanings.{HasChanged}
-use Rattle.sqlrows.proofs.StateLemmas.{then-made}
 
 -- a row of account is put
 pub then-put : (row new : AccountRow) (way : Content → Content → Type 0) (a b c : StateOf Content)

@@ -1,26 +1,10 @@
 -- No row leads to an account that isn't there.
 use Rattle.std.proofs.Common.{◌≡◌, ℕ, ℤ, true, false, cond, List, [], filter, Option, Some, None, refl, sym, ap, ◌∙◌, int_eq}
-use Rattle.std.proofs.lemmas.Bool.{false_from_ne_true}
-use Rattle.std.specs.FinMap.{get}
-use Rattle.std.specs.List.{filter_map}
-use Rattle.std.specs.Option.{option_map, unwrap_or}
-use Rattle.sqlite_keyed.specs.Keyed.{get_by}
-use Rattle.sqlite_keyed.proofs.KeyedLemmas.{key-get_by, same_int}
-use Rattle.sqlite_keyed.proofs.ListLemmas.{filter_none}
-use Rattle.sqlite_rules.proofs.ListLemmas.{all_from}
-use Rattle.accounts.specs.Account.{empty_account}
-use Rattle.accounts.specs.Lines.{in_order}
-use Rattle.basis.specs.Bag.{bag_of}
-use Rattle.sqlcolumns.specs.Lines.{line_of_columns}
-use Rattle.sqlcolumns.specs.Messages.{message_of_columns}
-use Rattle.sqlcolumns.specs.Numbers.{is_place, registrar_column}
+use Rattle.sqlaccounts.proofs.Words.{account_of_row, account_of_rows, AccountRow, accounts_of, all_from, bag_of, Content, empty_account}
+use Rattle.sqlaccounts.proofs.Words.{false_from_ne_true, filter_map, filter_none, get, get_by, in_order, is_place, IsConsistent, key-get_by, LeadsTo}
+use Rattle.sqlaccounts.proofs.Words.{line_of_columns, LineRow, lines_under, message_of_columns, MessageRow, option_map, put_all, queue_under}
+use Rattle.sqlaccounts.proofs.Words.{registrar_column, row_of, same_int, unwrap_or}
 use Rattle.sqltables.specs.Account as account_table
-use Rattle.sqltables.specs.declared.account.AccountRow.{AccountRow}
-use Rattle.sqltables.specs.Content.{Content}
-use Rattle.sqltables.specs.declared.line.LineRow.{LineRow}
-use Rattle.sqltables.specs.declared.message.MessageRow.{MessageRow}
-use Rattle.sqltables.specs.inner.Consistent.{IsConsistent, LeadsTo}
-use Rattle.sqlaccounts.specs.Accounts.{account_of_row, account_of_rows, accounts_of, lines_under, put_all, queue_under, row_of}
 use Rattle.sqlaccounts.proofs.AccountLemmas.{get-accounts_of, get-found}
 use Rattle.sqlaccounts.proofs.BagLemmas.{bag-nil}
 use Rattle.sqlaccounts.proofs.FindingLemmas.{equal, unmissed}

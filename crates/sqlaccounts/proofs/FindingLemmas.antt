@@ -1,34 +1,17 @@
 -- Which rows of lines are found, and what is left without one of them.
 use Rattle.std.proofs.Common.{◌≡◌, inl, inr, ℕ, ℤ, ◌<ℤ◌, Bool, true, false, cond, not, ◌&&◌, ◌||◌, List, [], ◌∷◌, ◌++◌, filter, find, Option, Some, None, IfSome, refl, sym, ap, ◌∙◌, arith, int_eq, true≢false}
-use Rattle.std.proofs.lemmas.Bool.{and_from, and_parts, cases_Bool, false_from_ne_true}
-use Rattle.std.proofs.lemmas.Bool.Decides.{Decides-int_eq, same_from_decides}
-use Rattle.std.proofs.lemmas.Int.{ints}
-use Rattle.std.specs.Option.{option_map_or}
-use Rattle.std.specs.List.{cons_option, filter_map, list_any}
-use Rattle.sqlite_keyed.specs.Keyed.{IsKeyedBy}
-use Rattle.sqlite_keyed.specs.Lists.{delete_where}
+use Rattle.sqlaccounts.proofs.Words.{all_has, all_weaker, and_from, and_parts, cases_Bool, cons_option, counter_column, Decides-int_eq, delete_where}
+use Rattle.sqlaccounts.proofs.Words.{false_from_ne_true, filter_all, filter_map, Has, has_filtered, has_found, has_kept, in_order, int_eq_apart}
+use Rattle.sqlaccounts.proofs.Words.{ints, is_line, is_of, is_on, is_row_about, is_same_roid, IsDomainRoid, IsKeyedBy, itself-roid, Line, line-told}
+use Rattle.sqlaccounts.proofs.Words.{line_of_columns, line_with_account, LineRow, list_any, maybe_domain_in, option_map_or, reads_as}
+use Rattle.sqlaccounts.proofs.Words.{registrar_column, Roid, same, same-in_order, same-roids, same_from_decides, same_int, same_some, some_has}
+use Rattle.sqlaccounts.proofs.Words.{some_read, ◌>>=◌}
 use Rattle.sqlite_keyed.specs.Rules.{points_to}
-use Rattle.sqlite_keyed.proofs.KeyedLemmas.{int_eq_apart, same_int}
-use Rattle.sqlite_keyed.proofs.ListLemmas.{all_weaker, filter_all}
-use Rattle.sqlite_rules.specs.Lists.{Has}
-use Rattle.sqlite_rules.proofs.ListLemmas.{all_has, has_filtered, has_found, has_kept, some_has}
 use Rattle.objects.specs.declared.roid.ObjectKind.TheVariants.{Domain}
-use Rattle.objects.specs.declared.roid.Roid.{Roid}
-use Rattle.accounts.specs.declared.line.Line.{Line}
-use Rattle.accounts.specs.Lines.{in_order, is_line, is_of, is_on, is_same_roid}
-use Rattle.accounts.proofs.LineLaws.{itself-roid, line-told, same-in_order, same-roids}
-use Rattle.basis.specs.Bag.{same}
-use Rattle.sqlcolumns.specs.Lines.{line_of_columns, maybe_domain_in}
-use Rattle.sqlcolumns.specs.Numbers.{counter_column, registrar_column}
 use Rattle.sqlcolumns.specs.Roids.{roid_in}
-use Rattle.sqlcolumns.specs.Steps.{◌>>=◌}
 use Rattle.sqlcolumns.proofs.LineLemmas.{is_read}
 use Rattle.sqlcolumns.proofs.NumberLemmas.{registrar_back, registrar_written, serial_back, serial_written}
-use Rattle.sqlcolumns.proofs.ReadLemmas.{same_some, some_read}
 use Rattle.sqlcolumns.proofs.RoidLemmas.{roid_read}
-use Rattle.sqltables.specs.Line.{line_with_account}
-use Rattle.sqltables.specs.declared.line.LineRow.{LineRow}
-use Rattle.sqlaccounts.specs.inner.Finding.{IsDomainRoid, is_row_about, reads_as}
 
 pub equal : (a b : ℤ) → a ≡ b → int_eq a b ≡ true
 equal a b e = (Decides-int_eq a b).1 e

@@ -13,3 +13,4 @@ pub mod QueueLemmas
 pub mod SortLemmas
 pub mod PostingLemmas
 pub mod StepLemmas
+pub mod Words

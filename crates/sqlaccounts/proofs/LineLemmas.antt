@@ -1,39 +1,16 @@
 -- What another balance means, and one line more or less.
 use Rattle.std.proofs.Common.{◌≡◌, ◌⊎◌, inl, inr, ℕ, ℤ, pos, ◌+ℤ◌, ◌-ℤ◌, Bool, true, false, cond, ◌&&◌, length, List, [], ◌∷◌, ◌++◌, filter, find, Option, Some, None, IfSome, refl, sym, ap, subst, ◌∙◌, arith, int_eq, append-nil}
-use Rattle.std.proofs.lemmas.Int.{ints}
-use Rattle.std.proofs.lemmas.List.Elements.{filter-append, filter_map-append}
-use Rattle.std.specs.List.{cons_option, filter_map, list_any}
-use Rattle.std.specs.Option.{option_map}
-use Rattle.sqlite_keyed.specs.Keyed.{IsKeyedBy, next_key}
-use Rattle.sqlite_keyed.specs.Lists.{delete_where}
-use Rattle.sqlite_rules.specs.Lists.{Has}
-use Rattle.sqlite_rules.proofs.ListLemmas.{has_either, has_filtered}
-use Rattle.accounts.specs.declared.account.Account.{Account}
-use Rattle.accounts.specs.declared.line.Line.{Line}
-use Rattle.accounts.specs.declared.line.LineSwap.{LineSwap}
-use Rattle.accounts.specs.Entries.{with_lines}
-use Rattle.accounts.specs.Lines.{amount, balance, in_order, swapped_all}
-use Rattle.accounts.proofs.LineLaws.{balance-add, lines_in_order}
-use Rattle.basis.specs.Bag.{add, bag_of, remade, same, taken}
-use Rattle.basis.proofs.BagLaws.{any-bag_of, taken-absent, taken-add}
-use Rattle.policy.specs.declared.schedule.Schedule.{Schedule}
+use Rattle.sqlaccounts.proofs.Words.{Account, account_of_row, account_of_rows, AccountRow, add, amount, any-bag_of, appended, bag_of, balance}
+use Rattle.sqlaccounts.proofs.Words.{balance-add, balance_in, cons_option, Content, counter_in, delete_where, exact_column, filter-append}
+use Rattle.sqlaccounts.proofs.Words.{filter_map, filter_map-append, Has, has_either, has_filtered, HasEnd, ident_and_held, in_order, ints}
+use Rattle.sqlaccounts.proofs.Words.{is_row_about, IsBalanceChanged, IsDomainRoid, IsKeyedBy, IsPosted, IsRowOf, Line, line_of_columns}
+use Rattle.sqlaccounts.proofs.Words.{line_with_account, line_with_id, LineRow, lines_in_order, lines_to, lines_under, LineSwap, list_any}
+use Rattle.sqlaccounts.proofs.Words.{maybe_moment_column, next_key, option_map, queue_under, reads_as, remade, same, same_some, Schedule}
+use Rattle.sqlaccounts.proofs.Words.{swapped_all, taken, taken-absent, taken-add, with_lines, ◌>>=◌}
 use Rattle.sqlcolumns.specs.inner.Lines.{domain_columns, line_row_with, row_of_line}
-use Rattle.sqlcolumns.specs.Lines.{line_of_columns}
-use Rattle.sqlcolumns.specs.Numbers.{counter_in, exact_column, maybe_moment_column}
-use Rattle.sqlcolumns.specs.Steps.{◌>>=◌}
-use Rattle.sqlcolumns.proofs.ReadLemmas.{same_some}
-use Rattle.sqlrows.specs.inner.Layouts.{appended}
-use Rattle.sqltables.specs.declared.account.AccountRow.{AccountRow}
-use Rattle.sqltables.specs.Content.{Content}
-use Rattle.sqltables.specs.inner.Content.{lines_to}
 use Rattle.sqltables.specs.Line as table
-use Rattle.sqltables.specs.declared.line.LineRow.{LineRow}
-use Rattle.sqltables.specs.Line.{line_with_account, line_with_id}
-use Rattle.sqlaccounts.specs.Accounts.{account_of_row, account_of_rows, balance_in, ident_and_held, lines_under, queue_under}
 use Rattle.sqlaccounts.specs.Graces.{maybe_grace_end}
-use Rattle.sqlaccounts.specs.inner.Changes.{IsBalanceChanged, IsWritten}
-use Rattle.sqlaccounts.specs.inner.Finding.{IsDomainRoid, is_row_about, reads_as}
-use Rattle.sqlaccounts.specs.inner.Posting.{HasEnd, IsPosted, IsRowOf}
+use Rattle.sqlaccounts.specs.inner.Changes.{IsWritten}
 use Rattle.sqlaccounts.proofs.BagLemmas.{bag-middle}
 use Rattle.sqlaccounts.proofs.FindingLemmas.{equal, found, none-there, own-row, parts, reads}
 use Rattle.sqlaccounts.proofs.PostingLemmas.{own-lines, posted-as, posted-rows, posted-still}

@@ -1,26 +1,9 @@
 -- The lines that rows of one domain read as.
 use Rattle.std.proofs.Common.{◌≡◌, ℕ, pos, Bool, true, false, cond, ◌&&◌, List, [], ◌∷◌, ◌++◌, filter, Option, Some, None, inl, inr, refl, sym, ap, subst, ◌∙◌}
-use Rattle.std.proofs.lemmas.Bool.{cases_Bool}
-use Rattle.std.proofs.lemmas.List.Elements.{filter_map-append}
-use Rattle.std.specs.List.{cons_option, filter_map}
-use Rattle.std.specs.Option.{option_map, unwrap_or}
-use Rattle.objects.specs.declared.roid.Roid.{Roid}
-use Rattle.accounts.specs.declared.account.Account.{Account}
-use Rattle.accounts.specs.declared.line.Line.{Line}
-use Rattle.accounts.specs.Account.{empty_account}
-use Rattle.accounts.specs.Lines.{in_order, is_on}
-use Rattle.accounts.proofs.LineLaws.{lines_in_order}
-use Rattle.basis.specs.Bag.{add, bag_of}
-use Rattle.basis.proofs.BagLaws.{bag_of-push, filter-bag_of}
-use Rattle.sqlcolumns.specs.Lines.{line_of_columns}
-use Rattle.sqlcolumns.specs.Numbers.{is_place, registrar_column}
-use Rattle.sqltables.specs.declared.account.AccountRow.{AccountRow}
-use Rattle.sqltables.specs.Content.{Content}
-use Rattle.sqltables.specs.Line.{line_with_account}
-use Rattle.sqltables.specs.declared.line.LineRow.{LineRow}
-use Rattle.sqltables.specs.inner.Consistent.{IsConsistent}
-use Rattle.sqlaccounts.specs.Accounts.{account_of_row, account_of_rows, row_of}
-use Rattle.sqlaccounts.specs.inner.Finding.{IsDomainRoid, is_row_on}
+use Rattle.sqlaccounts.proofs.Words.{Account, account_of_row, account_of_rows, AccountRow, add, bag_of, bag_of-push, cases_Bool, cons_option}
+use Rattle.sqlaccounts.proofs.Words.{Content, empty_account, filter-bag_of, filter_map, filter_map-append, in_order, is_on, is_place, is_row_on}
+use Rattle.sqlaccounts.proofs.Words.{IsConsistent, IsDomainRoid, Line, line_of_columns, line_with_account, LineRow, lines_in_order, option_map}
+use Rattle.sqlaccounts.proofs.Words.{registrar_column, Roid, row_of, unwrap_or}
 use Rattle.sqlaccounts.proofs.AccountLemmas.{get-accounts_of}
 use Rattle.sqlaccounts.proofs.BagLemmas.{bag-again, bag-nil}
 use Rattle.sqlaccounts.proofs.ConsistencyLemmas.{parts-there}

@@ -1,34 +1,13 @@
 -- What rows of messages mean for an account, and what one row more or less does.
 use Rattle.std.proofs.Common.{◌≡◌, ℕ, ◌+◌, ℤ, pos, negsuc, ◌+ℤ◌, Bool, true, false, cond, not, ◌&&◌, ◌||◌, ◌==◌, length, List, [], ◌∷◌, ◌++◌, filter, Option, Some, None, inl, inr, refl, sym, ap, subst, ◌∙◌, int_eq, arith, append-nil}
-use Rattle.std.proofs.lemmas.Bool.{and_from, and_parts, cases_Bool, false_from_ne_true}
-use Rattle.std.proofs.lemmas.Bool.Decides.{Decides-int_eq, same_from_decides}
-use Rattle.std.proofs.lemmas.Int.{ints}
-use Rattle.std.proofs.lemmas.List.Elements.{filter-append, filter_map-append}
 use Rattle.std.proofs.lemmas.Map.Made.{length-remove_key}
-use Rattle.std.specs.Prelude.{slice_get}
-use Rattle.std.specs.List.{cons_option, filter_map, list_any}
-use Rattle.std.specs.Option.{option_map_or}
-use Rattle.sqlite_keyed.specs.Keyed.{IsKeyedBy, next_key}
-use Rattle.sqlite_keyed.specs.Lists.{delete_where}
-use Rattle.sqlite_keyed.proofs.ListLemmas.{filter-filter, none_counted}
-use Rattle.sqlite_rules.specs.Lists.{Has}
-use Rattle.sqlite_rules.proofs.ListLemmas.{has_filtered, has_kept}
-use Rattle.sqlrows.specs.inner.Layouts.{appended}
-use Rattle.accounts.specs.declared.message.Message.{Message}
-use Rattle.accounts.specs.Entries.{with_queue}
-use Rattle.accounts.specs.Lines.{balance}
-use Rattle.accounts.specs.Queue.{dropped, has, put}
-use Rattle.policy.specs.declared.schedule.Schedule.{Schedule}
-use Rattle.sqlcolumns.specs.Messages.{message_of_columns}
-use Rattle.sqlcolumns.specs.Numbers.{counter_in}
-use Rattle.sqltables.specs.declared.account.AccountRow.{AccountRow}
-use Rattle.sqltables.specs.Content.{Content}
-use Rattle.sqltables.specs.inner.Content.{messages_to}
+use Rattle.sqlaccounts.proofs.Words.{account_of_row, AccountRow, and_from, and_parts, appended, balance, balance_in, cases_Bool, cons_option}
+use Rattle.sqlaccounts.proofs.Words.{Content, counter_in, Decides-int_eq, delete_where, dropped, false_from_ne_true, filter-append, filter-filter}
+use Rattle.sqlaccounts.proofs.Words.{filter_map, filter_map-append, Has, has, has_filtered, has_kept, ident_and_held, ints, is_right, IsKeyedBy}
+use Rattle.sqlaccounts.proofs.Words.{IsPosted, IsRowOf, lines_under, list_any, Message, message_of_columns, MessageRow, messages_to, next_key}
+use Rattle.sqlaccounts.proofs.Words.{none_counted, option_map_or, put, put_all, queue_under, same_from_decides, Schedule, slice_get, with_queue}
 use Rattle.sqltables.specs.Message as table
-use Rattle.sqltables.specs.declared.message.MessageRow.{MessageRow}
 use Rattle.sqltables.proofs.RowLemmas.{same_by_key}
-use Rattle.sqlaccounts.specs.Accounts.{account_of_row, balance_in, ident_and_held, is_right, lines_under, put_all, queue_under}
-use Rattle.sqlaccounts.specs.inner.Posting.{IsPosted, IsRowOf}
 use Rattle.sqlaccounts.specs.declared.queue.Found.{Found}
 use Rattle.sqlaccounts.specs.inner.QueueFound.{IsFound}
 use Rattle.sqlaccounts.specs.inner.QueueRows.{IsWaitingMore}

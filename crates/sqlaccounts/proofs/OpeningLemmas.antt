@@ -1,18 +1,9 @@
 -- What an account that is opened means.
 use Rattle.std.proofs.Common.{◌≡◌, ℕ, pos, true, false, cond, ◌&&◌, length, [], Option, Some, None, is_some, refl, sym, ap, ◌∙◌, int_eq}
-use Rattle.std.specs.FinMap.{get}
-use Rattle.std.specs.Option.{option_map, option_map_or, unwrap_or}
-use Rattle.sqlite_keyed.specs.Keyed.{insert_by}
-use Rattle.accounts.specs.Account.{empty_account}
+use Rattle.sqlaccounts.proofs.Words.{account_of_row, AccountRow, accounts_of, accounts_to, balance_in, Content, empty_account, get, has_right_sums}
+use Rattle.sqlaccounts.proofs.Words.{insert_by, is_place, is_right, IsConsistent, IsOpened, opened_row, option_map, option_map_or, row_of, unwrap_or}
 use Rattle.accounts.specs.Lines.{balance}
-use Rattle.sqlcolumns.specs.Numbers.{is_place}
 use Rattle.sqltables.specs.Account as account_table
-use Rattle.sqltables.specs.declared.account.AccountRow.{AccountRow}
-use Rattle.sqltables.specs.Content.{Content}
-use Rattle.sqltables.specs.inner.Content.{accounts_to}
-use Rattle.sqltables.specs.inner.Consistent.{IsConsistent}
-use Rattle.sqlaccounts.specs.Accounts.{account_of_row, accounts_of, balance_in, has_right_sums, is_right, row_of}
-use Rattle.sqlaccounts.specs.inner.Changes.{IsOpened, opened_row}
 use Rattle.sqlaccounts.proofs.AccountLemmas.{accounts-put, get-accounts_of, kept_accounts, row_here, row_there, sums-put}
 use Rattle.sqlaccounts.proofs.FindingLemmas.{equal}
 use Rattle.sqlaccounts.proofs.ConsistencyLemmas.{lines-of-none, queue-of-none}

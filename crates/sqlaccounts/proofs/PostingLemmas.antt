@@ -1,40 +1,20 @@
 -- What posts make of an account whose row isn't written yet.
 use Rattle.std.proofs.Common.{◌≡◌, ◌⊎◌, inl, inr, ℕ, ℤ, pos, ◌<ℤ◌, Bool, true, false, cond, List, [], ◌∷◌, Option, Some, None, Result, Ok, Err, Ordering, Less, Equal, Greater, int_cmp, int_eq, refl, sym, ap, subst, ◌∙◌, arith}
-use Rattle.std.proofs.lemmas.Bool.{cases_Bool}
 use Rattle.std.proofs.lemmas.Cmp.{int_ranked}
-use Rattle.std.proofs.lemmas.Int.{ints}
-use Rattle.std.specs.Cmp.{eq_by_cmp_equiv, nat_cmp_total}
-use Rattle.std.specs.FinMap.{FinMap, get, get-insert, insert, nat_cmp-IsAntisymmetric, same_map}
-use Rattle.std.specs.Option.{option_map, option_map_or, unwrap_or}
-use Rattle.std.specs.Ordering.{eq_by_cmp, is_eq, match_ordering, nat_cmp}
-use Rattle.sqlite_keyed.specs.Keyed.{IsKeyedBy, get_by, insert_by}
-use Rattle.sqlite_keyed.proofs.KeyedLemmas.{key-get_by, none_past}
-use Rattle.sqlite_keyed.proofs.ListLemmas.{all_weaker}
-use Rattle.sqlite_rules.specs.Lists.{Has}
-use Rattle.sqlite_rules.proofs.ListLemmas.{has_found}
 use Rattle.std.specs.Result.{IsErr}
-use Rattle.states.specs.States.{Reads, StateOf, Stays}
+use Rattle.sqlaccounts.proofs.Words.{Account, account_of_row, account_of_rows, AccountRow, accounts_of, accounts_to, all_weaker, cases_Bool, Content}
+use Rattle.sqlaccounts.proofs.Words.{empty_account, eq_by_cmp, eq_by_cmp_equiv, FinMap, get, get-insert, get_by, Has, has_found, has_right_sums}
+use Rattle.sqlaccounts.proofs.Words.{HasEnd, HasNewCounters, ident_and_held, insert, insert_by, ints, is_eq, is_place, is_right, IsChange}
+use Rattle.sqlaccounts.proofs.Words.{IsConsistent, IsKeyedBy, IsPosted, IsRowOf, key-get_by, LineRow, lines_under, match_ordering, MessageRow}
+use Rattle.sqlaccounts.proofs.Words.{nat_cmp, nat_cmp-IsAntisymmetric, nat_cmp_total, none_past, option_map, option_map_or, PostsTo, queue_under}
+use Rattle.sqlaccounts.proofs.Words.{Reads, reads-same, registrar_column, row_of, same_map, Schedule, StateOf, Stays, stays-on, then-became}
+use Rattle.sqlaccounts.proofs.Words.{unwrap_or, with_account_changed, with_counters, with_row}
 use Rattle.states.specs.declared.fault.BookFault.{BookFault}
 use Rattle.states.proofs.LeavingLemmas.{leaves-on}
-use Rattle.accounts.specs.declared.account.Account.{Account}
 use Rattle.accounts.specs.declared.counters.Counters.{Counters}
-use Rattle.accounts.specs.Account.{empty_account}
-use Rattle.accounts.specs.Counters.{with_counters}
-use Rattle.policy.specs.declared.schedule.Schedule.{Schedule}
-use Rattle.sqlcolumns.specs.Numbers.{is_place, registrar_column}
-use Rattle.sqlrows.proofs.StateLemmas.{reads-same, stays-on, then-became}
 use Rattle.sqlrows.specs.Meanings.{HasChanged}
 use Rattle.sqltables.specs.Account as account_table
-use Rattle.sqltables.specs.declared.account.AccountRow.{AccountRow}
-use Rattle.sqltables.specs.Content.{Content}
-use Rattle.sqltables.specs.inner.Consistent.{IsConsistent}
-use Rattle.sqltables.specs.inner.Content.{accounts_to}
-use Rattle.sqltables.specs.declared.line.LineRow.{LineRow}
-use Rattle.sqltables.specs.declared.message.MessageRow.{MessageRow}
 use Rattle.sqltables.proofs.PuttingLemmas.{consistent-with as put-consistent, put-twice}
-use Rattle.sqlaccounts.specs.Accounts.{account_of_row, account_of_rows, accounts_of, has_right_sums, ident_and_held, is_right, lines_under, queue_under, row_of}
-use Rattle.sqlaccounts.specs.inner.Changes.{HasNewCounters, IsChange, with_account_changed}
-use Rattle.sqlaccounts.specs.inner.Posting.{HasEnd, IsPosted, IsRowOf, PostsTo, with_row}
 use Rattle.sqlaccounts.proofs.AccountLemmas.{accounts-put, get-found, row_here, row_there, sums-put}
 use Rattle.sqlaccounts.proofs.CallLemmas.{stays-after, then-kept}
 use Rattle.sqlaccounts.proofs.FindingLemmas.{equal}

@@ -1,12 +1,7 @@
 -- The first of a sorted list.
 use Rattle.std.proofs.Common.{◌≡◌, Bool, true, false, cond, List, [], ◌∷◌, Option, Some, None, inl, inr, refl, arith}
 use Rattle.std.proofs.lemmas.Cmp.{upto}
-use Rattle.std.specs.Prelude.{slice_get}
-use Rattle.std.specs.declared.cmp.Ordering.{Ordering}
-use Rattle.std.specs.Cmp.{IsTotalOrder, tied_itself}
-use Rattle.std.specs.Ordering.{is_gt}
-use Rattle.sqlite_keyed.specs.Lists.{insert_sorted, sort_by}
-use Rattle.sqlite_rules.specs.Lists.{Has}
+use Rattle.sqlaccounts.proofs.Words.{Has, insert_sorted, is_gt, IsTotalOrder, Ordering, slice_get, sort_by, tied_itself}
 
 module _ {X : Type 0} (cmp : X → X → Ordering) (o : IsTotalOrder cmp) where
   -- the first of these by the order, if there is one

@@ -1,23 +1,12 @@
 -- What commands post of messages, where the account's row isn't written.
 use Rattle.std.proofs.Common.{◌≡◌, ℕ, true, false, cond, List, [], ◌∷◌, Option, Some, None, refl, sym, ap, ◌∙◌}
-use Rattle.std.specs.Prelude.{slice_get}
 use Rattle.std.specs.Str.{bytes_eq}
-use Rattle.accounts.specs.declared.account.Account.{Account}
+use Rattle.sqlaccounts.proofs.Words.{Account, account_of_row, account_of_rows, AccountRow, acked, Content, counted_in, dropped, HasNewCounters}
+use Rattle.sqlaccounts.proofs.Words.{IsPosted, IsRowOf, Message, message_id, next_message, notified, numbered, put, Schedule, slice_get, with_acked}
+use Rattle.sqlaccounts.proofs.Words.{with_counters, with_queue}
 use Rattle.accounts.specs.declared.counters.Counters.{Counters}
-use Rattle.accounts.specs.declared.message.Message.{Message}
-use Rattle.accounts.specs.Counters.{next_message, with_counters}
-use Rattle.accounts.specs.Entries.{with_queue}
 use Rattle.accounts.specs.MessageOrder.{message_eq_equiv}
-use Rattle.accounts.specs.Messages.{message_id}
-use Rattle.accounts.specs.Queue.{acked, dropped, put}
-use Rattle.lifecycle.specs.Changes.{notified, numbered, with_acked}
 use Rattle.lifecycle.specs.declared.change.Notification.{Notification}
-use Rattle.policy.specs.declared.schedule.Schedule.{Schedule}
-use Rattle.sqltables.specs.declared.account.AccountRow.{AccountRow}
-use Rattle.sqltables.specs.Content.{Content}
-use Rattle.sqlaccounts.specs.Accounts.{account_of_row, account_of_rows}
-use Rattle.sqlaccounts.specs.inner.Changes.{HasNewCounters, counted_in}
-use Rattle.sqlaccounts.specs.inner.Posting.{IsPosted, IsRowOf}
 use Rattle.sqlaccounts.proofs.PostingLemmas.{counts-posted, own-queue, posted-as, posted-on, posted-still, row-posted}
 
 -- ---- a command's message

@@ -1,15 +1,8 @@
 -- What is swapped among the lines of one domain is swapped among all.
 use Rattle.std.proofs.Common.{◌≡◌, true, false, not, List, [], ◌∷◌, ◌++◌, map, filter, inl, inr, refl, sym, ap, ◌∙◌}
-use Rattle.std.proofs.lemmas.Bool.{and_parts, cases_Bool, false_from_ne_true, or_from}
-use Rattle.std.proofs.lemmas.List.{map-append}
-use Rattle.std.specs.List.{list_all, list_any}
-use Rattle.objects.specs.declared.roid.Roid.{Roid}
-use Rattle.accounts.specs.declared.line.Line.{Line}
-use Rattle.accounts.specs.declared.line.LineSwap.{LineSwap}
-use Rattle.accounts.specs.Lines.{in_order, is_on, swapped, swapped_all}
-use Rattle.accounts.proofs.LineLaws.{lines_in_order, same-in_order}
-use Rattle.basis.specs.Bag.{add, bag_of, remade, same, taken}
-use Rattle.basis.proofs.BagLaws.{remade-bag_of, taken-bag_of, taken-before}
+use Rattle.sqlaccounts.proofs.Words.{add, and_parts, bag_of, cases_Bool, false_from_ne_true, in_order, is_on, Line, lines_in_order, LineSwap}
+use Rattle.sqlaccounts.proofs.Words.{list_all, list_any, map-append, or_from, remade, remade-bag_of, Roid, same, same-in_order, swapped, swapped_all}
+use Rattle.sqlaccounts.proofs.Words.{taken, taken-bag_of, taken-before}
 use Rattle.sqlaccounts.proofs.BagLemmas.{bag-added, bag-bag, bag-parts, map-others}
 
 module _ (roid : Roid) where

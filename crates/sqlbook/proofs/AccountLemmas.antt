@@ -2,32 +2,18 @@
 use Rattle.std.proofs.Common.{◌≡◌, ℕ, ℤ, ◌<ℤ◌, ◌+◌, ◌==◌, Bool, true, false, cond, ◌&&◌, length, List, [], ◌∷◌, ◌++◌, pos, Option, Some, None, option_map, inl, inr, refl, sym, ap, subst, ◌∙◌, arith, int_eq}
 use Rattle.std.proofs.lemmas.Bool.Decides.{Decides-int_eq}
 use Rattle.std.proofs.lemmas.Int.{by_lt_z, ints}
-use Rattle.std.specs.List.{AllByRecursion}
-use Rattle.sqlite_keyed.specs.Keyed.{IsKeyedBy, get_by}
+use Rattle.sqlbook.proofs.Words.{Account, AccountRow, accounts_of, AllByRecursion, are_right, AreOthersKept, change-kept, clock_of, contacts_of}
+use Rattle.sqlbook.proofs.Words.{Content, domains_of, dues_are_right, get_by, hosts_of, ident_and_held, ids_behind, ids_in, is_unnamed, IsChange}
+use Rattle.sqlbook.proofs.Words.{IsConsistent, IsKeyedBy, may_be_numbered, MetaRow, posted_to, row_of, sponsors-kept, stored_of, terms_of_rows}
+use Rattle.sqlbook.proofs.Words.{with_account_changed}
 use Rattle.sqlite_keyed.proofs.KeyedLemmas.{int_eq_apart, key-get_by, same_int}
 use Rattle.sqlite_rules.specs.Lists.{Has}
-use Rattle.accounts.specs.declared.account.Account.{Account}
 use Rattle.sqlcolumns.proofs.ReadLemmas.{same_some}
-use Rattle.books.specs.Tables.{posted_to}
 use Rattle.sqltables.specs.Account as table
-use Rattle.sqltables.specs.declared.account.AccountRow.{AccountRow}
-use Rattle.sqltables.specs.Content.{Content}
-use Rattle.sqltables.specs.Readiness.{may_be_numbered}
-use Rattle.sqltables.specs.declared.meta.MetaRow.{MetaRow}
-use Rattle.sqltables.specs.inner.Consistent.{IsConsistent}
 use Rattle.sqltables.proofs.RowLemmas.{all_at}
-use Rattle.sqlaccounts.specs.Accounts.{accounts_of, ident_and_held, row_of}
-use Rattle.sqlaccounts.specs.inner.Changes.{AreOthersKept, IsChange, with_account_changed}
-use Rattle.sqlderived.proofs.KeptLemmas.{change-kept}
 use Rattle.sqlobjects.proofs.PutLemmas.{has-get_by}
-use Rattle.sqlobjects.specs.Objects.{contacts_of, hosts_of}
-use Rattle.sqldomains.specs.Domains.{domains_of}
-use Rattle.sqldomains.proofs.SponsorLemmas.{sponsors-kept}
-use Rattle.sqlterms.specs.Clock.{clock_of}
 use Rattle.sqlterms.specs.Meta.{meta_of}
-use Rattle.sqlterms.specs.Terms.{ids_behind, ids_in, is_unnamed, prices_in, reserved_in, schedule_in, terms_in, terms_made, terms_of_rows}
-use Rattle.sqlderived.specs.Dues.{dues_are_right}
-use Rattle.sqlbook.specs.Meaning.{are_right, stored_of}
+use Rattle.sqlterms.specs.Terms.{prices_in, reserved_in, schedule_in, terms_in, terms_made}
 
 abbrev pub key : AccountRow → ℤ
 key = table.accounts.key

@@ -1,21 +1,9 @@
 -- A change of rows is one of the book's.
 use Rattle.std.proofs.Common.{◌≡◌, ℕ, true, option_map, Result, Ok, Err, sym, ap, ◌∙◌}
-use Rattle.std.specs.FinMap.{insert}
-use Rattle.std.specs.Option.{unwrap_or}
-use Rattle.accounts.specs.declared.account.Account.{Account}
+use Rattle.sqlbook.proofs.Words.{Account, accounts_of, are_right, BookFault, Changes, Content, insert, IsChange, IsConsistent, MakesAs, StateOf}
+use Rattle.sqlbook.proofs.Words.{Stored, stored_of, unwrap_or, with_accounts}
 use Rattle.accounts.specs.Account.{empty_account}
-use Rattle.books.specs.Book.{Stored}
 use Rattle.books.specs.Ledgers.{changed_if_there, entry_set}
-use Rattle.books.specs.Tables.{with_accounts}
-use Rattle.sqltables.specs.Content.{Content}
-use Rattle.sqltables.specs.inner.Consistent.{IsConsistent}
-use Rattle.states.specs.declared.fault.BookFault.{BookFault}
-use Rattle.states.specs.States.{StateOf}
-use Rattle.sqlrows.specs.Meanings.{Changes}
-use Rattle.sqlaccounts.specs.Accounts.{accounts_of}
-use Rattle.sqlaccounts.specs.inner.Changes.{IsChange}
-use Rattle.sqlbook.specs.Meaning.{are_right, stored_of}
-use Rattle.sqlbook.specs.AsBook.{MakesAs}
 use Rattle.sqlbook.proofs.AccountLemmas.{account-changed, right-kept}
 
 -- where each change in a way makes this of what is held, and leaves the sums as right

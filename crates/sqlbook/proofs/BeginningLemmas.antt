@@ -1,24 +1,18 @@
 -- What a book is over rows that were adopted.
 use Rattle.std.proofs.Common.{◌≡◌, ◌≢◌, ◌&&◌, ℕ, Bool, true, false, List, [], map, refl, sym, ap, subst, ◌∙◌}
-use Rattle.std.proofs.lemmas.Bool.{and_parts}
+use Rattle.sqlbook.proofs.Words.{and_parts, are_all_right, are_right, as_book, BookState, Content, fresh, IsKnownAs, never_opened, Remains}
+use Rattle.sqlbook.proofs.Words.{remains_meant, StateOf, Stored, stored_of}
 use Rattle.sqlite.proofs.ListingLemmas.{empty_is_sound}
 use Rattle.sqlite_trees.specs.Objects.{catalog_tree}
 use Rattle.sqlite_trees.specs.Tree.{Trees}
 use Rattle.sqlrows.specs.Columns.{no_schema}
-use Rattle.books.specs.Book.{BookState, Stored, never_opened}
 use Rattle.books.specs.Kept.{book_state}
 use Rattle.sqltables.specs.Adoption.{IsAdopted, IsTakenAs}
-use Rattle.sqltables.specs.Content.{Content}
-use Rattle.sqltables.specs.Readiness.{IsKnownAs}
-use Rattle.sqltables.specs.Stored.{fresh}
 use Rattle.sqltables.specs.Tables.{registry}
 use Rattle.sqltables.proofs.AdoptedLemmas.{schema_once, some-tables}
 use Rattle.states.specs.declared.readiness.Ready.{Ready}
 use Rattle.states.specs.declared.readiness.Ready.TheVariants.{Empty, Used, Other}
-use Rattle.states.specs.States.{Remains, StateOf}
 use Rattle.sqlbook.specs.Beginning.{IsAdoptedBook, IsFoundNew, IsTaken, IsTakenFrom}
-use Rattle.sqlbook.specs.Meaning.{are_right, stored_of}
-use Rattle.sqlbook.specs.AsBook.{are_all_right, remains_meant, as_book}
 use Rattle.sqlbook.specs.BetweenCalls.{IsBetweenCalls}
 
 taken-as : (r : Ready) (trees : Trees) (x : Content) → IsTakenAs r trees x → IsTaken r trees (stored_of x)

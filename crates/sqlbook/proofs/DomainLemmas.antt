@@ -1,29 +1,14 @@
 -- What a domain put over rows is to a book, with the domains that registrars hold counted anew before.
 use Rattle.std.proofs.Common.{◌≡◌, ℕ, Bool, true, ◌==◌, cond, length, List, [], filter, Option, Some, None, refl, sym, ap, subst, ◌∙◌}
-use Rattle.std.specs.FinMap.{get}
-use Rattle.std.specs.List.{list_all}
-use Rattle.sqlite_keyed.specs.Keyed.{IsKeyedBy}
+use Rattle.sqlbook.proofs.Words.{AccountRow, accounts_of, AreAlike, clock_of, contacts_of, Content, Domain, domain_read, domain_set, DomainRow}
+use Rattle.sqlbook.proofs.Words.{domains_of, get, held-kept, helds_are_right, hosts_of, ids_in, IsDomainPut, IsKeyedBy, IsRecounted, list_all}
+use Rattle.sqlbook.proofs.Words.{MetaRow, row_of, stored_of, sums_are_right, terms_of_rows}
 use Rattle.sqlite_rules.specs.Lists.{Has}
 use Rattle.sqlite_typed.specs.Tests.{bytes_eq}
-use Rattle.objects.specs.declared.domain.Domain.{Domain}
 use Rattle.books.specs.Ledgers as store
-use Rattle.books.specs.Tables.{domain_set}
-use Rattle.sqltables.specs.declared.account.AccountRow.{AccountRow}
-use Rattle.sqltables.specs.Content.{Content}
-use Rattle.sqltables.specs.declared.domain.DomainRow.{DomainRow}
-use Rattle.sqltables.specs.declared.meta.MetaRow.{MetaRow}
-use Rattle.sqlaccounts.specs.Accounts.{accounts_of, row_of, sums_are_right}
-use Rattle.sqldomains.specs.inner.Changes.{IsDomainPut}
-use Rattle.sqldomains.specs.Domains.{domain_read, domains_of}
 use Rattle.sqlobjects.proofs.VerdictLemmas.{same-verdict}
-use Rattle.sqlderived.specs.inner.Recounts.{AreAlike, IsRecounted}
-use Rattle.sqlderived.specs.Held.{helds_are_right}
-use Rattle.sqlderived.proofs.KeptLemmas.{held-kept}
-use Rattle.sqlobjects.specs.Objects.{contacts_of, hosts_of}
-use Rattle.sqlterms.specs.Clock.{clock_of}
 use Rattle.sqlterms.specs.Meta.{meta_of}
-use Rattle.sqlterms.specs.Terms.{ids_in, prices_in, reserved_in, schedule_in, terms_in, terms_made, terms_of_rows}
-use Rattle.sqlbook.specs.Meaning.{stored_of}
+use Rattle.sqlterms.specs.Terms.{prices_in, reserved_in, schedule_in, terms_in, terms_made}
 use Rattle.sqlbook.proofs.AccountLemmas.{ident_in, key, same-ids}
 use Rattle.sqlbook.proofs.ObjectLemmas.{IsOfReading, same-put}
 

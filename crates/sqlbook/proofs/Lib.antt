@@ -12,3 +12,4 @@ pub mod BeginningLemmas
 pub mod PlacedLemmas
 pub mod PostingLemmas
 pub mod RenamingLemmas
+pub mod Words

@@ -1,38 +1,17 @@
 -- What a contact or a host put over rows is to a book.
 use Rattle.std.proofs.Common.{◌≡◌, ℕ, Bool, true, false, ◌&&◌, List, Option, Some, None, refl, ap, ◌∙◌}
-use Rattle.std.specs.Cmp.Lexicographic.{slice_cmp}
-use Rattle.std.specs.FinMap.{FinMap}
-use Rattle.std.specs.List.{list_all}
-use Rattle.std.specs.Option.{option_map_or}
-use Rattle.std.specs.Ordering.{nat_cmp}
-use Rattle.std.specs.Ordering.{int_eq}
 use Rattle.std.specs.Prelude.{◌||◌, is_some, pos}
-use Rattle.calendar.specs.Moment.{capped}
+use Rattle.sqlbook.proofs.Words.{accounts-kept, accounts_of, are_right, capped, clock_of, completes_at, contact-sponsors, contact_set, Content}
+use Rattle.sqlbook.proofs.Words.{days_of_rows, Domain, domain_read, DomainRow, due_at, dues_are_right, earlier, FinMap, has_right_due, host-sponsors}
+use Rattle.sqlbook.proofs.Words.{host_set, int_eq, is_due_right, is_live_right, IsContactPut, IsHostPut, list_all, may_be_numbered, nat_cmp}
+use Rattle.sqlbook.proofs.Words.{option_map_or, rules_with, Schedule, slice_cmp, stored_of, sums_are_right, terms_of_rows, with_named}
 use Rattle.sqlite_rules.specs.Lists.{Has}
-use Rattle.lifecycle.specs.Lapse.{completes_at, due_at, earlier}
-use Rattle.lifecycle.specs.Periods.{rules_with}
 use Rattle.objects.specs.Domains.{expiry}
 use Rattle.objects.specs.declared.contact.Contact.{Contact}
-use Rattle.objects.specs.declared.domain.Domain.{Domain}
 use Rattle.objects.specs.declared.host.Host.{Host}
-use Rattle.policy.specs.declared.schedule.Schedule.{Schedule}
 use Rattle.books.specs.Ledgers as store
-use Rattle.books.specs.Tables.{contact_set, host_set}
-use Rattle.sqltables.specs.Content.{Content}
-use Rattle.sqltables.specs.Readiness.{may_be_numbered}
-use Rattle.sqltables.specs.declared.domain.DomainRow.{DomainRow}
-use Rattle.sqlaccounts.specs.Accounts.{accounts_of, sums_are_right}
-use Rattle.sqldomains.specs.Domains.{domain_read}
 use Rattle.sqldomains.proofs.FrameLemmas.{contact-leaves-domains, contact-leaves-reading, host-leaves-domains, host-leaves-reading}
-use Rattle.sqldomains.proofs.SponsorLemmas.{contact-sponsors, host-sponsors}
-use Rattle.sqlderived.proofs.KeptLemmas.{accounts-kept}
-use Rattle.sqlobjects.specs.inner.Changes.{IsContactPut, IsHostPut, with_named}
 use Rattle.sqlobjects.proofs.VerdictLemmas.{all-alike}
-use Rattle.sqlterms.specs.Clock.{clock_of}
-use Rattle.sqlterms.specs.Terms.{days_of_rows, terms_of_rows}
-use Rattle.sqlderived.specs.Dues.{dues_are_right, has_right_due, is_due_right}
-use Rattle.sqlderived.specs.Redates.{is_live_right}
-use Rattle.sqlbook.specs.Meaning.{are_right, stored_of}
 
 -- a put over rows is a put of a map by name
 pub same-put : {X : Type 0} (m : FinMap (slice_cmp nat_cmp) X) (name : List ℕ) (value : Option X) → with_named m name value ≡ store.entry_set m name value

@@ -1,20 +1,8 @@
 -- What an account that is opened over rows is to a book: a row without an id brings none.
 use Rattle.std.proofs.Common.{◌≡◌, ℕ, ℤ, ◌<ℤ◌, Bool, true, false, not, cond, ◌&&◌, ◌+◌, length, List, [], ◌∷◌, ◌++◌, filter, pos, Option, Some, None, refl, sym, ap, ◌∙◌, int_eq}
-use Rattle.std.specs.List.{AllByRecursion}
-use Rattle.std.specs.Option.{unwrap_or}
-use Rattle.sqlite_keyed.specs.Keyed.{IsKeyedBy, get_by}
+use Rattle.sqlbook.proofs.Words.{AccountRow, AllByRecursion, are_right, Content, get_by, ids_behind, ids_in, is_unnamed, IsConsistent, IsKeyedBy}
+use Rattle.sqlbook.proofs.Words.{IsOpened, may_be_numbered, opened_row, opening-kept, posted_to, row_of, sponsors-kept, stored_of, unwrap_or}
 use Rattle.sqlite_keyed.proofs.KeyedLemmas.{same_int}
-use Rattle.books.specs.Tables.{posted_to}
-use Rattle.sqltables.specs.declared.account.AccountRow.{AccountRow}
-use Rattle.sqltables.specs.Content.{Content}
-use Rattle.sqltables.specs.Readiness.{may_be_numbered}
-use Rattle.sqltables.specs.inner.Consistent.{IsConsistent}
-use Rattle.sqlaccounts.specs.Accounts.{row_of}
-use Rattle.sqlaccounts.specs.inner.Changes.{IsOpened, opened_row}
-use Rattle.sqldomains.proofs.SponsorLemmas.{sponsors-kept}
-use Rattle.sqlderived.proofs.KeptLemmas.{opening-kept}
-use Rattle.sqlterms.specs.Terms.{ids_behind, ids_in, is_unnamed}
-use Rattle.sqlbook.specs.Meaning.{are_right, stored_of}
 use Rattle.sqlbook.proofs.AccountLemmas.{dues-of-others, ident_in, key, not-there, posted-of-others, same-ids}
 
 abbrev is_named : AccountRow → Bool

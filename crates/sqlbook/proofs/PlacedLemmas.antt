@@ -1,16 +1,13 @@
 -- A host under its new name, among names that were put into their places one after another.
 use Rattle.std.proofs.Common.{◌≡◌, ℕ, Bool, true, false, cond, not, ◌||◌, List, [], ◌∷◌, filter, refl, sym, ap, ◌∙◌, true≢false}
 use Rattle.std.proofs.lemmas.Slice.Eq.{bytes_eq-Decides}
-use Rattle.std.specs.Cmp.Lexicographic.{slice_cmp}
-use Rattle.std.specs.Ordering.{nat_cmp}
 use Rattle.std.specs.Str.{bytes_eq}
+use Rattle.sqlbook.proofs.Words.{nat_cmp, new_name, placed, slice_cmp}
 use Rattle.basis.specs.Bag.{IsLinear, add, bag_of, precedes}
 use Rattle.basis.proofs.BagLaws.{add-add, any-add, filter-bag_of}
 use Rattle.basis.proofs.OrderLaws.{linear_by_numbers}
 use Rattle.objects.specs.Links.{has_name}
 use Rattle.decisions.specs.Changes.{renamed}
-use Rattle.sqldomains.specs.Domains.{placed}
-use Rattle.sqlobjects.specs.inner.Changes.{new_name}
 
 abbrev le : List ℕ → List ℕ → Bool
 le = precedes (slice_cmp nat_cmp)

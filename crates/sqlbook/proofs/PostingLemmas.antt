@@ -1,40 +1,15 @@
 -- Changes of an account, and a domain that is put with them, to a book.
 use Rattle.std.proofs.Common.{◌≡◌, ◌⊎◌, inl, ℕ, true, ◌&&◌, List, Option, Some, None, IfSome, refl, sym, ap, subst, ◌∙◌}
-use Rattle.std.specs.FinMap.{FinMap, get}
-use Rattle.std.specs.Ordering.{nat_cmp}
-use Rattle.sqlite_keyed.specs.Keyed.{get_by}
+use Rattle.sqlbook.proofs.Words.{Account, AccountRow, are_right, AreOthersKept, ArePosted, change-kept, Content, days_of_rows, Domain, domain_read}
+use Rattle.sqlbook.proofs.Words.{domain_set, DomainRow, domains-kept, FinMap, get, get_by, has_right_due, HasChanged, HasEnd, HaveEnds, is_place}
+use Rattle.sqlbook.proofs.Words.{IsChange, IsCheckedDomain, IsConsistent, IsOpened, IsPosted, IsReplacedPosting, IsRowOf, IsSponsorSetBelow}
+use Rattle.sqlbook.proofs.Words.{IsUnderDays, IsUnwritten, leaves-on, may_be_numbered, nat_cmp, opening-kept, posted_to, Reads, registrar_column}
+use Rattle.sqlbook.proofs.Words.{row_of, Schedule, sponsors-kept, StateOf, Stored, stored_of, with_accounts, with_row, with_unwritten}
 use Rattle.sqlite_rules.specs.Lists.{Has}
-use Rattle.states.specs.States.{Reads, StateOf}
-use Rattle.states.proofs.LeavingLemmas.{leaves-on}
-use Rattle.sqlrows.specs.Meanings.{HasChanged}
-use Rattle.accounts.specs.declared.account.Account.{Account}
 use Rattle.model.specs.Registry.{account_of}
-use Rattle.objects.specs.declared.domain.Domain.{Domain}
-use Rattle.policy.specs.declared.schedule.Schedule.{Schedule}
-use Rattle.books.specs.Book.{Stored}
-use Rattle.books.specs.Tables.{domain_set, posted_to, with_accounts}
 use Rattle.books.proofs.PutLemmas.{changed-put}
-use Rattle.sqltables.specs.Content.{Content}
-use Rattle.sqltables.specs.Readiness.{may_be_numbered}
-use Rattle.sqltables.specs.declared.account.AccountRow.{AccountRow}
-use Rattle.sqltables.specs.declared.domain.DomainRow.{DomainRow}
-use Rattle.sqltables.specs.inner.Consistent.{IsConsistent}
-use Rattle.sqlcolumns.specs.Numbers.{is_place, registrar_column}
-use Rattle.sqlaccounts.specs.Accounts.{row_of}
-use Rattle.sqlaccounts.specs.inner.Changes.{AreOthersKept, IsChange, IsOpened}
-use Rattle.sqlaccounts.specs.inner.Posting.{HasEnd, IsPosted, IsRowOf, with_row}
 use Rattle.sqlaccounts.proofs.PostingLemmas.{consistent-with, row-found, row-posted, with-found}
-use Rattle.sqldomains.specs.Domains.{domain_read}
-use Rattle.sqldomains.proofs.SponsorLemmas.{sponsors-kept}
-use Rattle.sqlderived.specs.Dues.{has_right_due}
 use Rattle.sqlderived.specs.declared.recounting.Unwritten.{Unwritten}
-use Rattle.sqlderived.specs.inner.Recounts.{IsUnwritten, with_unwritten}
-use Rattle.sqlderived.proofs.KeptLemmas.{change-kept, domains-kept, opening-kept}
-use Rattle.sqlobjects.specs.Sponsors.{IsSponsorSetBelow}
-use Rattle.sqlterms.specs.Terms.{days_of_rows}
-use Rattle.sqlbook.specs.Meaning.{are_right, stored_of}
-use Rattle.sqlbook.specs.inner.Posting.{ArePosted, HaveEnds, IsReplacedPosting}
-use Rattle.sqlbook.specs.inner.Replacing.{IsCheckedDomain, IsUnderDays}
 use Rattle.sqlbook.proofs.AccountLemmas.{account-changed, dues-of-others, key}
 use Rattle.sqlbook.proofs.ObjectLemmas.{due-of-reading}
 use Rattle.sqlbook.proofs.OpeningLemmas.{opening-changed}

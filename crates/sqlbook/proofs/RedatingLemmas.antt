@@ -1,28 +1,14 @@
 -- A deleted domain that is put again beside another moment.
 use Rattle.std.proofs.Common.{◌≡◌, ◌||◌, ℕ, true, false, int_eq, is_some, pos, List, Option, Some, None, option_map, refl, sym, ap, ◌∙◌}
-use Rattle.std.specs.Cmp.Lexicographic.{nat_list_cmp_total, slice_cmp}
-use Rattle.std.specs.FinMap.{FinMap, get, nat_cmp-IsAntisymmetric, slice_cmp-IsAntisymmetric}
-use Rattle.std.specs.Option.{option_map_or}
-use Rattle.std.specs.Ordering.{nat_cmp}
-use Rattle.calendar.specs.Moment.{capped}
-use Rattle.lifecycle.specs.Lapse.{completes_at, earlier}
-use Rattle.lifecycle.specs.Periods.{rules_with}
+use Rattle.sqlbook.proofs.Words.{capped, completes_at, Content, Domain, domain_read, DomainRow, domains_of, earlier, end_of, FinMap, get}
+use Rattle.sqlbook.proofs.Words.{is_live_right, IsCheckedDomain, IsConsistent, IsDeletedDomain, IsReplaced, MeansSame, nat_cmp}
+use Rattle.sqlbook.proofs.Words.{nat_cmp-IsAntisymmetric, nat_list_cmp_total, option_map_or, rules_with, Schedule, slice_cmp}
+use Rattle.sqlbook.proofs.Words.{slice_cmp-IsAntisymmetric, stored_of, with_domains}
 use Rattle.lifecycle.specs.Phases.{purge_at}
 use Rattle.objects.specs.Domains.{expiry}
 use Rattle.objects.specs.declared.domain.Deletion.{Deletion}
-use Rattle.objects.specs.declared.domain.Domain.{Domain}
-use Rattle.policy.specs.declared.schedule.Schedule.{Schedule}
 use Rattle.books.specs.Ledgers.{entry_set}
-use Rattle.books.specs.Tables.{with_domains}
 use Rattle.books.proofs.PutLemmas.{put-back, put-put}
-use Rattle.sqltables.specs.Content.{Content}
-use Rattle.sqltables.specs.declared.domain.DomainRow.{DomainRow}
-use Rattle.sqltables.specs.inner.Consistent.{IsConsistent}
-use Rattle.sqldomains.specs.Domains.{domain_read, domains_of}
-use Rattle.sqlderived.specs.Redates.{is_live_right}
-use Rattle.sqlbook.specs.Meaning.{stored_of}
-use Rattle.sqlbook.specs.inner.Replacing.{IsCheckedDomain, IsReplaced}
-use Rattle.sqlbook.specs.inner.Suiting.{IsDeletedDomain, MeansSame, end_of}
 use Rattle.sqlbook.proofs.ObjectLemmas.{live-of-reading}
 use Rattle.sqlbook.proofs.ReplacingLemmas.{reading-is, reads-after, replaced, replaced-days, replaced-lines, replaced-right}
 

@@ -1,36 +1,16 @@
 -- What it is to a book that a host's row gets another name.
 use Rattle.std.proofs.Common.{◌≡◌, ℕ, pos, suc, Bool, true, false, cond, ◌&&◌, length, List, [], ◌∷◌, map, filter, Option, Some, None, option_map, refl, sym, ap, ◌∙◌}
-use Rattle.std.specs.Cmp.Lexicographic.{nat_list_cmp_total, slice_cmp}
-use Rattle.std.specs.FinMap.{FinMap, entries, same_map, values}
-use Rattle.std.specs.List.{list_all}
-use Rattle.std.specs.Option.{option_map_or}
-use Rattle.calendar.specs.Moment.{capped}
-use Rattle.std.specs.Ordering.{int_eq, nat_cmp}
+use Rattle.sqlbook.proofs.Words.{AccountRow, accounts_of, are_right, capped, clock_of, Content, Domain, domain_read, DomainRow, domains_of, due_at}
+use Rattle.sqlbook.proofs.Words.{due_of, dues_are_right, entries, FinMap, held_of, helds_are_right, host_moved, host_set, int_eq, IsRowRenamed}
+use Rattle.sqlbook.proofs.Words.{list_all, may_be_numbered, nat_cmp, nat_list_cmp_total, option_map_or, registrar_in, row_of, rules_with, same_map}
+use Rattle.sqlbook.proofs.Words.{Schedule, slice_cmp, stored_of, sums_are_right, terms_of_rows, values, with_domains}
 use Rattle.basis.specs.Maps.{map_values}
 use Rattle.basis.proofs.MapLemmas.{entries-map_values, get-map_values, names_apart}
-use Rattle.sqlcolumns.specs.Numbers.{registrar_in}
-use Rattle.lifecycle.specs.Lapse.{due_at, due_of}
-use Rattle.lifecycle.specs.Periods.{rules_with}
 use Rattle.objects.specs.declared.domain.Deletion.{Deletion}
-use Rattle.objects.specs.declared.domain.Domain.{Domain}
 use Rattle.objects.specs.declared.host.Host.{Host}
 use Rattle.objects.specs.Sight.{is_party}
-use Rattle.policy.specs.declared.schedule.Schedule.{Schedule}
 use Rattle.decisions.specs.Changes.{renamed, with_host_renamed}
-use Rattle.books.specs.Tables.{host_moved, host_set, with_domains}
-use Rattle.sqltables.specs.declared.account.AccountRow.{AccountRow}
-use Rattle.sqltables.specs.Content.{Content}
-use Rattle.sqltables.specs.declared.domain.DomainRow.{DomainRow}
-use Rattle.sqltables.specs.Readiness.{may_be_numbered}
-use Rattle.sqlaccounts.specs.Accounts.{accounts_of, row_of, sums_are_right}
-use Rattle.sqldomains.specs.Domains.{domain_read, domains_of}
 use Rattle.sqldomains.proofs.RenamedLemmas.{domains-after, reading-after}
-use Rattle.sqlderived.specs.Dues.{dues_are_right}
-use Rattle.sqlderived.specs.Held.{held_of, helds_are_right}
-use Rattle.sqlobjects.specs.inner.Changes.{IsRowRenamed}
-use Rattle.sqlterms.specs.Clock.{clock_of}
-use Rattle.sqlterms.specs.Terms.{terms_of_rows}
-use Rattle.sqlbook.specs.Meaning.{are_right, stored_of}
 use Rattle.sqlbook.proofs.ObjectLemmas.{dues-alike}
 use Rattle.sqlbook.proofs.PlacedLemmas.{IsInPlaces, none-placed, one-placed, renamed-placed}
 

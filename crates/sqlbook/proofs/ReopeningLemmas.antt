@@ -1,7 +1,8 @@
 -- What a crash left of a book is found again.
 use Rattle.std.proofs.Common.{◌≡◌, ◌&&◌, inl, inr, ℕ, true, List, [], ◌∷◌, map, Option, Some, None, refl, sym, ap, subst, ◌∙◌}
 use Rattle.std.proofs.Math.Logic.{∥∥₁_map}
-use Rattle.std.proofs.lemmas.Bool.{and_parts}
+use Rattle.sqlbook.proofs.Words.{and_parts, are_all_right, are_right, as_book, Content, Covers, is_numbered, may_be_numbered, MetaRow, Remains}
+use Rattle.sqlbook.proofs.Words.{remains_meant, StateOf, stored_of, terms_of_rows}
 use Rattle.sqlite_disk.specs.declared.Disk.{Ghosts}
 use Rattle.sqlite_wal.specs.Recovery.{Image}
 use Rattle.sqlite_trees.specs.Tree.{Trees}
@@ -14,20 +15,13 @@ use Rattle.std.specs.Bool.{IsTrue}
 use Rattle.policy.specs.declared.terms.Terms.{Terms}
 use Rattle.books.specs.Kept.{book_state}
 use Rattle.sqltables.specs.Adoption.{IsAdopted}
-use Rattle.sqltables.specs.Content.{Content}
-use Rattle.sqltables.specs.declared.meta.MetaRow.{MetaRow}
-use Rattle.sqltables.specs.Readiness.{is_numbered, may_be_numbered}
 use Rattle.sqltables.specs.inner.Reopening as rows
-use Rattle.sqltables.specs.Stored.{Covers}
 use Rattle.sqltables.proofs.ReopeningLemmas.{reopened}
 use Rattle.states.specs.declared.readiness.Ready.{Ready}
 use Rattle.states.specs.declared.readiness.Ready.TheVariants.{Empty, Used, Other}
-use Rattle.states.specs.States.{Has, Remains, StateOf}
-use Rattle.sqlterms.specs.Terms.{terms_of_rows}
+use Rattle.states.specs.States.{Has}
 use Rattle.sqlbook.specs.Files.{IsFoundIn}
-use Rattle.sqlbook.specs.Meaning.{are_right, stored_of}
 use Rattle.books.specs.Reopening.{IsFoundAgain, IsReopened}
-use Rattle.sqlbook.specs.AsBook.{are_all_right, remains_meant, as_book}
 
 one-right : (leaves : List (Remains Content)) (left : Remains Content) → Has leaves left → are_all_right are_right leaves ≡ true → are_right left.content ≡ true
 one-right [] left h e = absurd h

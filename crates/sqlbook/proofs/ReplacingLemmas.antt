@@ -1,52 +1,22 @@
 -- What one domain in the place of another is to a book.
 use Rattle.std.proofs.Common.{◌≡◌, ℕ, ℤ, Bool, true, false, ◌&&◌, cond, int_eq, List, Option, Some, None, IfSome, Result, Ok, Err, option_map, refl, sym, ap, subst, ◌∙◌, arith}
 use Rattle.std.proofs.lemmas.Int.{ints}
-use Rattle.std.specs.List.{list_all}
 use Rattle.std.specs.Cmp.{eq_by_cmp_equiv}
-use Rattle.std.specs.Cmp.Lexicographic.{nat_list_cmp_total, slice_cmp}
-use Rattle.std.specs.FinMap.{FinMap, get, get-insert, get-remove}
-use Rattle.std.specs.Option.{option_map_or}
-use Rattle.std.specs.Ordering.{eq_by_cmp, nat_cmp}
 use Rattle.std.specs.Prelude.{pos}
-use Rattle.calendar.specs.Moment.{capped}
-use Rattle.sqlite_keyed.specs.Keyed.{IsKeyedBy}
+use Rattle.sqlbook.proofs.Words.{accounts-kept, accounts_of, are_right, are_right_by, BookFault, capped, clock_of, contacts_of, Content}
+use Rattle.sqlbook.proofs.Words.{days_of_rows, Domain, domain-sponsors, domain_read, domain_set, DomainRow, domains_of, due_at, due_with, eq_by_cmp}
+use Rattle.sqlbook.proofs.Words.{FindsSome, FinMap, get, get-insert, get-remove, has_right_due, helds_are_right, is_due_right, IsCheckedDomain}
+use Rattle.sqlbook.proofs.Words.{IsConsistent, IsDomainPut, IsKeyedBy, IsRecounted, IsReplaced, IsUnderDays, list_all, may_be_numbered}
+use Rattle.sqlbook.proofs.Words.{moment_column, nat_cmp, nat_list_cmp_total, option_map_or, Reads, reads-on, rules_with, Schedule, slice_cmp}
+use Rattle.sqlbook.proofs.Words.{sponsor_in, sponsors_are_right, StateOf, stays-on, stored_of, sums_are_right, terms_of_rows, with_named}
 use Rattle.sqlite_rules.specs.Lists.{Has}
-use Rattle.sqlcolumns.specs.Numbers.{moment_column}
 use Rattle.sqlcolumns.proofs.ReadLemmas.{same_some}
-use Rattle.lifecycle.specs.Lapse.{due_at}
-use Rattle.lifecycle.specs.Periods.{rules_with}
-use Rattle.objects.specs.declared.domain.Domain.{Domain}
-use Rattle.policy.specs.declared.schedule.Schedule.{Schedule}
-use Rattle.books.specs.Tables.{domain_set}
-use Rattle.sqltables.specs.Content.{Content}
-use Rattle.sqltables.specs.Readiness.{may_be_numbered}
 use Rattle.sqltables.specs.Domain as table
-use Rattle.sqltables.specs.declared.domain.DomainRow.{DomainRow}
 use Rattle.sqltables.specs.declared.host.HostRow.{HostRow}
-use Rattle.sqltables.specs.inner.Consistent.{IsConsistent}
 use Rattle.sqlrows.specs.Read.{first_read, or_else}
-use Rattle.sqldomains.specs.Domains.{domain_read, domains_of}
-use Rattle.sqldomains.specs.inner.Changes.{IsDomainPut, sponsor_in}
 use Rattle.sqldomains.proofs.FoundLemmas.{domain-named}
 use Rattle.sqldomains.proofs.FrameLemmas.{sponsors-leave-domains, sponsors-leave-reading}
-use Rattle.sqldomains.proofs.SponsorLemmas.{domain-sponsors}
-use Rattle.sqlaccounts.specs.Accounts.{accounts_of, sums_are_right}
-use Rattle.sqlderived.specs.Held.{helds_are_right}
-use Rattle.sqlderived.specs.inner.Recounts.{IsRecounted}
-use Rattle.sqlderived.proofs.KeptLemmas.{accounts-kept}
 use Rattle.sqlobjects.proofs.PutLemmas.{only_named}
-use Rattle.sqlobjects.specs.inner.Changes.{with_named}
-use Rattle.sqlobjects.specs.Objects.{contacts_of}
-use Rattle.sqlobjects.specs.Sponsors.{sponsors_are_right}
-use Rattle.sqlterms.specs.Clock.{clock_of}
-use Rattle.sqlderived.specs.Dues.{has_right_due, is_due_right}
-use Rattle.sqlterms.specs.Terms.{days_of_rows, terms_of_rows}
-use Rattle.sqlbook.specs.Meaning.{are_right, stored_of}
-use Rattle.states.specs.declared.fault.BookFault.{BookFault}
-use Rattle.states.specs.States.{FindsSome, Reads, StateOf}
-use Rattle.sqlrows.proofs.StateLemmas.{reads-on, stays-on}
-use Rattle.sqlbook.specs.inner.Replacing.{IsCheckedDomain, IsReplaced, IsUnderDays, due_with}
-use Rattle.sqlbook.specs.inner.Suiting.{are_right_by}
 use Rattle.sqlbook.proofs.AccountLemmas.{key}
 use Rattle.sqlbook.proofs.DomainLemmas.{domain-changed, held-put, rights-put, sums-put}
 use Rattle.sqlbook.proofs.ObjectLemmas.{IsOfReading, due-of-reading, rights-where}

@@ -1,10 +1,7 @@
 -- What a commit of rows is to a book.
 use Rattle.std.proofs.Common.{◌≡◌, ◌⊎◌, ◌&&◌, inl, inr, Bool, true, false, List, [], ◌∷◌, ◌++◌, map, Result, Ok, Err, refl, sym, ap, subst, ◌∙◌}
-use Rattle.std.proofs.lemmas.Bool.{and_parts}
-use Rattle.states.specs.declared.fault.BookFault.{BookFault}
-use Rattle.states.specs.States.{Closes, Ends, Fails, Has, IsIdle, Keeps, Notes, Remains, StateOf, holding}
-use Rattle.states.proofs.LeavingLemmas.{has-alone, has-either}
-use Rattle.sqlbook.specs.AsBook.{are_all_right, remains_meant, as_book}
+use Rattle.sqlbook.proofs.Words.{and_parts, are_all_right, as_book, BookFault, Ends, has-alone, has-either, Remains, remains_meant, StateOf}
+use Rattle.states.specs.States.{Closes, Fails, Has, IsIdle, Keeps, Notes, holding}
 use Rattle.sqlbook.specs.BetweenCalls.{UndoneIfFault, IsBetweenCalls}
 
 both-true : (a b : Bool) → a ≡ true → b ≡ true → (a && b) ≡ true

@@ -1,35 +1,13 @@
 -- What another clock, and other terms, over rows are to a book.
 use Rattle.std.proofs.Common.{◌≡◌, inl, inr, ℕ, ℤ, Bool, true, false, ◌&&◌, List, [], ◌∷◌, map, Option, Some, option_map, Result, Ok, Err, IfOk, refl, sym, ap, subst, ◌∙◌, cond, int_eq}
-use Rattle.std.specs.List.{list_all}
-use Rattle.std.specs.Option.{option_map_or}
-use Rattle.sqlite_keyed.specs.Keyed.{get_by}
-use Rattle.policy.specs.declared.schedule.Schedule.{Schedule}
+use Rattle.sqlbook.proofs.Words.{AccountRow, accounts_of, are_right, are_right_by, asked-turns, BookFault, Changes, clock_set, columns-kept}
+use Rattle.sqlbook.proofs.Words.{contacts_of, Content, days_of_rows, DomainRow, domains_of, dues_are_right, ends_are, get_by, has_right_due}
+use Rattle.sqlbook.proofs.Words.{HasChanged, helds_are_right, hosts_of, is_due_right, is_live_right, IsClockSet, IsSetDown, IsSetOver, IsTermsSet}
+use Rattle.sqlbook.proofs.Words.{leaves-on, list_all, lives_are_right, may_be_numbered, MeansSame, nameless, option_map_or, Reads, Schedule}
+use Rattle.sqlbook.proofs.Words.{sponsors_are_right, StateOf, stored_of, SuitDomains, sums_are_right, with_terms}
 use Rattle.policy.specs.declared.terms.Terms.{Terms}
-use Rattle.books.specs.Book.{with_terms}
-use Rattle.books.specs.Tables.{clock_set}
-use Rattle.sqltables.specs.declared.account.AccountRow.{AccountRow}
-use Rattle.sqltables.specs.Content.{Content}
-use Rattle.sqltables.specs.declared.domain.DomainRow.{DomainRow}
-use Rattle.sqltables.specs.Readiness.{may_be_numbered}
-use Rattle.sqlaccounts.specs.Accounts.{accounts_of, sums_are_right}
-use Rattle.sqldomains.specs.Domains.{domains_of}
-use Rattle.sqlderived.specs.Held.{helds_are_right}
-use Rattle.sqlderived.proofs.KeptLemmas.{columns-kept}
-use Rattle.sqlobjects.specs.Objects.{contacts_of, hosts_of}
-use Rattle.sqlobjects.specs.Sponsors.{sponsors_are_right}
-use Rattle.sqlterms.specs.inner.Changes.{IsClockSet, IsTermsSet, nameless}
-use Rattle.sqlterms.specs.Terms.{days_of_rows}
-use Rattle.sqlderived.specs.Dues.{dues_are_right, has_right_due, is_due_right}
-use Rattle.sqlbook.specs.Meaning.{are_right, stored_of}
 use Rattle.sqlderived.proofs.RedateLemmas.{dues-live}
-use Rattle.sqlderived.specs.Redates.{ends_are, is_live_right, lives_are_right}
-use Rattle.sqlobjects.proofs.StepLemmas.{asked-turns}
-use Rattle.sqlrows.specs.Meanings.{HasChanged, Changes}
-use Rattle.states.specs.declared.fault.BookFault.{BookFault}
-use Rattle.states.specs.States.{Reads, StateOf}
-use Rattle.states.proofs.LeavingLemmas.{leaves-on}
 use Rattle.sqlbook.specs.Suiting.{AreRedated}
-use Rattle.sqlbook.specs.inner.Suiting.{IsSetDown, IsSetOver, MeansSame, SuitDomains, are_right_by}
 use Rattle.sqlbook.proofs.AccountLemmas.{key}
 
 -- ---- another clock

@@ -1,18 +1,9 @@
 -- The addresses of a host, removed and added.
 use Rattle.std.proofs.Common.{◌≡◌, ◌+◌, ◌<◌, length, get_or, take, ℕ, ℤ, List, [], ◌∷◌, ◌++◌, sym, ap, subst, ◌∙◌, refl, append_assoc, int_eq}
-use Rattle.std.proofs.lemmas.Bool.Decides.{Decides-int_eq}
-use Rattle.std.proofs.lemmas.List.{append-nil, map-append, take_more}
-use Rattle.std.specs.Prelude.{filter}
+use Rattle.sqlobjects.proofs.Words.{address_with_host, addresses, addresses_of, addresses_to, append-nil, AreAddressesAdded, AreAddressesPut}
+use Rattle.sqlobjects.proofs.Words.{Content, Decides-int_eq, delete_where, filter, map-append, next_key, same_int, take_more, texts_of}
 use Rattle.sqlrows.specs.inner.Layouts.{appended}
-use Rattle.sqlite_keyed.specs.Keyed.{next_key}
-use Rattle.sqlite_keyed.specs.Lists.{delete_where}
-use Rattle.sqlite_keyed.proofs.KeyedLemmas.{same_int}
-use Rattle.sqltables.specs.Address.{address_with_host, addresses}
 use Rattle.sqltables.specs.declared.address.AddressRow.{AddressRow}
-use Rattle.sqltables.specs.Content.{Content}
-use Rattle.sqltables.specs.inner.Content.{addresses_to}
-use Rattle.sqlobjects.specs.Objects.{addresses_of, texts_of}
-use Rattle.sqlobjects.specs.inner.Stages.{AreAddressesAdded, AreAddressesPut}
 use Rattle.sqlobjects.proofs.PutLemmas.{filter-append, filter-append_pass, filter-delete, filter-deleted}
 
 pub cleared : (id : ℤ) (xs : Content) → AreAddressesPut id [] xs (addresses_to (delete_where (address_with_host id)) xs)

@@ -1,26 +1,18 @@
 -- What rows of contacts mean after a change.
 use Rattle.std.proofs.Common.{◌≡◌, ℕ, ℤ, pos, false, List, [], ◌∷◌, filter, Option, Some, None, refl, sym, ap, subst, ◌∙◌, int_eq}
-use Rattle.sqlite_keyed.specs.Lists.{delete_where}
+use Rattle.sqlobjects.proofs.Words.{AreOtherNamesKept, AreOtherTransfersKept, contact_read, contact_registration, contact_row_with, ContactRow}
+use Rattle.sqlobjects.proofs.Words.{contacts_of, contacts_to, Content, delete_where, hosts_of, is_transfer_of, IsConsistent, IsContact}
+use Rattle.sqlobjects.proofs.Words.{IsContactDropped, IsContactPlaced, IsContactPut, IsContactRemoved, IsPlaced, IsTransferCleared, IsTransferPut}
+use Rattle.sqlobjects.proofs.Words.{last_transfer, postal_row, row_of_contact, rows_of, same_some, step, with_named}
 use Rattle.objects.specs.declared.contact.Contact.{Contact}
 use Rattle.objects.specs.declared.roid.ObjectKind.TheVariants as kinds
 use Rattle.objects.specs.declared.transfer.Transfer.{Transfer}
-use Rattle.sqlcolumns.specs.inner.Contacts.{IsContact, contact_registration, contact_row_with, postal_row, row_of_contact}
 use Rattle.sqlcolumns.specs.Contacts.{contact_of_columns}
 use Rattle.sqlcolumns.specs.Registrations.{registration_columns}
 use Rattle.sqlcolumns.specs.Steps.{◌>>=◌}
 use Rattle.sqlcolumns.proofs.ContactLemmas.{contact_back}
-use Rattle.sqlcolumns.proofs.ReadLemmas.{same_some, step}
 use Rattle.sqltables.specs.Contact as contact_table
-use Rattle.sqltables.specs.declared.contact.ContactRow.{ContactRow}
-use Rattle.sqltables.specs.Content.{Content}
-use Rattle.sqltables.specs.inner.Content.{contacts_to}
-use Rattle.sqltables.specs.inner.Consistent.{IsConsistent}
-use Rattle.sqlrows.specs.Read.{rows_of}
-use Rattle.sqlobjects.specs.inner.Changes.{IsContactPut, with_named}
-use Rattle.sqlobjects.specs.Objects.{contact_read, contacts_of, hosts_of, last_transfer}
-use Rattle.sqlobjects.specs.inner.Stages.{AreOtherNamesKept, IsContactDropped, IsContactPlaced, IsContactRemoved, IsPlaced}
 use Rattle.sqlobjects.specs.declared.transfers.Transferable.TheVariants as transferable
-use Rattle.sqlobjects.specs.inner.Transfers.{AreOtherTransfersKept, IsTransferCleared, IsTransferPut, is_transfer_of}
 use Rattle.sqlobjects.proofs.PutLemmas.{drop-stands, map_of, names_kept, none-stands, others-removed, put-stands}
 
 abbrev name_of : ContactRow → List ℕ

@@ -1,23 +1,15 @@
 -- What is found by name is what stands under the name.
 use Rattle.std.proofs.Common.{◌≡◌, ℕ, ℤ, List, Option, Some, Result, Ok, Err, IfOk, sym, ap, ◌∙◌}
-use Rattle.std.specs.Prelude.{filter}
-use Rattle.std.specs.FinMap.{get}
+use Rattle.sqlobjects.proofs.Words.{contact_read, ContactRow, contacts_of, Content, filter, finds-on, first_read, get, Host, host_of_columns}
+use Rattle.sqlobjects.proofs.Words.{host_read, HostRow, hosts_of, texts_of}
 use Rattle.objects.specs.declared.contact.Contact.{Contact}
-use Rattle.objects.specs.declared.host.Host.{Host}
-use Rattle.sqlcolumns.specs.Hosts.{host_of_columns}
 use Rattle.sqltables.specs.Address as address_table
 use Rattle.sqltables.specs.declared.address.AddressRow.{AddressRow}
 use Rattle.sqltables.specs.Contact as contact_table
-use Rattle.sqltables.specs.declared.contact.ContactRow.{ContactRow}
-use Rattle.sqltables.specs.Content.{Content}
 use Rattle.sqltables.specs.Host as host_table
-use Rattle.sqltables.specs.declared.host.HostRow.{HostRow}
 use Rattle.states.specs.declared.fault.BookFault.{BookFault}
 use Rattle.states.specs.States.{Finds, FindsSome, StateOf}
-use Rattle.sqlobjects.specs.Objects.{contact_read, contacts_of, host_read, hosts_of, texts_of}
-use Rattle.sqlrows.specs.Read.{first_read}
 use Rattle.sqlobjects.proofs.NameLemmas.{contact-named, host-named}
-use Rattle.sqlrows.proofs.StateLemmas.{finds-on}
 
 module _ (s m t : StateOf Content) (given name : List ℕ) (same : given ≡ name) where
   pub contact-found : (r : Result (Option Contact) BookFault) (rows : List ContactRow) → Finds {A = List ContactRow} (Ok rows) (filter (contact_table.contact_with_name given) s.content.contacts) s m

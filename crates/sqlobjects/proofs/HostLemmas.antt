@@ -1,25 +1,14 @@
 -- What rows of hosts mean after a change.
 use Rattle.std.proofs.Common.{◌≡◌, ℕ, ℤ, pos, true, false, List, [], ◌∷◌, filter, Option, Some, None, refl, sym, ap, subst, ◌∙◌, int_eq}
-use Rattle.sqlite_keyed.specs.Lists.{delete_where}
-use Rattle.sqlite_rules.specs.Lists.{Has}
-use Rattle.objects.specs.declared.host.Host.{Host}
+use Rattle.sqlobjects.proofs.Words.{addresses_of, AreAddressesPut, AreOtherAddressesKept, AreOtherNamesKept, contacts_of, Content, delete_where, Has}
+use Rattle.sqlobjects.proofs.Words.{Host, host_of_columns, host_read, HostRow, hosts_of, hosts_to, is_sponsor_right, IsConsistent, IsHostDropped}
+use Rattle.sqlobjects.proofs.Words.{IsHostPlaced, IsHostPut, IsHostRemoved, IsHostRow, IsPlaced, rows_of, same_some, sponsor_of, step, with_named}
 use Rattle.objects.specs.declared.roid.ObjectKind.TheVariants as kinds
 use Rattle.sqlcolumns.specs.inner.Hosts.{IsHost, host_row_with}
-use Rattle.sqlcolumns.specs.Hosts.{host_of_columns}
 use Rattle.sqlcolumns.specs.Roids.{roid_columns}
 use Rattle.sqlcolumns.specs.Steps.{◌>>=◌}
 use Rattle.sqlcolumns.proofs.HostLemmas.{host_back}
-use Rattle.sqlcolumns.proofs.ReadLemmas.{same_some, step}
-use Rattle.sqltables.specs.Content.{Content}
-use Rattle.sqltables.specs.inner.Content.{hosts_to}
 use Rattle.sqltables.specs.Host as host_table
-use Rattle.sqltables.specs.declared.host.HostRow.{HostRow}
-use Rattle.sqltables.specs.inner.Consistent.{IsConsistent}
-use Rattle.sqlrows.specs.Read.{rows_of}
-use Rattle.sqlobjects.specs.inner.Changes.{IsHostPut, with_named}
-use Rattle.sqlobjects.specs.Objects.{addresses_of, contacts_of, host_read, hosts_of}
-use Rattle.sqlobjects.specs.Sponsors.{is_sponsor_right, sponsor_of}
-use Rattle.sqlobjects.specs.inner.Stages.{AreAddressesPut, AreOtherAddressesKept, AreOtherNamesKept, IsHostDropped, IsHostPlaced, IsHostRemoved, IsHostRow, IsPlaced}
 use Rattle.sqlobjects.proofs.SponsorLemmas.{nobody, same-from, sponsor-kept}
 use Rattle.sqlobjects.proofs.PutLemmas.{drop-stands, map_of, names_kept, none-removed, none-stands, others-removed, put-stands}
 

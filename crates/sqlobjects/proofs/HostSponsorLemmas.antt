@@ -1,21 +1,11 @@
 -- Rows of hosts that take a domain's sponsor.
 use Rattle.std.proofs.Common.{◌≡◌, ℕ, ℤ, Bool, true, false, not, cond, ◌&&◌, ◌||◌, List, [], ◌∷◌, map, filter, Option, is_some, refl, sym, ap, subst, ◌∙◌, true≢false}
-use Rattle.std.proofs.lemmas.Bool.{and_parts}
-use Rattle.std.specs.FinMap.{from_entries}
-use Rattle.std.specs.List.{cons_option, filter_map, list_all}
-use Rattle.sqlite_keyed.specs.Lists.{update_where}
-use Rattle.sqlite_rules.specs.Lists.{Has}
+use Rattle.sqlobjects.proofs.Words.{and_parts, AreHostsMoved, cons_option, Content, filter_map, from_entries, Has, host_entry, HostRow, hosts_of}
+use Rattle.sqlobjects.proofs.Words.{hosts_to, is_same, IsConsistent, IsSponsorSetBelow, list_all, update_where}
 use Rattle.sqlcolumns.specs.Numbers.{maybe_registrar_column}
-use Rattle.sqlcolumns.specs.Transfers.{is_same}
-use Rattle.sqltables.specs.Content.{Content}
 use Rattle.sqltables.specs.Host as table
-use Rattle.sqltables.specs.declared.host.HostRow.{HostRow}
-use Rattle.sqltables.specs.inner.Consistent.{IsConsistent}
-use Rattle.sqltables.specs.inner.Content.{hosts_to}
 use Rattle.sqlobjects.specs.declared.host_sponsors.Sponsors.{Sponsors}
-use Rattle.sqlobjects.specs.Objects.{host_entry, hosts_of}
-use Rattle.sqlobjects.specs.Sponsors.{AreMoved, IsSponsorSetBelow, sponsor_by_name, takes_sponsor, with_sponsor}
-use Rattle.sqlobjects.specs.inner.Stages.{AreHostsMoved}
+use Rattle.sqlobjects.specs.Sponsors.{AreMoved, sponsor_by_name, takes_sponsor, with_sponsor}
 use Rattle.sqlobjects.proofs.PutLemmas.{filter-has}
 use Rattle.sqlobjects.proofs.VerdictLemmas.{each-passes}
 

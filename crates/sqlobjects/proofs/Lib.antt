@@ -12,3 +12,4 @@ pub mod HostLemmas
 pub mod HostSponsorLemmas
 pub mod VerdictLemmas
 pub mod RowNameLemmas
+pub mod Words

@@ -1,15 +1,9 @@
 -- What stands under a name is what the first row of that name that reads, reads as.
 use Rattle.std.proofs.Common.{◌≡◌, ℕ, List}
-use Rattle.std.specs.Prelude.{filter}
-use Rattle.std.specs.FinMap.{get}
+use Rattle.sqlobjects.proofs.Words.{contact_read, ContactRow, contacts_of, Content, filter, first_read, get, host_read, HostRow, hosts_of}
 use Rattle.sqltables.specs.Contact as contact_table
-use Rattle.sqltables.specs.declared.contact.ContactRow.{ContactRow}
-use Rattle.sqltables.specs.Content.{Content}
 use Rattle.sqltables.specs.Host as host_table
-use Rattle.sqltables.specs.declared.host.HostRow.{HostRow}
-use Rattle.sqlrows.specs.Read.{first_read}
 use Rattle.sqlrows.proofs.NameLemmas.{stands}
-use Rattle.sqlobjects.specs.Objects.{contact_read, contacts_of, host_read, hosts_of}
 
 pub contact-named : (xs : Content) (name : List ℕ) → first_read (contact_read xs) (filter (contact_table.contact_with_name name) xs.contacts) ≡ get (contacts_of xs) name
 contact-named xs name = stands (λ (r : ContactRow). r.name) (contact_read xs) name xs.contacts

@@ -1,12 +1,7 @@
 -- A row of a table in which no name comes twice, put or added.
 use Rattle.std.proofs.Common.{◌≡◌, inl, ℕ, ℤ, List, [], ◌∷◌, ◌++◌, Option, Some, None, refl, sym, ap, subst, ◌∙◌}
-use Rattle.sqlite_rules.specs.Lists.{Has}
-use Rattle.sqlite_keyed.specs.Keyed.{insert_by, next_key}
-use Rattle.sqlite_typed.specs.Tests.{bytes_eq}
-use Rattle.sqltables.specs.Content.{Content}
-use Rattle.sqltables.specs.inner.Consistent.{IsConsistent}
-use Rattle.sqlrows.specs.Read.{rows_of}
-use Rattle.sqlobjects.specs.inner.Stages.{IsPlaced, IsPlacedAt, IsRowPlaced, NamedTable, rows_named, with_last, with_replaced}
+use Rattle.sqlobjects.proofs.Words.{bytes_eq, Content, Has, insert_by, IsConsistent, IsPlaced, IsPlacedAt, IsRowPlaced, NamedTable, next_key}
+use Rattle.sqlobjects.proofs.Words.{rows_named, rows_of, with_last, with_replaced}
 use Rattle.sqlrows.proofs.ReplaceLemmas.{replaced-is-put}
 use Rattle.sqlobjects.proofs.PutLemmas.{has-filter, placed-added, placed-put}
 

@@ -1,20 +1,10 @@
 -- To a row of a new name nothing leads that was there before it.
 use Rattle.std.proofs.Common.{◌≡◌, inl, inr, ℕ, ℤ, Bool, true, false, cond, not, List, [], ◌∷◌, filter, Option, Some, None, is_some, refl, sym, ap, subst, ◌∙◌}
+use Rattle.sqlobjects.proofs.Words.{address_with_host, addresses_of, bytes_eq, bytes_same, ContactRow, Content, Has, HostRow, IsConsistent}
+use Rattle.sqlobjects.proofs.Words.{IsRowPlaced, named_contacts, named_hosts, NamedTable, rows_named, rows_of, same_by_key, same_int, texts_of}
 use Rattle.sqlite_keyed.specs.Rules.{points_to}
-use Rattle.sqlite_keyed.proofs.KeyedLemmas.{same_int}
-use Rattle.sqlite_rules.specs.Lists.{Has}
-use Rattle.sqlite_typed.specs.Tests.{bytes_eq}
-use Rattle.sqlrows.specs.Read.{rows_of}
-use Rattle.sqlobjects.specs.Objects.{addresses_of, texts_of}
-use Rattle.sqlobjects.specs.inner.Stages.{IsRowPlaced, NamedTable, named_contacts, named_hosts, rows_named}
 use Rattle.sqlobjects.proofs.PutLemmas.{filter-has, has-filter}
-use Rattle.sqltables.proofs.RowLemmas.{bytes_same, same_by_key}
-use Rattle.sqltables.specs.Address.{address_with_host}
-use Rattle.sqltables.specs.declared.contact.ContactRow.{ContactRow}
-use Rattle.sqltables.specs.Content.{Content}
-use Rattle.sqltables.specs.declared.host.HostRow.{HostRow}
 use Rattle.sqltables.specs.Transfer.{transfer_with_contact}
-use Rattle.sqltables.specs.inner.Consistent.{IsConsistent}
 
 -- where none passes, none is left
 pub none-pass : {A : Type 0} (p : A → Bool) (xs : List A) → ((x : A) → Has xs x → p x ≡ true → ⊥) → filter p xs ≡ []

@@ -2,23 +2,14 @@
 use Rattle.std.proofs.Common.{◌≡◌, inl, inr, ℕ, ℤ, ◌<ℤ◌, Bool, true, false, not, cond, List, [], ◌∷◌, ◌++◌, filter, Option, Some, None, option_map, refl, sym, ap, subst, ◌∙◌, arith, Ordering, Less, Equal, Greater, int_cmp, int_eq, true≢false}
 use Rattle.std.specs.Cmp.{Equal-is}
 use Rattle.std.specs.Cmp.Lexicographic.{nat_list_cmp_total, slice_cmp}
-use Rattle.std.specs.FinMap.{FinMap, from_entries, get, get-insert, get-remove, nat_cmp-IsAntisymmetric, same_map, slice_cmp-IsAntisymmetric}
-use Rattle.std.specs.List.{AllByRecursion}
+use Rattle.std.specs.FinMap.{FinMap, get-insert, get-remove, nat_cmp-IsAntisymmetric, same_map, slice_cmp-IsAntisymmetric}
 use Rattle.std.specs.Ordering.{match_ordering, nat_cmp}
-use Rattle.std.proofs.lemmas.Bool.Decides.{Decides-int_eq}
 use Rattle.std.proofs.lemmas.Int.{ints}
-use Rattle.sqlite_keyed.specs.Keyed.{IsKeyedBy, get_by, insert_by}
-use Rattle.sqlite_keyed.specs.Lists.{delete_where}
-use Rattle.sqlite_keyed.proofs.KeyedLemmas.{Less-from_lt, int_eq_apart, key-get_by, same_int}
+use Rattle.sqlobjects.proofs.Words.{all_at, AllByRecursion, AreOtherNamesKept, bytes_eq, bytes_same, Decides-int_eq, delete_where, first_read}
+use Rattle.sqlobjects.proofs.Words.{from_entries, get, get_by, Has, insert_by, int_eq_apart, IsKeyedBy, IsNamedBy, IsPlaced, key-get_by}
+use Rattle.sqlobjects.proofs.Words.{Less-from_lt, or_else, same_by_key, same_int, with_named}
 use Rattle.sqlite_keyed.proofs.ListLemmas.{filter_none}
-use Rattle.sqlite_rules.specs.Lists.{Has}
-use Rattle.sqlite_typed.specs.Tests.{bytes_eq}
-use Rattle.sqltables.specs.inner.Consistent.{IsNamedBy}
-use Rattle.sqltables.proofs.RowLemmas.{all_at, bytes_same, same_by_key}
-use Rattle.sqlrows.specs.Read.{first_read, or_else}
 use Rattle.sqlrows.proofs.NameLemmas.{entries_of, stands}
-use Rattle.sqlobjects.specs.inner.Changes.{with_named}
-use Rattle.sqlobjects.specs.inner.Stages.{AreOtherNamesKept, IsPlaced}
 
 -- ---- names
 

@@ -1,33 +1,18 @@
 -- The row of one host made another's, under its number.
 use Rattle.std.proofs.Common.{◌≡◌, ◌⊎◌, inl, inr, ℕ, ℤ, Bool, true, false, cond, int_eq, int_cmp, Ordering, Less, Equal, Greater, List, [], ◌∷◌, filter, Option, Some, None, option_map, refl, sym, ap, subst, ◌∙◌, true≢false}
-use Rattle.std.proofs.lemmas.Bool.Decides.{Decides-int_eq}
 use Rattle.std.proofs.lemmas.Slice.Eq.{bytes_eq-Decides}
 use Rattle.std.specs.Ordering.{match_ordering}
 use Rattle.std.specs.Str as str
-use Rattle.sqlite_keyed.specs.Keyed.{get_by, insert_by}
-use Rattle.sqlite_keyed.specs.Lists.{delete_where}
-use Rattle.sqlite_keyed.proofs.KeyedLemmas.{key-get_by, same_int}
+use Rattle.sqlobjects.proofs.Words.{addresses_of, AreAddressesPut, AreOtherAddressesKept, AreOtherNamesKept, bytes_eq, bytes_same, contacts_of}
+use Rattle.sqlobjects.proofs.Words.{Content, Decides-int_eq, delete_where, first_read, get_by, Has, Host, host_of_columns, host_read, HostRow}
+use Rattle.sqlobjects.proofs.Words.{hosts_of, insert_by, is_same, is_sponsor_right, IsConsistent, IsRowRenamed, IsRowTaken, key-get_by, new_name}
+use Rattle.sqlobjects.proofs.Words.{or_else, same_by_key, same_int, same_some, sponsor_of, sponsors_are_right, with_named}
 use Rattle.sqlite_keyed.proofs.ListLemmas.{filter_none}
-use Rattle.sqlite_rules.specs.Lists.{Has}
-use Rattle.sqlite_typed.specs.Tests.{bytes_eq}
-use Rattle.objects.specs.declared.host.Host.{Host}
 use Rattle.sqlcolumns.specs.inner.Hosts.{IsHost, row_of_host}
-use Rattle.sqlcolumns.specs.Hosts.{host_of_columns}
-use Rattle.sqlcolumns.specs.Transfers.{is_same}
 use Rattle.sqlcolumns.proofs.HostLemmas.{host_back}
-use Rattle.sqlcolumns.proofs.ReadLemmas.{same_some}
-use Rattle.sqltables.specs.Content.{Content}
 use Rattle.sqltables.specs.Host as host_table
-use Rattle.sqltables.specs.declared.host.HostRow.{HostRow}
-use Rattle.sqltables.specs.inner.Consistent.{IsConsistent}
-use Rattle.sqltables.proofs.RowLemmas.{bytes_same, same_by_key}
-use Rattle.sqlrows.specs.Read.{first_read, or_else}
 use Rattle.sqlrows.proofs.RowLemmas.{get_by-insert_by}
-use Rattle.sqlobjects.specs.inner.Changes.{IsRowRenamed, new_name, with_named}
 use Rattle.sqlobjects.specs.Changes.{host_name_by_number}
-use Rattle.sqlobjects.specs.Objects.{addresses_of, contacts_of, host_read, hosts_of}
-use Rattle.sqlobjects.specs.Sponsors.{is_sponsor_right, sponsor_of, sponsors_are_right}
-use Rattle.sqlobjects.specs.inner.Stages.{AreAddressesPut, AreOtherAddressesKept, AreOtherNamesKept, IsRowTaken}
 use Rattle.sqlobjects.proofs.HostLemmas.{reads-alike, written}
 use Rattle.sqlobjects.proofs.PutLemmas.{all_from_has, apart, bytes_apart, bytes_is, changed, drop-stands, filter-insert_by, get_by-has, has-get_by, has-insert_by, none-removed, only_named, others-removed, row_there, tied}
 use Rattle.sqlobjects.proofs.SponsorLemmas.{found-right, nobody, same-from, sponsor-kept}

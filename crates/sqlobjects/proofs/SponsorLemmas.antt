@@ -1,17 +1,9 @@
 -- Whether the row of a host says who sponsors it.
 use Rattle.std.proofs.Common.{◌≡◌, inl, inr, ℕ, ℤ, true, List, [], filter, Option, Some, None, IfSome, refl, sym, ap, subst}
-use Rattle.std.proofs.lemmas.Bool.Decides.{Decides-int_eq}
-use Rattle.sqlite_keyed.proofs.KeyedLemmas.{same_int}
-use Rattle.sqlite_rules.specs.Lists.{Has}
-use Rattle.sqlcolumns.specs.Transfers.{is_same}
-use Rattle.sqltables.specs.Content.{Content}
+use Rattle.sqlobjects.proofs.Words.{bytes_same, Content, Decides-int_eq, first_sponsor, Has, HasRightSponsor, HostRow, is_same, is_sponsor_right}
+use Rattle.sqlobjects.proofs.Words.{IsHostFound, or_else, rows_of, same_int, sponsor_of}
 use Rattle.sqltables.specs.Domain.{domain_with_name}
 use Rattle.sqltables.specs.Host as table
-use Rattle.sqltables.specs.declared.host.HostRow.{HostRow}
-use Rattle.sqltables.proofs.RowLemmas.{bytes_same}
-use Rattle.sqlrows.specs.Read.{or_else, rows_of}
-use Rattle.sqlobjects.specs.Sponsors.{first_sponsor, is_sponsor_right, sponsor_of}
-use Rattle.sqlobjects.specs.inner.Stages.{HasRightSponsor, IsHostFound}
 use Rattle.sqlobjects.proofs.PutLemmas.{filter-has}
 
 pub itself : (a : Option ℤ) → is_same a a ≡ true

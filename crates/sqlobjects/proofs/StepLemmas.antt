@@ -1,11 +1,9 @@
 -- One step of a change after another.
 use Rattle.std.proofs.Common.{◌≡◌, true, Result, Ok, Err, refl, sym, subst, ◌∙◌}
+use Rattle.sqlobjects.proofs.Words.{Changes, ChangesGiving, HasChanged, stays-on, then-made}
 use Rattle.states.specs.declared.fault.BookFault.{BookFault}
 use Rattle.states.specs.States.{Makes, Reads, StateOf, Writes}
 use Rattle.states.proofs.LeavingLemmas.{leaves-on, leaves-refl}
-use Rattle.sqlrows.specs.Meanings.{HasChanged, Changes}
-use Rattle.sqlrows.proofs.StateLemmas.{stays-on, then-made}
-use Rattle.sqlobjects.specs.inner.Stages.{ChangesGiving}
 
 pub asked-then : {C : Type 0} (step way : C → C → Type 0) (a b c : StateOf C) → Reads a b → HasChanged step b c → (c.is_clean ≡ true → step a.content c.content → way a.content c.content) → HasChanged way a c
 asked-then step way a b c asked made is = record {

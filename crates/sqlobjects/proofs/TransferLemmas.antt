@@ -2,25 +2,16 @@
 use Rattle.std.proofs.Common.{◌≡◌, ◌&&◌, inl, inr, ℤ, true, false, [], ◌∷◌, ◌++◌, filter, Option, Some, None, IfSome, is_some, option_map, refl, sym, ap, subst, ◌∙◌, int_eq, true≢false}
 use Rattle.std.specs.Option.{option_map_or}
 use Rattle.std.proofs.Math.Bool.{and_comm}
-use Rattle.std.proofs.lemmas.Bool.Decides.{Decides-int_eq}
-use Rattle.sqlite_keyed.specs.Keyed.{IsKeyedBy, insert_by, next_key}
-use Rattle.sqlite_keyed.specs.Lists.{delete_where}
+use Rattle.sqlobjects.proofs.Words.{Content, Decides-int_eq, delete_where, Has, insert_by, is_transfer_of, IsKeyedBy, IsStorableTransfer}
+use Rattle.sqlobjects.proofs.Words.{IsTransferCleared, IsTransferPut, last_transfer, next_key, rows_of, same_by_key, same_int, Transferable}
+use Rattle.sqlobjects.proofs.Words.{transfers_to, with_over}
 use Rattle.sqlite_keyed.specs.Rules.{points_to}
-use Rattle.sqlite_keyed.proofs.KeyedLemmas.{same_int}
-use Rattle.sqlite_rules.specs.Lists.{Has}
 use Rattle.objects.specs.declared.transfer.Transfer as object
-use Rattle.sqlcolumns.specs.Transfers.{IsStorableTransfer}
 use Rattle.sqlcolumns.proofs.TransferLemmas.{transfer_back}
-use Rattle.sqltables.specs.Content.{Content}
-use Rattle.sqltables.specs.inner.Content.{transfers_to}
 use Rattle.sqltables.specs.Transfer.{transfers}
 use Rattle.sqltables.specs.declared.transfer.TransferRow.{TransferRow}
-use Rattle.sqltables.proofs.RowLemmas.{same_by_key}
-use Rattle.sqlrows.specs.Read.{rows_of}
-use Rattle.sqlobjects.specs.declared.transfers.Transferable.{Transferable}
 use Rattle.sqlobjects.specs.declared.transfers.Transferable.TheVariants.{Contact, Domain}
-use Rattle.sqlobjects.specs.Objects.{last_transfer}
-use Rattle.sqlobjects.specs.inner.Transfers.{IsRowOf, IsTransferCleared, IsTransferPut, are_same, is_transfer_of, maybe_row, names_both, transfer_row_of, with_over}
+use Rattle.sqlobjects.specs.inner.Transfers.{IsRowOf, are_same, maybe_row, names_both, transfer_row_of}
 use Rattle.sqlobjects.proofs.PutLemmas.{filter-append, filter-append_pass, filter-delete, filter-deleted, filter-has, filter-in-place, filter-insert_by, has-filter}
 
 -- ---- whose a row is

@@ -1,11 +1,6 @@
 -- Tests of all rows, which say the same before and after a change.
 use Rattle.std.proofs.Common.{◌≡◌, inl, inr, ℕ, Bool, true, false, ◌&&◌, List, [], ◌∷◌, map, refl, sym, ap, subst, ◌∙◌}
-use Rattle.std.proofs.lemmas.Bool.{and_from, and_parts}
-use Rattle.std.specs.List.{list_all}
-use Rattle.sqlite_rules.specs.Lists.{Has}
-use Rattle.sqlite_typed.specs.Tests.{bytes_eq}
-use Rattle.sqltables.proofs.RowLemmas.{bytes_same}
-use Rattle.sqlobjects.specs.inner.Stages.{AreOtherNamesKept}
+use Rattle.sqlobjects.proofs.Words.{and_from, and_parts, AreOtherNamesKept, bytes_eq, bytes_same, Has, list_all}
 use Rattle.sqlobjects.proofs.PutLemmas.{bytes_is, filter-has, has-filter}
 
 module _ {A : Type 0} (p : A → Bool) where

@@ -1,24 +1,11 @@
 -- What an insertion without a key does.
 use Rattle.std.proofs.Common.{◌≡◌, ◌+ℤ◌, ℕ, ℤ, pos, List, [], ◌∷◌, map, drop, fold, length, slice_get, Option, Some, None, Ok, false, refl, sym, ap, ap₂, ◌∙◌, subst}
-use Rattle.sqlite_value.specs.declared.value.Value.TheVariants.{Null, Int}
-use Rattle.sqlite_value.specs.Order.{Row}
-use Rattle.sqlite_trees.specs.Tree.{Trees, rowid, put_row}
-use Rattle.sqlite_sql.specs.Term.{Term}
-use Rattle.sqlite_schema.specs.declared.schema.Table.{Table}
-use Rattle.sqlite_schema.specs.declared.schema.Schema.{Schema}
+use Rattle.sqlrows.proofs.Words.{appended, cast_row, Chosen, count_of, Database, Does, edit_of, edited, Holds, id_in, insert_by, Inserts, Int}
+use Rattle.sqlrows.proofs.Words.{IsAppend, IsKeyedBy, IsKeyedBy-insert_by, last_id, Layout, Leads, Listed, next_key, next_rowid, Null, Numbers}
+use Rattle.sqlrows.proofs.Words.{put_row, puts-map, Row, rowid, rowids_for, Schema, Sets, steady, Table, Tally, Task, Term, Trees, with_rowid}
+use Rattle.sqlrows.proofs.Words.{with_rowids, Written}
 use Rattle.sqlite_schema.specs.declared.command.Source.TheVariants.{Values}
-use Rattle.sqlite_rules.specs.declared.error.Rowids.TheVariants.{Chosen}
-use Rattle.sqlite_rules.specs.Cast.{cast_row}
-use Rattle.sqlite_rules.specs.Edit.{id_in, next_rowid, with_rowid, numbered as with_rowids, edit_of, edited}
-use Rattle.sqlite_typed.proofs.RowLemmas.{puts-map}
-use Rattle.sqlite_keyed.specs.Keyed.{IsKeyedBy, insert_by, next_key}
-use Rattle.sqlite_keyed.proofs.KeyedLemmas.{IsKeyedBy-insert_by}
 use Rattle.sqlite_keyed.proofs.SliceLemmas.{insert_next}
-use Rattle.sqlite.specs.Effect.{Database}
-use Rattle.sqlite.specs.Rows.{Written, Task, Inserts, rowids_for, count_of, last_id}
-use Rattle.sqlite.specs.Does.{Does, Tally}
-use Rattle.sqlrows.specs.Layouts.{Layout}
-use Rattle.sqlrows.specs.inner.Layouts.{Leads, steady, Holds, Sets, Listed, IsAppend, Numbers, appended}
 use Rattle.sqlrows.proofs.WriteLemmas.{went, same_value, concluded, noted, task_of, left, applies, sets}
 use Rattle.sqlrows.proofs.PutLemmas.{not_counted}
 

@@ -1,11 +1,10 @@
 -- A value of its column's type is stored as it is.
 use Rattle.std.proofs.Common.{◌≡◌, ℕ, ℤ, Bool, true, false, cond, List, Option, Some, None, refl}
+use Rattle.sqlrows.proofs.Words.{cast, Int, Null, Text}
 use Rattle.sqlite_value.specs.declared.value.Value.{Value}
-use Rattle.sqlite_value.specs.declared.value.Value.TheVariants.{Null, Int, Text}
 use Rattle.sqlite_schema.specs.declared.schema.Kind.TheVariants as kinds
 use Rattle.sqlite_schema.specs.declared.schema.Kind.TheVariants.{Integer}
 use Rattle.sqlite_sql.specs.Ops.{unary}
-use Rattle.sqlite_rules.specs.Cast.{cast}
 use Rattle.sqlite_typed.specs.Columns.{or_null}
 
 either : (b : Bool) (x : Value) → cond b x x ≡ x

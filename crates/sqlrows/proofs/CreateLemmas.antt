@@ -1,22 +1,13 @@
 -- What CREATE TABLE and CREATE INDEX do.
 use Rattle.std.proofs.Common.{◌≡◌, inl, inr, ℕ, List, [], ◌∷◌, ◌++◌, false, true, None, Ok, Err, Result, refl, sym, ap, ◌∙◌, subst}
-use Rattle.std.specs.List.{AllByRecursion}
-use Rattle.sqlite_trees.specs.Tree.{Trees}
-use Rattle.sqlite_schema.specs.declared.schema.Table.{Table}
+use Rattle.sqlrows.proofs.Words.{AllByRecursion, command_of, Compiled, CompileError, CreateIndex, CreateTable, Database, Defines, Does, Executes}
+use Rattle.sqlrows.proofs.Words.{IsBlank, IsIndex, lacks_sequence, mode_of, runs_as, Schema, State, statement_of, Table, Tally, Trees, understood}
+use Rattle.sqlrows.proofs.Words.{writes_tables}
 use Rattle.sqlite_schema.specs.declared.schema.Index.{Index}
-use Rattle.sqlite_schema.specs.declared.schema.Schema.{Schema}
-use Rattle.sqlite_schema.specs.declared.command.Command.TheVariants.{CreateTable, CreateIndex}
 use Rattle.sqlite_catalog.specs.Change.{created, indexed, next_tree, KeepsRows}
-use Rattle.sqlite_resolve.specs.declared.compiled.Compiled.{Compiled}
-use Rattle.sqlite_resolve.specs.declared.error.CompileError.{CompileError}
-use Rattle.sqlite.specs.Effect.{Database}
-use Rattle.sqlite.specs.Does.{Does, Tally, lacks_sequence}
-use Rattle.sqlite.specs.Listing.{understood}
-use Rattle.sqlite.specs.State.{State, Writes, Executes, mode_of}
-use Rattle.sqlite.proofs.Callers.{runs_as}
+use Rattle.sqlite.specs.State.{Writes}
 use Rattle.sqlite.proofs.Callers as callers
-use Rattle.sqlrows.specs.inner.Layouts.{command_of, writes_tables}
-use Rattle.sqlrows.specs.inner.Definitions.{IsTable, IsIndex, Defines, IsBlank, statement_of}
+use Rattle.sqlrows.specs.inner.Definitions.{IsTable}
 use Rattle.sqlrows.proofs.SelectLemmas.{same_command}
 use Rattle.sqlrows.proofs.WriteLemmas.{went, same_value, left}
 

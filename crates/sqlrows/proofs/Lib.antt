@@ -18,3 +18,4 @@ pub mod RowLemmas
 pub mod ReplaceLemmas
 pub mod NameLemmas
 pub mod StateLemmas
+pub mod Words

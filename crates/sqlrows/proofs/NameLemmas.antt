@@ -4,10 +4,8 @@ use Rattle.std.specs.Prelude.{filter}
 use Rattle.std.specs.Cmp.{eq_by_cmp_equiv}
 use Rattle.std.specs.Cmp.Lexicographic.{nat_list_cmp_total, slice_cmp}
 use Rattle.std.specs.FinMap.{find, from_entries, get, get-from_entries}
-use Rattle.std.specs.List.{cons_option, filter_map}
-use Rattle.std.specs.Ordering.{eq_by_cmp, nat_cmp}
+use Rattle.sqlrows.proofs.Words.{cons_option, eq_by_cmp, filter_map, first_read, named, nat_cmp, or_else}
 use Rattle.sqlite_typed.specs.Tests.{bytes_eq}
-use Rattle.sqlrows.specs.Read.{first_read, named, or_else}
 
 module _ {R X : Type 0} (name_of : R → List ℕ) (read : R → Option X) where
   abbrev pub entries_of : List R → List (List ℕ × X)

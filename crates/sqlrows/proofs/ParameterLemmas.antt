@@ -1,8 +1,7 @@
 -- Parameters without the first, which is a row's number.
 use Rattle.std.proofs.Common.{◌≡◌, ◌∙◌, ℕ, List, [], ◌∷◌, map, take, drop, refl, sym, ap}
-use Rattle.std.specs.List.{take-map}
+use Rattle.sqlrows.proofs.Words.{Row, take-map}
 use Rattle.sqlite_value.specs.declared.value.ValueRef.{ValueRef}
-use Rattle.sqlite_value.specs.Order.{Row}
 use Rattle.sqlite.specs.Values.{bound}
 
 without_first : {X Y : Type 0} (f : X → Y) (xs : List X) → map f (drop 1 xs) ≡ drop 1 (map f xs)

@@ -1,41 +1,24 @@
 -- What an upsert by key does.
 use Rattle.std.proofs.Common.{◌≡◌, ◌++◌, ◌&&◌, ◌||◌, inl, inr, ℕ, ℤ, Bool, true, false, List, [], ◌∷◌, map, drop, length, slice_get, Option, Some, None, Ok, refl, sym, ap, ap₂, ◌∙◌, subst, IsPermutation, int_eq, true≢false}
-use Rattle.std.specs.List.{list_all}
-use Rattle.sqlite_value.specs.declared.value.Value.TheVariants.{Null, Int}
+use Rattle.sqlrows.proofs.Words.{Above, cast_row, Chosen, chosen_query, col, count_of, Database, deletes-map, Does, edit_of, edited, eval_all, Given}
+use Rattle.sqlrows.proofs.Words.{Gives, Has, Holds, holds, ids_of, insert_by, Int, IsKeyedBy-insert_by, IsPut, Layout, Leads, list_all, Listed, Null}
+use Rattle.sqlrows.proofs.Words.{one_permutation, op2, put_row, puts-map, Row, rowid, rowids_for, same_int, Schema, Sets, steady, Table, Tally, Task}
+use Rattle.sqlrows.proofs.Words.{Term, Trees, Updates, with_rowid, without_key, without_rowid, Written}
 use Rattle.sqlite_value.specs.declared.keys.Collation.TheVariants.{Binary}
 use Rattle.sqlite_value.specs.declared.keys.Key.{Key}
 use Rattle.sqlite_value.proofs.KeyLemmas.{first_key-plain}
-use Rattle.sqlite_value.specs.Order.{Row}
-use Rattle.sqlite_trees.specs.Tree.{Trees, rowid, put_row, without_rowid}
 use Rattle.sqlite_sql.specs.declared.ops.CompareOp.TheVariants.{Eq}
 use Rattle.sqlite_sql.specs.declared.ops.BinaryOp.TheVariants.{Compare}
 use Rattle.sqlite_sql.specs.Ops.{is_true, binary}
-use Rattle.sqlite_sql.specs.Term.{Term, col, op2, eval_all, holds}
-use Rattle.sqlite_schema.specs.declared.schema.Table.{Table}
-use Rattle.sqlite_schema.specs.declared.schema.Schema.{Schema}
 use Rattle.sqlite_schema.specs.declared.command.Conflict.TheVariants.{Abort}
 use Rattle.sqlite_schema.specs.declared.command.Upsert.{Upsert}
 use Rattle.sqlite_schema.specs.declared.command.Source.TheVariants.{Values}
 use Rattle.sqlite_schema.specs.declared.program.Program.{Program}
-use Rattle.sqlite_rules.specs.Lists.{Has}
 use Rattle.sqlite_rules.specs.declared.error.Rowids.{Rowids}
-use Rattle.sqlite_rules.specs.declared.error.Rowids.TheVariants.{Chosen, Above, Given}
 use Rattle.sqlite_rules.specs.declared.error.Refusal.{Refusal}
-use Rattle.sqlite_rules.specs.Cast.{cast_row}
-use Rattle.sqlite_rules.specs.Edit.{edit_of, edited, with_rowid}
-use Rattle.sqlite_rules.specs.Calls.{ids_of}
 use Rattle.sqlite_rules.specs.Keys.{AreConflicts, conflicts}
-use Rattle.sqlite_typed.proofs.RowLemmas.{puts-map, deletes-map}
 use Rattle.sqlite_typed.proofs.TestLemmas.{at_ints, last_term}
-use Rattle.sqlite_keyed.specs.Keyed.{insert_by}
-use Rattle.sqlite_keyed.specs.Lists.{without_key}
-use Rattle.sqlite_keyed.proofs.KeyedLemmas.{IsKeyedBy-insert_by, same_int}
-use Rattle.sqlite.specs.Effect.{Database}
-use Rattle.sqlite.specs.Rows.{Written, Task, Puts, Clears, Updates, Meets, Upserts, Judged, Tries, TriesEach, InsertsOr, shown, nothing, rowids_for, count_of, Counts}
-use Rattle.sqlite.specs.Does.{Does, Tally}
-use Rattle.sqlite.proofs.Callers.{one_permutation}
-use Rattle.sqlrows.specs.Layouts.{Layout}
-use Rattle.sqlrows.specs.inner.Layouts.{Leads, steady, Holds, Sets, Listed, chosen_query, IsPut, Gives}
+use Rattle.sqlite.specs.Rows.{Puts, Clears, Meets, Upserts, Judged, Tries, TriesEach, InsertsOr, shown, nothing, Counts}
 use Rattle.sqlrows.proofs.ListLemmas.{removed_put, only_one}
 use Rattle.sqlrows.proofs.WriteLemmas.{went, same_value, concluded, task_of, left, applies, sets, chosen}
 

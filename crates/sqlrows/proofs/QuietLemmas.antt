@@ -1,12 +1,9 @@
 -- Where no foreign key has an action, a write sets nothing off.
 use Rattle.std.proofs.Common.{◌≡◌, ◌&&◌, ◌++◌, ◌==◌, ℕ, Bool, true, false, cond, List, [], ◌∷◌, length, None, refl, sym, ap, ap₂, true≢false}
-use Rattle.std.specs.List.{list_all, filter_map, flat_map, cons_option}
-use Rattle.sqlite_value.specs.Order.{Row}
+use Rattle.sqlrows.proofs.Words.{cons_option, filter_map, flat_map, list_all, Row, Schema, Table}
 use Rattle.sqlite_schema.specs.declared.schema.Action.{Action}
 use Rattle.sqlite_schema.specs.declared.schema.Action.TheVariants.{NoAction}
 use Rattle.sqlite_schema.specs.declared.schema.Reference.{Reference}
-use Rattle.sqlite_schema.specs.declared.schema.Table.{Table}
-use Rattle.sqlite_schema.specs.declared.schema.Schema.{Schema}
 use Rattle.sqlite_schema.specs.declared.schema.Keys.TheVariants.{Enforced}
 use Rattle.sqlite_schema.specs.Rules.{parent_key}
 use Rattle.sqlite_rules.specs.Action.{works, work_by, pairs, work_for, deed_of, deed_for}

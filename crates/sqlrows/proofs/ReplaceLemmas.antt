@@ -1,11 +1,6 @@
 -- A row that takes the place of the one with its number.
 use Rattle.std.proofs.Common.{◌≡◌, inl, inr, ℤ, ◌<ℤ◌, true, false, List, [], ◌∷◌, refl, sym, ap, ◌∙◌, subst, arith, Equal, int_cmp, int_eq}
-use Rattle.std.specs.List.{AllByRecursion}
-use Rattle.std.proofs.lemmas.Int.{ints}
-use Rattle.sqlite_keyed.specs.Keyed.{IsKeyedBy, insert_by}
-use Rattle.sqlite_keyed.specs.Lists.{update_where}
-use Rattle.sqlite_keyed.proofs.KeyedLemmas.{Less-from_lt}
-use Rattle.sqlite_rules.specs.Lists.{Has}
+use Rattle.sqlrows.proofs.Words.{AllByRecursion, Has, insert_by, ints, IsKeyedBy, Less-from_lt, update_where}
 
 at-all : {X : Type 0} (P : X → Type 0) (xs : List X) (x : X) → AllByRecursion P xs → Has xs x → P x
 at-all P [] x each h = absurd h

@@ -1,11 +1,6 @@
 -- A row that is found by its number, and one put in the place of another.
 use Rattle.std.proofs.Common.{◌≡◌, ℤ, Bool, true, false, cond, ◌&&◌, List, [], ◌∷◌, filter, find, Option, Some, None, refl, sym, ap, ◌∙◌, arith, Ordering, Less, Equal, Greater, int_cmp, int_eq, true≢false}
-use Rattle.std.specs.List.{list_all}
-use Rattle.std.specs.Ordering.{is_eq, match_ordering}
-use Rattle.std.proofs.lemmas.Int.{ints}
-use Rattle.sqlite_keyed.specs.Keyed.{get_by, insert_by}
-use Rattle.sqlite_keyed.proofs.KeyedLemmas.{lt_from_Less, same_int}
-use Rattle.sqlrows.specs.Read.{rows_of}
+use Rattle.sqlrows.proofs.Words.{get_by, insert_by, ints, is_eq, list_all, lt_from_Less, match_ordering, rows_of, same_int}
 
 -- ---- one row at most
 

@@ -1,23 +1,16 @@
 -- Rows by a test.
 use Rattle.std.proofs.Common.{◌≡◌, ◌^◌, ◌-◌, Err, ℕ, Bool, true, false, List, [], ◌∷◌, map, filter, unwrap_or, cond, nat_le, slice_get, None, Result, Ok, refl, sym, ap₂, ◌∙◌, int_cmp, map-id, ℤ, Option, Ordering, Less}
-use Rattle.std.specs.List.{list_all}
-use Rattle.sqlite_value.specs.declared.value.Value.TheVariants.{Int}
-use Rattle.sqlite_value.specs.Order.{Row, value_cmp}
+use Rattle.sqlrows.proofs.Words.{command_of, Compiled, CompileError, eval_all, Holds, holds, Int, Layout, list_all, Row, sort_by, Term, Trees}
+use Rattle.sqlrows.proofs.Words.{value_cmp}
 use Rattle.sqlite_value.proofs.OrderLemmas.{value_cmp-Int, value_cmp-Null, then-Equal}
-use Rattle.sqlite_trees.specs.Tree.{Trees}
 use Rattle.sqlite_sql.specs.Query.{IsAnswer, output, output_cmp, page}
 use Rattle.sqlite_sql.specs.Program.{overlay}
-use Rattle.sqlite_sql.specs.Term.{Term, eval_all, holds}
 use Rattle.sqlite_typed.proofs.AnswerLemmas.{at_end, last_table, answer_by_keys, answer_sorted, IsNoTie, no_tie, no_tie_after}
 use Rattle.sqlite_typed.proofs.TestLemmas.{value_cmp-or_null}
 use Rattle.sqlite_typed.specs.Columns.{or_null}
 use Rattle.sqlite_typed.specs.Tests.{nulls_first}
-use Rattle.sqlite_keyed.specs.Lists.{sort_by}
 use Rattle.sqlite.proofs.Callers as callers
-use Rattle.sqlite_resolve.specs.declared.compiled.Compiled.{Compiled}
-use Rattle.sqlite_resolve.specs.declared.error.CompileError.{CompileError}
-use Rattle.sqlrows.specs.Layouts.{Layout}
-use Rattle.sqlrows.specs.inner.Layouts.{Holds, select_query, limited_query, no_limit, sorted_query, by_then_key, command_of}
+use Rattle.sqlrows.specs.inner.Layouts.{select_query, limited_query, no_limit, sorted_query, by_then_key}
 
 pub same_command : (r : Result Compiled CompileError) → callers.command_of r ≡ command_of r
 same_command (Ok c) = refl

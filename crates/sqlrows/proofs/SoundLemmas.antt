@@ -1,16 +1,11 @@
 -- A connection that is open and clean after a call was so before it.
 use Rattle.std.proofs.Common.{inl, inr, ℕ, false, List, Option, Some, None, Result, Ok, Err, IsTrue}
-use Rattle.sqlite_value.specs.Order.{Row}
-use Rattle.sqlite_trees.specs.Tree.{Trees}
-use Rattle.sqlite_schema.specs.declared.command.Command.{Command}
-use Rattle.sqlite_schema.specs.declared.command.Command.TheVariants.{Select, Insert, InsertOr, Update, Delete, CreateTable, CreateIndex, DropTable, DropIndex, Begin, Commit, Rollback, Savepoint as Save, Release, RollbackTo, Nothing, CreateView, DropView, Rows}
-use Rattle.sqlite_schema.specs.declared.command.Returning.{Returning}
-use Rattle.sqlite_resolve.specs.declared.compiled.Compiled.{Compiled}
-use Rattle.sqlite.specs.declared.error.Error.{Error}
-use Rattle.sqlite.proofs.StateLemmas.{survives_weaker}
+use Rattle.sqlrows.proofs.Words.{Begin, Command, Commit, Compiled, CreateIndex, CreateTable, Delete, Error, Executes, ForgetsNoFault, Insert}
+use Rattle.sqlrows.proofs.Words.{InsertOr, Returning, Rollback, Row, shows_rows, State, StaysOrUndoes, Survives, survives_weaker, text_of, Trees}
+use Rattle.sqlrows.proofs.Words.{Update}
+use Rattle.sqlite_schema.specs.declared.command.Command.TheVariants.{Select, DropTable, DropIndex, Savepoint as Save, Release, RollbackTo, Nothing, CreateView, DropView, Rows}
 use Rattle.std.specs.Prelude.{⊤}
-use Rattle.sqlite.specs.State.{State, Survives, Executes, ExecutesIn, Runs, Shown, ShowsRows, FailsToQuery, FailsToShow, shows_rows, text_of}
-use Rattle.sqlrows.specs.inner.Calls.{StaysOrUndoes, ForgetsNoFault}
+use Rattle.sqlite.specs.State.{ExecutesIn, Runs, Shown, ShowsRows, FailsToQuery, FailsToShow}
 use Rattle.sqlrows.proofs.StandLemmas.{stands_if_not_executed, ran_alone, not_run, stopped}
 
 pub was_open : (old new : State) → StaysOrUndoes old new → IsTrue new.is_open → IsTrue old.is_open

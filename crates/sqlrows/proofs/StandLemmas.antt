@@ -1,19 +1,10 @@
 -- What a call that fails leaves.
 use Rattle.std.proofs.Common.{cond, OnErr, ◌≡◌, inl, inr, ℕ, Bool, true, false, List, Option, Result, Ok, Err, sym, ap, ◌∙◌, subst, MatchBool, true≢false}
-use Rattle.sqlite_value.specs.Order.{Row}
-use Rattle.sqlite_trees.specs.Tree.{Trees}
-use Rattle.sqlite_schema.specs.declared.command.Command.{Command}
-use Rattle.sqlite_schema.specs.declared.command.Command.TheVariants.{Insert, InsertOr, Update, Delete, CreateTable, CreateIndex}
-use Rattle.sqlite_schema.specs.declared.command.Returning.{Returning}
-use Rattle.sqlite_resolve.specs.declared.compiled.Compiled.{Compiled}
-use Rattle.sqlite.specs.declared.error.Error.{Error}
+use Rattle.sqlrows.proofs.Words.{Command, command_of, Compiled, CreateIndex, CreateTable, Delete, Error, Executes, Insert, InsertOr, never_commits}
+use Rattle.sqlrows.proofs.Words.{Returning, Row, Shows, shows_rows, State, StaysOpen, StaysOrUndoes, Survives, survives_weaker, text_of, Trees}
+use Rattle.sqlrows.proofs.Words.{understood, Update, writes_tables}
 use Rattle.sqlite.specs.Given.{IsPlain}
-use Rattle.sqlite.specs.Listing.{understood}
-use Rattle.sqlite.specs.State.{State, IsUnchanged, Survives, Executes, ExecutesIn, IsNotRun, RunsCommand, FailsToQuery, FailsToShow, Shown, ShowsRows, CommitsShowing, CommitsBy, shows_rows, text_of, Runs, Shows}
-use Rattle.sqlite.proofs.StateLemmas.{survives_weaker}
-use Rattle.sqlite.proofs.Callers.{never_commits}
-use Rattle.sqlrows.specs.inner.Layouts.{command_of, writes_tables}
-use Rattle.sqlrows.specs.inner.Calls.{StaysOrUndoes, StaysOpen}
+use Rattle.sqlite.specs.State.{IsUnchanged, ExecutesIn, IsNotRun, RunsCommand, FailsToQuery, FailsToShow, Shown, ShowsRows, CommitsShowing, CommitsBy, Runs}
 
 pub not_run : (old new : State) (sql : List ℕ) (params : Row) (e : Error) → IsNotRun old new sql params e → StaysOrUndoes old new
 unfolding IsNotRun

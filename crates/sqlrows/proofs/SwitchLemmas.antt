@@ -1,28 +1,16 @@
 -- BEGIN, COMMIT and ROLLBACK as text.
 use Rattle.std.proofs.Common.{◌≡◌, ◌≤◌, inl, inr, ℕ, Bool, true, false, List, [], length, Option, Some, None, Result, Ok, Err, refl, sym, ap, ◌∙◌, subst, MatchBool, true≢false, IsSome, ◌||◌, lit≤}
-use Rattle.sqlite_value.specs.Order.{Row}
-use Rattle.sqlite_trees.specs.Tree.{Trees}
-use Rattle.sqlite_schema.specs.declared.schema.Schema.{Schema}
-use Rattle.sqlite_schema.specs.declared.command.Command.{Command}
-use Rattle.sqlite_schema.specs.declared.command.Command.TheVariants.{Begin, Commit, Rollback}
-use Rattle.sqlite_schema.specs.declared.command.Returning.{Returning}
-use Rattle.sqlite_resolve.specs.declared.compiled.Compiled.{Compiled}
-use Rattle.sqlite_resolve.specs.declared.error.CompileError.{CompileError}
+use Rattle.sqlrows.proofs.Words.{Begin, Command, command_of, Commit, Compiled, CompileError, Database, Does, Error, Executes, is_query, IsRolledBack}
+use Rattle.sqlrows.proofs.Words.{mode_of, Returning, Rollback, Row, Schema, shows_rows, State, Survives, survives_weaker, Tally, text_of, Trees}
 use Rattle.sqlite_tied.specs.Compute.{everything}
-use Rattle.sqlite.specs.declared.error.Error.{Error}
-use Rattle.sqlite.specs.Effect.{Database}
-use Rattle.sqlite.specs.Does.{Tally, Does}
 use Rattle.sqlite.specs.Calls.{IsWrite}
 use Rattle.sqlite.specs.Clock.{timed}
 use Rattle.sqlite.specs.declared.run.Mode.{Mode}
-use Rattle.sqlite.specs.Effect.{is_query}
 use Rattle.sqlite.specs.declared.error.Error.TheVariants.{ExecuteReturnedResults}
 use Rattle.sqlite.specs.Given.{IsPlain}
 use Rattle.sqlite.specs.Listing.{understood}
-use Rattle.sqlite.specs.State.{State, IsUnchanged, IsRolledBack, Survives, Executes, ExecutesIn, IsNotRun, IsNoStatement, RunsCommand, IsMisplaced, CommitsBy, is_pragma, shows_rows, mode_of, text_of}
-use Rattle.sqlite.proofs.StateLemmas.{survives_weaker}
+use Rattle.sqlite.specs.State.{IsUnchanged, ExecutesIn, IsNotRun, IsNoStatement, RunsCommand, IsMisplaced, CommitsBy, is_pragma}
 use Rattle.sqlrows.specs.inner.Transactions.{begin_text, commit_text, back_text}
-use Rattle.sqlrows.specs.inner.Layouts.{command_of}
 
 -- the text is one statement with no parameter, which does not read the time
 abbrev pub IsConsistent : List ℕ → Result Compiled CompileError → Type 0

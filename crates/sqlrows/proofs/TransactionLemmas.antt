@@ -1,11 +1,7 @@
 -- What BEGIN, COMMIT and ROLLBACK do to a connection, whatever its schema is.
 use Rattle.std.proofs.Common.{◌≡◌, ℕ, true, false, [], Result, Ok, Err, refl, ◌∙◌, MatchResult}
-use Rattle.sqlite_schema.specs.declared.command.Command.TheVariants.{Begin, Commit, Rollback}
-use Rattle.sqlite.specs.declared.error.Error.{Error}
-use Rattle.sqlite.specs.Listing.{understood}
-use Rattle.sqlite.specs.State.{State, IsRolledBack, Shows, Survives, Executes, CommitsBy}
-use Rattle.sqlite.proofs.StateLemmas.{survives_weaker}
-use Rattle.sqlite.proofs.Callers.{runs_as}
+use Rattle.sqlrows.proofs.Words.{Begin, Commit, CommitsBy, Error, Executes, IsRolledBack, Rollback, runs_as, Shows, State, Survives, survives_weaker}
+use Rattle.sqlrows.proofs.Words.{understood}
 use Rattle.sqlrows.specs.inner.Transactions.{begin_text, commit_text, back_text}
 use Rattle.sqlrows.proofs.SelectLemmas.{same_command}
 use Rattle.sqlrows.proofs.SwitchLemmas.{begin_is, commit_is, back_is, undone, commits, begin_in_place, commit_in_place, back_in_place}

@@ -1,35 +1,20 @@
 -- What an update of the rows that pass a test does.
 use Rattle.std.proofs.Common.{◌≡◌, ◌++◌, ◌&&◌, zero, suc, ℕ, Bool, true, false, not, cond, List, [], ◌∷◌, map, filter, drop, slice_get, Option, Some, None, Ok, refl, sym, ap, ap₂, ◌∙◌, subst, arith, add-one, Ordering, Less, Equal, Greater, is_eq, is_lt, true≢false, IsPermutation, IsSorted}
-use Rattle.std.specs.List.{list_all}
 use Rattle.std.specs.Cmp.{IsTotalOrder}
-use Rattle.std.specs.Ordering.{match_ordering, ordering_reverse}
 use Rattle.std.proofs.lemmas.Bool.{or_parts}
 use Rattle.std.proofs.lemmas.Cmp.{on_total}
 use Rattle.std.proofs.lemmas.List.{map-append}
-use Rattle.std.proofs.lemmas.List.Sorted.{IsPermutation-refl, IsPermutation-sym, IsPermutation-trans, IsPermutation-cons, IsPermutation-middle, IsPermutation-map, IsPermutation-append_left, IsPermutation-append_right}
-use Rattle.sqlite_value.specs.declared.value.Value.TheVariants.{Null}
-use Rattle.sqlite_value.specs.Order.{Row, value_cmp}
+use Rattle.std.proofs.lemmas.List.Sorted.{IsPermutation-refl, IsPermutation-sym, IsPermutation-trans, IsPermutation-cons, IsPermutation-middle, IsPermutation-append_left, IsPermutation-append_right}
+use Rattle.sqlrows.proofs.Words.{ascending-map, ascending_weaker, cast_row, chosen_query, col, Database, delete_where, deletes-map, Does, edit_of}
+use Rattle.sqlrows.proofs.Words.{Given, Holds, holds, id_in, ids_of, IsAscending, IsKeyedBy, IsKeyedBy-delete_where, IsKeyedBy-update_where}
+use Rattle.sqlrows.proofs.Words.{IsPermutation-map, IsUpdate, Layout, Leads, Less-from_lt, list_all, Listed, map-map, map_same, match_ordering, Null}
+use Rattle.sqlrows.proofs.Words.{ordering_reverse, put_row, Renews, Row, rowid, Schema, Sets, steady, Table, Tally, Term, Trees, update_where}
+use Rattle.sqlrows.proofs.Words.{Updates, value_cmp, without_all, Written}
 use Rattle.sqlite_value.proofs.OrderLemmas.{value_cmp_total, value_cmp-Int}
-use Rattle.sqlite_trees.specs.Tree.{Trees, rowid, IsAscending, IsTable, put_row}
+use Rattle.sqlite_trees.specs.Tree.{IsTable}
 use Rattle.sqlite_trees.proofs.TreeLemmas.{IsTable-put_row}
-use Rattle.sqlite_sql.specs.Term.{Term, col, holds}
-use Rattle.sqlite_schema.specs.declared.schema.Table.{Table}
-use Rattle.sqlite_schema.specs.declared.schema.Schema.{Schema}
-use Rattle.sqlite_rules.specs.declared.error.Rowids.TheVariants.{Given}
-use Rattle.sqlite_rules.specs.Cast.{cast_row}
-use Rattle.sqlite_rules.specs.Edit.{id_in, is_taken, are_fresh, numbered, put_all, without_all, edit_of, left_by}
-use Rattle.sqlite_rules.specs.Calls.{ids_of}
-use Rattle.sqlite_typed.proofs.RowLemmas.{deletes-map}
-use Rattle.sqlite_keyed.specs.Keyed.{IsKeyedBy}
-use Rattle.sqlite_keyed.specs.Lists.{update_where, delete_where}
-use Rattle.sqlite_keyed.proofs.KeyedLemmas.{Less-from_lt, IsKeyedBy-update_where, IsKeyedBy-delete_where}
-use Rattle.sqlite_keyed.proofs.ListLemmas.{map-map, map_same, ascending-map, ascending_weaker}
+use Rattle.sqlite_rules.specs.Edit.{is_taken, are_fresh, numbered, put_all, left_by}
 use Rattle.sqlite_keyed.proofs.SortLemmas.{sorted_unique}
-use Rattle.sqlite.specs.Effect.{Database}
-use Rattle.sqlite.specs.Rows.{Written, Updates}
-use Rattle.sqlite.specs.Does.{Does, Tally}
-use Rattle.sqlrows.specs.Layouts.{Layout}
-use Rattle.sqlrows.specs.inner.Layouts.{Leads, steady, Holds, Sets, Listed, chosen_query, IsUpdate, Renews}
 use Rattle.sqlrows.proofs.ListLemmas.{removes_in_order}
 use Rattle.sqlrows.proofs.WriteLemmas.{went, same_value, concluded, task_of, left, applies, sets, chosen}
 

@@ -1,32 +1,14 @@
 -- What a write does to the rows of its table.
 use Rattle.std.proofs.Common.{◌≡◌, ◌≢◌, ◌⊎◌, inl, inr, ℕ, Bool, List, [], ◌∷◌, map, filter, slice_get, Option, Some, None, Result, Ok, Err, refl, sym, ap, ◌∙◌, subst, IsPermutation}
-use Rattle.std.specs.List.{list_all}
-use Rattle.std.proofs.lemmas.List.Sorted.{IsPermutation-map}
-use Rattle.sqlite_value.specs.declared.value.Value.TheVariants.{Null}
-use Rattle.sqlite_value.specs.Order.{Row}
-use Rattle.sqlite_trees.specs.Tree.{Trees, rowid}
+use Rattle.sqlrows.proofs.Words.{all_weaker, Applies, chosen_query, col, Concludes, Database, delete_where, Deletes, deletes-map, Does, Edit}
+use Rattle.sqlrows.proofs.Words.{edit_of, Edited, edited, eval_all, Given, Holds, holds, id_in, ids_of, IsDelete, IsKeyedBy, IsKeyedBy-delete_where}
+use Rattle.sqlrows.proofs.Words.{IsPermutation-map, Layout, Leads, list_all, Listed, map-map, map_same, Null, one_step, Row, rowid, Schema, Sets}
+use Rattle.sqlrows.proofs.Words.{steady, Table, Tally, Task, Term, Trees, without_all, Written}
 use Rattle.sqlite_sql.specs.Query.{IsAnswer, Output, output}
 use Rattle.sqlite_sql.specs.Program.{overlay}
-use Rattle.sqlite_sql.specs.Term.{Term, col, eval_all, holds}
-use Rattle.sqlite_schema.specs.declared.schema.Table.{Table}
-use Rattle.sqlite_schema.specs.declared.schema.Schema.{Schema}
 use Rattle.sqlite_schema.specs.declared.schema.Keys.TheVariants.{Enforced}
-use Rattle.sqlite_rules.specs.declared.error.Rowids.TheVariants.{Given}
-use Rattle.sqlite_rules.specs.Edit.{Edit, edit_of, edited, id_in, without_all, Applies}
-use Rattle.sqlite_rules.specs.Calls.{ids_of}
 use Rattle.sqlite_rules.specs.Action.{works}
 use Rattle.sqlite_typed.proofs.AnswerLemmas.{at_end, last_table, matches_are}
-use Rattle.sqlite_typed.proofs.RowLemmas.{deletes-map}
-use Rattle.sqlite_keyed.specs.Keyed.{IsKeyedBy}
-use Rattle.sqlite_keyed.specs.Lists.{delete_where}
-use Rattle.sqlite_keyed.proofs.KeyedLemmas.{IsKeyedBy-delete_where}
-use Rattle.sqlite_keyed.proofs.ListLemmas.{map-map, map_same, all_weaker}
-use Rattle.sqlite.specs.Effect.{Database}
-use Rattle.sqlite.specs.Rows.{Written, Task, Deletes, Edited}
-use Rattle.sqlite.specs.Does.{Tally, Does, Concludes}
-use Rattle.sqlite.proofs.Callers.{one_step}
-use Rattle.sqlrows.specs.Layouts.{Layout}
-use Rattle.sqlrows.specs.inner.Layouts.{Leads, steady, Holds, Sets, Listed, chosen_query, IsDelete}
 use Rattle.sqlrows.proofs.SelectLemmas.{overlay_none}
 use Rattle.sqlrows.proofs.ListLemmas.{removes_in_order}
 

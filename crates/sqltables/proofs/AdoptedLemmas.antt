@@ -1,28 +1,14 @@
 -- What a store of rows is over a database that was read anew.
 use Rattle.std.proofs.Common.{◌≡◌, ◌&&◌, inl, Bool, true, false, [], ◌∷◌, length, map, IsTrue, refl, sym, ap, subst, ◌∙◌, true≢false}
-use Rattle.std.proofs.lemmas.Bool.{and_parts}
-use Rattle.sqlite_trees.specs.Tree.{Trees}
+use Rattle.sqltables.proofs.Words.{and_parts, Bears, catalog_tree, Content, contents, cut, Database, Fits, Form, Guards, HasCleanDisk, HoldsRows}
+use Rattle.sqltables.proofs.Words.{is_numbered, IsFormOf, IsFound, IsKnownAs, IsLeftAs, IsSeenBy, IsShapedAs, IsShown, IsSound, left_in, Made}
+use Rattle.sqltables.proofs.Words.{Making, no_schema, readiness_of, registry, rows_in, State, StateOf, store_state, Trees, undone, Unused}
 use Rattle.sqlite_schema.specs.declared.schema.Schema.{Schema}
-use Rattle.sqlite_catalog.specs.Listing.{IsSound, cut}
 use Rattle.sqlite_catalog.proofs.ReadLemmas.{reads, read_once}
-use Rattle.sqlite_trees.specs.Objects.{catalog_tree}
-use Rattle.sqlrows.specs.Columns.{no_schema}
-use Rattle.sqltables.specs.Tables.{registry}
-use Rattle.sqlite.specs.Effect.{Database}
-use Rattle.sqlite.specs.State.{State, HasCleanDisk}
-use Rattle.sqltables.specs.declared.form.Form.{Form}
-use Rattle.sqltables.specs.declared.form.Form.TheVariants.{Unused, Making, Made, Other}
+use Rattle.sqltables.specs.declared.form.Form.TheVariants.{Other}
 use Rattle.states.specs.declared.readiness.Ready.{Ready}
 use Rattle.states.specs.declared.readiness.Ready.TheVariants.{Used}
 use Rattle.states.specs.declared.readiness.Ready.TheVariants as readiness
-use Rattle.sqltables.specs.Adoption.{IsFound}
-use Rattle.sqltables.specs.inner.Adoption.{IsSeenBy, IsShapedAs, IsShown}
-use Rattle.sqltables.specs.Decoding.{contents}
-use Rattle.sqltables.specs.Readiness.{IsFormOf, IsKnownAs, is_numbered}
-use Rattle.states.specs.States.{StateOf}
-use Rattle.sqltables.specs.Content.{Content}
-use Rattle.sqltables.specs.inner.Stored.{Bears, Fits, Guards, HoldsRows, left_in, readiness_of, rows_in, store_state, undone}
-use Rattle.sqltables.specs.Stored.{IsLeftAs}
 use Rattle.sqltables.proofs.SoundLemmas.{content_of_sound}
 use Rattle.sqltables.proofs.StandingLemmas.{honest}
 

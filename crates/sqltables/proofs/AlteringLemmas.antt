@@ -1,35 +1,17 @@
 -- What a statement that writes rows makes of them, and what it leaves.
 use Rattle.std.proofs.Common.{◌≡◌, ◌&&◌, ℕ, ℤ, Bool, true, List, Option, None, Ok, Err, IsTrue, refl, sym, ap, subst, ◌∙◌, true≢false}
 use Rattle.std.specs.Prelude.{unwrap_or}
-use Rattle.std.proofs.lemmas.Bool.{and_parts}
-use Rattle.sqlite_value.specs.Order.{Row}
-use Rattle.sqlite_trees.specs.Tree.{Trees}
+use Rattle.sqltables.proofs.Words.{AgreesWithForm, Alters, and_parts, Answer, Appends, AreOthersSame, AreRight, Bears, command_of, commits_later}
+use Rattle.sqltables.proofs.Words.{CommitsBy, Content, contents, Database, Error, executed_open, Executes, Fits, Form, has_rows, HasCleanDisk}
+use Rattle.sqltables.proofs.Words.{HoldsRows, IsContent, Leads, Made, Making, mode_of, Recalls, registry, Remains, Row, rows_in, Runs, runs_as}
+use Rattle.sqltables.proofs.Words.{same_command, stands_if_not_executed, State, statement_of, stays_if_executed, StaysOrUndoes, store_state}
+use Rattle.sqltables.proofs.Words.{Survives, Trees, understood, undone, Unused, Writes, writes_tables}
 use Rattle.sqlite_schema.specs.declared.schema.Schema.{Schema}
 use Rattle.sqlite_schema.specs.declared.command.Command.{Command}
 use Rattle.sqlite_schema.specs.declared.command.Command.TheVariants.{Insert, InsertOr, Update, Delete, CreateTable, CreateIndex}
-use Rattle.sqlite.specs.declared.error.Error.{Error}
 use Rattle.sqlite.specs.Does.{Does, Tally}
-use Rattle.sqlite.specs.Effect.{Database}
-use Rattle.sqlite.specs.Listing.{understood}
-use Rattle.sqlite.specs.State.{CommitsBy, State, Executes, HasCleanDisk, Runs, Survives, mode_of}
-use Rattle.sqlite.proofs.Callers.{runs_as, statement_of}
-use Rattle.sqlrows.specs.inner.Calls.{StaysOrUndoes}
 use Rattle.sqlrows.specs.inner.Calls as calls
-use Rattle.sqlrows.specs.inner.Layouts.{Leads, command_of, writes_tables}
-use Rattle.sqlrows.proofs.SelectLemmas.{same_command}
-use Rattle.sqlrows.proofs.SoundLemmas.{executed_open}
-use Rattle.sqlrows.proofs.StandLemmas.{commits_later, stands_if_not_executed, stays_if_executed}
-use Rattle.sqltables.specs.Content.{Content}
-use Rattle.sqltables.specs.inner.Content.{IsContent}
-use Rattle.sqltables.specs.Decoding.{contents}
-use Rattle.sqltables.specs.Tables.{registry}
-use Rattle.sqltables.specs.declared.answers.Answer.{Answer}
-use Rattle.sqltables.specs.declared.form.Form.{Form}
-use Rattle.sqltables.specs.declared.form.Form.TheVariants.{Unused, Making, Made, Other}
-use Rattle.states.specs.States.{Remains, Writes}
-use Rattle.sqltables.specs.inner.Answers.{AreRight, Recalls}
-use Rattle.sqltables.specs.inner.Statements.{Alters, Appends, AreOthersSame}
-use Rattle.sqltables.specs.inner.Stored.{AgreesWithForm, Bears, Fits, HoldsRows, has_rows, rows_in, store_state, undone}
+use Rattle.sqltables.specs.declared.form.Form.TheVariants.{Other}
 use Rattle.sqltables.proofs.AskingLemmas.{holds-now, rows-are}
 use Rattle.sqltables.proofs.DecodingLemmas.{decoded}
 use Rattle.sqltables.proofs.StandingLemmas.{answered-open, clean-of, honest, leaves-no-more, leaves-same, was-honest}

@@ -1,36 +1,17 @@
 -- What is found among the answers that are kept, and what is kept.
 use Rattle.std.proofs.Common.{◌≡◌, ◌≢◌, ◌++◌, ◌==◌, ◌&&◌, Bool, true, false, not, ℕ, List, [], ◌∷◌, length, map, filter, flat_map, get_or, if◌then◌else◌, IfOk, IfSome, IsTrue, Option, Some, None, Result, inl, inr, refl, sym, ap, subst, subst₂, ◌∙◌, arith}
-use Rattle.std.specs.List.{All}
-use Rattle.std.proofs.lemmas.Bool.{and_parts, eqb-false}
 use Rattle.std.proofs.lemmas.Bool.Decides.{leb_tells}
 use Rattle.std.proofs.lemmas.List.Sums.{count_by-le-length, length-filter}
 use Rattle.std.proofs.lemmas.List.Elements.{All-filter, All-push, filter_passes}
 use Rattle.std.proofs.lemmas.Simd.{map-map}
-use Rattle.sqlite_value.specs.declared.value.Value.{Value}
-use Rattle.sqlite_value.specs.declared.value.Value.TheVariants.{Null}
+use Rattle.sqltables.proofs.Words.{All, and_parts, Answer, AreOthersSame, AreRight, Asks, BookFault, bound, bound_value, Content, end, Env}
+use Rattle.sqltables.proofs.Words.{eqb-false, Finds, Fits, Form, has_rows, HasCleanDisk, inner, IsAnswer, IsAnsweredByRows, IsContent, IsOfTable}
+use Rattle.sqltables.proofs.Words.{IsRight, lasting, lasts, matches_as, Null, overlay, overlay_none, owned, Query, Reads, Recalls, registry, Remains}
+use Rattle.sqltables.proofs.Words.{Row, Select, State, StateOf, store_state, Trees, Value}
 use Rattle.sqlite_value.specs.declared.value.ValueRef.{ValueRef}
-use Rattle.sqlite_value.specs.Value.{owned}
-use Rattle.sqlite.specs.Values.{bound, bound_value}
-use Rattle.sqlite_value.specs.Order.{Row}
-use Rattle.sqlite_trees.specs.Tree.{Trees}
-use Rattle.sqlite_sql.specs.Query.{Query, IsAnswer, inner, end, matches_as}
 use Rattle.sqlite_sql.specs.Group.{IsGrouped}
 use Rattle.sqlite_schema.specs.declared.command.Command.{Command}
-use Rattle.sqlite_schema.specs.declared.command.Command.TheVariants.{Select}
-use Rattle.sqlite_sql.specs.Term.{Env}
-use Rattle.sqlite_sql.specs.Program.{overlay}
-use Rattle.sqlrows.proofs.SelectLemmas.{overlay_none}
-use Rattle.sqlite.specs.State.{HasCleanDisk, State}
-use Rattle.sqltables.specs.inner.Answers.{AreFew, AreRight, IsAnsweredByRows, IsOf, IsPutIn, IsQueryOf, IsRight, Recalls, beside, is_short, lasting, lasts, unless_full}
-use Rattle.sqltables.specs.Content.{Content}
-use Rattle.sqltables.specs.inner.Content.{IsContent}
-use Rattle.sqltables.specs.Tables.{registry}
-use Rattle.states.specs.declared.fault.BookFault.{BookFault}
-use Rattle.sqltables.specs.declared.answers.Answer.{Answer}
-use Rattle.sqltables.specs.declared.form.Form.{Form}
-use Rattle.states.specs.States.{Finds, Reads, Remains, StateOf}
-use Rattle.sqltables.specs.inner.Statements.{AreOthersSame, Asks, IsOfTable}
-use Rattle.sqltables.specs.inner.Stored.{Fits, has_rows, store_state}
+use Rattle.sqltables.specs.inner.Answers.{AreFew, IsOf, IsPutIn, IsQueryOf, beside, is_short, unless_full}
 use Rattle.sqltables.proofs.AskingLemmas.{finds-by, holds-now, in-registry, rows-are, shows}
 use Rattle.sqltables.proofs.StandingLemmas.{clean-of, honest}
 

@@ -1,33 +1,13 @@
 -- What a query finds, and what it leaves.
 use Rattle.std.proofs.Common.{◌≡◌, ℕ, Bool, true, List, [], map, IfOk, Result, Ok, Err, IsTrue, sym, ap, subst, ◌∙◌, true≢false}
-use Rattle.std.proofs.lemmas.Bool.{and_parts}
-use Rattle.sqlite_value.specs.declared.value.Value.TheVariants.{Null}
-use Rattle.sqlite_value.specs.Order.{Row}
-use Rattle.sqlite_trees.specs.Tree.{Trees}
+use Rattle.sqltables.proofs.Words.{AgreesWithForm, and_parts, Answer, AreRight, Asks, Bears, BookFault, commits_nothing, CommitsShowing, Content}
+use Rattle.sqltables.proofs.Words.{contents, Database, Error, FailsToQuery, Finds, Fits, Form, has_rows, HasCleanDisk, HoldsRows, IsAnsweredByRows}
+use Rattle.sqltables.proofs.Words.{IsContent, IsUnchanged, Made, Making, not_queried_open, Null, queried_open, Reads, reads_as, Recalls, registry}
+use Rattle.sqltables.proofs.Words.{Remains, Row, rows_in, same_command, same_if_shown, Select, Shown, stands_if_not_shown, State, StateOf}
+use Rattle.sqltables.proofs.Words.{StaysOrUndoes, store_state, Survives, Trees, understood, Unused}
 use Rattle.sqlite_schema.specs.declared.schema.Schema.{Schema}
-use Rattle.sqlite_schema.specs.declared.command.Command.TheVariants.{Select}
-use Rattle.sqlite.specs.declared.error.Error.{Error}
-use Rattle.sqlite.specs.Effect.{Database}
 use Rattle.sqlite.specs.Given.{IsPlain}
-use Rattle.sqlite.specs.Listing.{understood}
-use Rattle.sqlite.specs.State.{CommitsShowing, State, FailsToQuery, HasCleanDisk, IsUnchanged, Shown, Survives}
-use Rattle.sqlite.proofs.Callers.{reads_as}
-use Rattle.sqlrows.specs.inner.Calls.{StaysOrUndoes}
-use Rattle.sqlrows.proofs.SelectLemmas.{same_command}
-use Rattle.sqlrows.proofs.SoundLemmas.{not_queried_open, queried_open}
-use Rattle.sqlrows.proofs.StandLemmas.{commits_nothing, same_if_shown, stands_if_not_shown}
-use Rattle.sqltables.specs.inner.Answers.{AreRight, IsAnsweredByRows, Recalls}
-use Rattle.sqltables.specs.Content.{Content}
-use Rattle.sqltables.specs.inner.Content.{IsContent}
-use Rattle.sqltables.specs.Decoding.{contents}
-use Rattle.sqltables.specs.Tables.{registry}
-use Rattle.states.specs.declared.fault.BookFault.{BookFault}
-use Rattle.sqltables.specs.declared.answers.Answer.{Answer}
-use Rattle.sqltables.specs.declared.form.Form.{Form}
-use Rattle.sqltables.specs.declared.form.Form.TheVariants.{Unused, Making, Made, Other}
-use Rattle.states.specs.States.{Finds, Reads, Remains, StateOf}
-use Rattle.sqltables.specs.inner.Statements.{Asks}
-use Rattle.sqltables.specs.inner.Stored.{AgreesWithForm, Bears, Fits, HoldsRows, has_rows, rows_in, store_state}
+use Rattle.sqltables.specs.declared.form.Form.TheVariants.{Other}
 use Rattle.sqltables.proofs.StandingLemmas.{agrees-unchanged, honest, leaves-no-more, reads-same, was-honest}
 
 -- ---- where the tables are

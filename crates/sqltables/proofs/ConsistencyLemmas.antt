@@ -1,46 +1,21 @@
 -- What the soundness of a database makes always true of its rows.
 use Rattle.std.proofs.Common.{◌≡◌, ℕ, ℤ, ◌&&◌, ◌||◌, Bool, true, false, not, List, [], ◌∷◌, Option, Some, sym, ◌∙◌, subst}
-use Rattle.std.specs.List.{AllByRecursion, list_all, list_any}
-use Rattle.std.proofs.lemmas.Bool.{and_parts}
-use Rattle.sqlite_value.specs.declared.value.Value.TheVariants.{Int}
-use Rattle.sqlite_value.specs.declared.keys.Collation.TheVariants.{Binary}
+use Rattle.sqltables.proofs.Words.{accounts, address, addresses, AddressRow, all_from_test, all_unmap, all_weaker, AllByRecursion, and_parts}
+use Rattle.sqltables.proofs.Words.{AreKeyed, AreLinked, AreNamed, at_texts, Bears, Binary, bytes_eq, column, contact, ContactRow, contacts, Content}
+use Rattle.sqltables.proofs.Words.{Database, domain, DomainRow, domains, Eq, Form, Holds, host, HostRow, hosts, Int, is_null, IsConsistent}
+use Rattle.sqltables.proofs.Words.{IsContent, IsDatabase, IsNamedBy, IsSound, last_term, Layout, LeadsTo, line, LineRow, lines, link, LinkRow, links}
+use Rattle.sqltables.proofs.Words.{list_all, list_any, Made, Making, message, MessageRow, messages, no_content, or_null, registry, Row, rows_in}
+use Rattle.sqltables.proofs.Words.{transfer, TransferRow, transfers, Trees, Unused}
 use Rattle.sqlite_value.specs.Keys.{first_key, joined, plain}
-use Rattle.sqlite_value.specs.Order.{Row, column}
-use Rattle.sqlite_trees.specs.Tree.{Trees}
-use Rattle.sqlite_sql.specs.declared.ops.CompareOp.TheVariants.{Eq}
-use Rattle.sqlite_sql.specs.Ops.{is_null}
 use Rattle.sqlite_schema.specs.declared.schema.Constraint.TheVariants.{Unique, ForeignKey}
 use Rattle.sqlite_schema.specs.declared.schema.Schema.{Schema}
 use Rattle.sqlite_schema.specs.Names.{same_name}
 use Rattle.sqlite_schema.specs.declared.schema.Reference.{Reference}
 use Rattle.sqlite_schema.specs.Rules.{agree, clashes, equal, Keeps}
 use Rattle.sqlite_schema.specs.Rules.{has_parent as refers}
-use Rattle.sqlite_catalog.specs.Listing.{IsSound}
 use Rattle.sqlite_keyed.specs.Rules.{has_parent, is_apart}
-use Rattle.sqlite_keyed.proofs.ListLemmas.{all_from_test, all_unmap, all_weaker}
-use Rattle.sqlite_typed.specs.Columns.{or_null}
-use Rattle.sqlite_typed.specs.Tests.{bytes_eq}
-use Rattle.sqlite_typed.proofs.TestLemmas.{at_texts, last_term}
 use Rattle.sqlite_tied.proofs.RuleLemmas.{clash_is, parent_is}
-use Rattle.sqlite.specs.Effect.{Database, IsDatabase}
-use Rattle.sqlrows.specs.Layouts.{Layout}
-use Rattle.sqlrows.specs.inner.Layouts.{Holds}
-use Rattle.sqltables.specs.Tables.{registry, contact, domain, host, address, link, line, message, transfer}
-use Rattle.sqltables.specs.Content.{Content, no_content}
-use Rattle.sqltables.specs.inner.Content.{IsContent}
-use Rattle.sqltables.specs.Account.{accounts}
-use Rattle.sqltables.specs.Contact.{ContactRow, contacts}
-use Rattle.sqltables.specs.Domain.{DomainRow, domains}
-use Rattle.sqltables.specs.Host.{HostRow, hosts}
-use Rattle.sqltables.specs.Address.{AddressRow, addresses}
-use Rattle.sqltables.specs.Link.{LinkRow, links}
-use Rattle.sqltables.specs.Line.{LineRow, lines}
-use Rattle.sqltables.specs.Message.{MessageRow, messages}
-use Rattle.sqltables.specs.Transfer.{TransferRow, transfers}
-use Rattle.sqltables.specs.inner.Stored.{Bears, rows_in}
-use Rattle.sqltables.specs.declared.form.Form.{Form}
-use Rattle.sqltables.specs.declared.form.Form.TheVariants.{Unused, Making, Made, Other}
-use Rattle.sqltables.specs.inner.Consistent.{AreKeyed, AreLinked, AreNamed, IsNamedBy, IsConsistent, LeadsTo}
+use Rattle.sqltables.specs.declared.form.Form.TheVariants.{Other}
 use Rattle.sqltables.proofs.RowLemmas.{leads_if_held, named_if_apart}
 
 pub keyed : (xs : Content) (db : Database) → IsContent xs db → AreKeyed xs

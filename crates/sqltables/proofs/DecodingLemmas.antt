@@ -1,26 +1,12 @@
 -- A row that is put down is read back.
 use Rattle.std.proofs.Common.{◌≡◌, ℕ, ℤ, List, [], ◌∷◌, map, Option, Some, None, refl, ap, ap₂, ◌∙◌}
-use Rattle.sqlite_value.specs.declared.value.Value.TheVariants.{Int, Text}
-use Rattle.sqlite_value.specs.Order.{Row}
-use Rattle.sqlite.specs.Effect.{Database}
-use Rattle.sqlite_typed.specs.Columns.{bytes_of, int_of, or_null, unless_null}
-use Rattle.sqlrows.specs.Layouts.{Layout}
-use Rattle.sqlrows.specs.inner.Layouts.{Holds}
-use Rattle.sqlite_trees.specs.Tree.{Trees}
-use Rattle.sqltables.specs.Content.{Content}
-use Rattle.sqltables.specs.inner.Content.{IsContent}
-use Rattle.sqltables.specs.Meta.{MetaRow, meta_row, metas}
-use Rattle.sqltables.specs.Account.{AccountRow, account_row, accounts}
-use Rattle.sqltables.specs.Contact.{ContactRow, contact_row, contacts}
-use Rattle.sqltables.specs.Domain.{DomainRow, domain_row, domains}
-use Rattle.sqltables.specs.Host.{HostRow, host_row, hosts}
-use Rattle.sqltables.specs.Address.{AddressRow, address_row, addresses}
-use Rattle.sqltables.specs.Link.{LinkRow, link_row, links}
-use Rattle.sqltables.specs.Line.{LineRow, line_row, lines}
-use Rattle.sqltables.specs.Message.{MessageRow, message_row, messages}
-use Rattle.sqltables.specs.Transfer.{TransferRow, transfer_row, transfers}
-use Rattle.sqltables.specs.Day.{DayRow, day_row, days}
-use Rattle.sqltables.specs.Decoding.{contents, meta_in, account_in, contact_in, domain_in, host_in, address_in, link_in, line_in, message_in, transfer_in, day_in}
+use Rattle.sqltables.proofs.Words.{account_row, AccountRow, accounts, address_row, addresses, AddressRow, bytes_of, contact_row, ContactRow}
+use Rattle.sqltables.proofs.Words.{contacts, Content, contents, Database, day_row, DayRow, domain_row, DomainRow, domains, Holds, host_row, HostRow}
+use Rattle.sqltables.proofs.Words.{hosts, Int, int_of, IsContent, Layout, line_row, LineRow, lines, link_row, LinkRow, links, message_row}
+use Rattle.sqltables.proofs.Words.{MessageRow, messages, meta_row, MetaRow, metas, or_null, Row, Text, transfer_row, TransferRow, transfers, Trees}
+use Rattle.sqltables.proofs.Words.{unless_null}
+use Rattle.sqltables.specs.Day.{days}
+use Rattle.sqltables.specs.Decoding.{meta_in, account_in, contact_in, domain_in, host_in, address_in, link_in, line_in, message_in, transfer_in, day_in}
 
 back-number : (o : Option ℤ) → unless_null int_of (or_null Int o) ≡ o
 back-number None = refl

@@ -1,13 +1,6 @@
 -- What falls due, as WHERE asks for it.
 use Rattle.std.proofs.Common.{◌≡◌, ◌&&◌, ◌∙◌, refl, false, true, pos, int_le, ℤ, Option, Some, None}
-use Rattle.sqlite_value.specs.declared.value.Value.TheVariants.{Int}
-use Rattle.sqlite_value.specs.declared.keys.Collation.TheVariants.{Binary}
-use Rattle.sqlite_sql.specs.declared.ops.CompareOp.TheVariants.{Ge, Le}
-use Rattle.sqlite_sql.specs.declared.ops.BinaryOp.TheVariants.{Compare}
-use Rattle.sqlite_sql.specs.Ops.{binary}
-use Rattle.sqlite_typed.specs.Columns.{or_null}
-use Rattle.sqlite_typed.specs.Tests.{if_both}
-use Rattle.sqlite_typed.proofs.TestLemmas.{at_ints, at_nullable, then_term, last_term, truth_or}
+use Rattle.sqltables.proofs.Words.{at_ints, at_nullable, Binary, binary, Compare, Ge, if_both, Int, last_term, Le, or_null, then_term, truth_or}
 use Rattle.sqltables.specs.inner.Due.{falls_due, lies_within}
 
 within : (first last : ℤ) (v : Option ℤ) → (if_both false (λ a b. int_le b a) v (Some first) && if_both false int_le v (Some last)) ≡ lies_within first last v

@@ -1,12 +1,10 @@
 -- What the texts of the schema before this one make of a database that was never used.
 use Rattle.std.proofs.Common.{refl, [], ◌∷◌, codes}
+use Rattle.sqltables.proofs.Words.{DefinesAll, filled, first_creation, first_line, first_line_create, first_registry, no_schema, nullable, with_link}
 use Rattle.sqlite.specs.Kind.TheVariants.{Integer}
 use Rattle.sqlite.specs.Listing.{understood}
 use Rattle.sqlite_tied.specs.Compute.{everything}
-use Rattle.sqlrows.specs.Columns.{filled, no_schema, nullable}
-use Rattle.sqlrows.specs.inner.Definitions.{IsTable, DefinesAll}
-use Rattle.sqltables.specs.Tables.{with_link}
-use Rattle.sqltables.specs.inner.FirstTables.{first_registry, first_creation, first_line, first_line_create}
+use Rattle.sqlrows.specs.inner.Definitions.{IsTable}
 use Rattle.sqltables.proofs.SchemaLemmas.{all_defines}
 
 first_line_is : IsTable with_link first_line_create first_line

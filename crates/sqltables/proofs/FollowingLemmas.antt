@@ -1,7 +1,6 @@
 -- One call on a store of rows after another.
 use Rattle.std.proofs.Common.{Result, Ok, Err, ap, ◌∙◌}
-use Rattle.states.specs.declared.fault.BookFault.{BookFault}
-use Rattle.states.specs.States.{Finds, Reads, StateOf}
+use Rattle.sqltables.proofs.Words.{BookFault, Finds, Reads, StateOf}
 use Rattle.states.proofs.LeavingLemmas.{leaves-on}
 
 -- a question behind a look

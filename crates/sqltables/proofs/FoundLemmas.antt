@@ -1,28 +1,19 @@
 -- A database that was found in files lies in order, whatever they held.
 use Rattle.std.proofs.Common.{◌≡◌, List, [], inl, inr, sym, ap, subst}
 use Rattle.std.proofs.Math.Logic.{∥∥₁_elim}
-use Rattle.std.specs.List.{AllByRecursion}
-use Rattle.sqlite_value.specs.Order.{Row}
+use Rattle.sqltables.proofs.Words.{AllByRecursion, catalog_tree, Database, HasCleanDisk, IsDatabase, IsFound, IsInOrder, IsListed, IsLive, IsOrdered}
+use Rattle.sqltables.proofs.Words.{IsShaped, IsSound, no_schema, Opens, Row, State, Table, Trees}
 use Rattle.sqlite_wal.specs.Recovery.{Image}
 use Rattle.sqlite_pool.specs.File.{in_use, version_in}
 use Rattle.sqlite_trees.specs.declared.store.Shape.TheVariants as shape
-use Rattle.sqlite_trees.specs.Objects.{catalog_tree, IsListed}
 use Rattle.sqlite_trees.specs.Props.{IsOrdered-prop}
-use Rattle.sqlite_trees.specs.Tree.{Trees}
-use Rattle.sqlite_trees.specs.View.{IsOrdered, IsShaped}
 use Rattle.sqlite_store.specs.Listing.{all_reals, all_shapes, file_trees}
 use Rattle.sqlite_store.specs.Listed.{catalog_rows, is_listed}
 use Rattle.sqlite_store.proofs.ListingLemmas.{all_ordered}
 use Rattle.sqlite_schema.specs.declared.schema.Schema.{Schema}
-use Rattle.sqlite_schema.specs.declared.schema.Table.{Table}
-use Rattle.sqlite_catalog.specs.Listing.{IsSound}
-use Rattle.sqlite.specs.Effect.{Database, IsDatabase}
 use Rattle.sqlite.specs.Files.{AreFoundIn}
 use Rattle.sqlite.specs.Start.{FindsIn}
-use Rattle.sqlite.specs.State.{State, HasCleanDisk, IsLive, Opens}
 use Rattle.sqlite.proofs.ListingLemmas.{empty_is_sound}
-use Rattle.sqlrows.specs.Columns.{no_schema}
-use Rattle.sqltables.specs.Adoption.{IsFound, IsInOrder}
 use Rattle.sqltables.proofs.AdoptedLemmas.{schema_once}
 use Rattle.sqltables.proofs.AdoptionLemmas.{lies_in_order}
 

@@ -1,27 +1,11 @@
 -- A row that alone answers a question.
 use Rattle.std.proofs.Common.{◌≡◌, Bool, true, false, ℕ, ℤ, List, [], ◌∷◌, map, filter, refl, sym, ap, subst, ◌∙◌, arith}
-use Rattle.std.specs.List.{list_all}
 use Rattle.std.proofs.lemmas.List.Sorted.{IsPermutation-refl}
-use Rattle.sqlite_value.specs.declared.value.Value.TheVariants.{Int, Null}
-use Rattle.sqlite_value.specs.Order.{Row}
-use Rattle.sqlite_trees.specs.Tree.{Trees}
-use Rattle.sqlite_sql.specs.Query.{IsAnswer, Output, inner, end, matches_as, output}
-use Rattle.sqlite_sql.specs.Program.{overlay}
-use Rattle.sqlite_sql.specs.Term.{Env, Term, eval_all, holds}
-use Rattle.sqlite_sql.specs.declared.ops.CompareOp.TheVariants.{Eq}
+use Rattle.sqltables.proofs.Words.{account_by_id, account_shown, account_with_id, AccountRow, accounts, all_of, at_ints, Content, end, Env, Eq}
+use Rattle.sqltables.proofs.Words.{eval_all, filter_all, Holds, holds, inner, Int, IsAnswer, IsAnsweredByRows, IsContent, IsSelect, last_term}
+use Rattle.sqltables.proofs.Words.{Layout, list_all, matches_as, meta_all, meta_shown, MetaRow, metas, Null, Output, output, overlay, overlay_none}
+use Rattle.sqltables.proofs.Words.{registry, Row, select_query, Term, Trees}
 use Rattle.sqlite_typed.proofs.AnswerLemmas.{at_end, last_table, matches_are}
-use Rattle.sqlite_typed.proofs.TestLemmas.{at_ints, last_term}
-use Rattle.sqlite_keyed.proofs.ListLemmas.{all_of, filter_all}
-use Rattle.sqlrows.specs.Layouts.{Layout}
-use Rattle.sqlrows.specs.inner.Layouts.{Holds, IsSelect, select_query}
-use Rattle.sqlrows.proofs.SelectLemmas.{overlay_none}
-use Rattle.sqltables.specs.Account.{AccountRow, account_shown, account_with_id, accounts}
-use Rattle.sqltables.specs.Meta.{MetaRow, meta_shown, metas}
-use Rattle.sqltables.specs.Content.{Content}
-use Rattle.sqltables.specs.Tables.{registry}
-use Rattle.sqltables.specs.inner.Answers.{IsAnsweredByRows}
-use Rattle.sqltables.specs.inner.Content.{IsContent}
-use Rattle.sqltables.specs.inner.Tables.{account_by_id, meta_all}
 use Rattle.sqltables.proofs.AnswerLemmas.{asked-by}
 use Rattle.sqltables.proofs.QueryLemmas.{select_account, select_metas}
 use Rattle.sqltables.proofs.StatementLemmas.{all_columns, equals}

@@ -23,3 +23,4 @@ pub mod AdoptedLemmas
 pub mod FoundLemmas
 pub mod FollowingLemmas
 pub mod ReopeningLemmas
+pub mod Words

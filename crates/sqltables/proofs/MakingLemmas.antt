@@ -1,16 +1,9 @@
 -- What making the tables leaves of a store of rows.
 use Rattle.std.proofs.Common.{◌≡◌, ◌⊎◌, ◌&&◌, inl, inr, Bool, true, false, List, IsTrue, refl, sym, ap, subst, ◌∙◌, true≢false}
-use Rattle.std.proofs.lemmas.Bool.{and_parts}
-use Rattle.sqlite_trees.specs.Tree.{Trees}
-use Rattle.sqlite.specs.Effect.{Database}
-use Rattle.sqlite.specs.State.{State, HasCleanDisk, IsRolledBack, Survives}
+use Rattle.sqltables.proofs.Words.{AgreesWithForm, and_parts, Content, Database, Fits, Guards, HasCleanDisk, IsContent, IsUndone, Making, no_content}
+use Rattle.sqltables.proofs.Words.{Remains, State, Stays, store_state, Survives, Trees, Unused, Writes}
+use Rattle.sqlite.specs.State.{IsRolledBack}
 use Rattle.sqlrows.specs.inner.Calls as calls
-use Rattle.sqlrows.specs.inner.Definitions.{IsUndone}
-use Rattle.sqltables.specs.Content.{Content, no_content}
-use Rattle.sqltables.specs.inner.Content.{IsContent}
-use Rattle.sqltables.specs.declared.form.Form.TheVariants.{Unused, Making}
-use Rattle.states.specs.States.{Remains, Stays, Writes}
-use Rattle.sqltables.specs.inner.Stored.{AgreesWithForm, Fits, Guards, store_state}
 use Rattle.sqltables.proofs.DecodingLemmas.{decoded}
 use Rattle.sqltables.proofs.StandingLemmas.{answered-open, clean-of, guards-on, honest, leaves-same, was-honest}
 

@@ -1,20 +1,10 @@
 -- What putting an account's row, or that of `meta`, makes of the rows.
 use Rattle.std.proofs.Common.{◌≡◌, ◌⊎◌, inl, inr, ℤ, ◌<ℤ◌, ◌==◌, Bool, true, false, not, cond, length, List, [], ◌∷◌, filter, Option, refl, sym, ap, ◌∙◌, subst, arith, Ordering, Less, Equal, Greater, Result, Ok, Err, int_cmp, int_eq, true≢false}
-use Rattle.std.specs.List.{AllByRecursion}
 use Rattle.std.specs.Ordering.{is_eq, match_ordering}
-use Rattle.std.proofs.lemmas.Int.{ints}
-use Rattle.sqlite_keyed.specs.Keyed.{IsKeyedBy, insert_by}
-use Rattle.sqlite_keyed.specs.Lists.{update_where}
-use Rattle.sqlite_keyed.proofs.KeyedLemmas.{IsKeyedBy-insert_by, same_int}
-use Rattle.sqlite_rules.specs.Lists.{Has}
+use Rattle.sqltables.proofs.Words.{account_with_id, AccountRow, accounts, accounts_to, AllByRecursion, BookFault, Content, Has, insert_by, ints}
+use Rattle.sqltables.proofs.Words.{IsConsistent, IsKeyedBy, IsKeyedBy-insert_by, IsNamedBy, LeadsTo, Makes, meta_with_id, MetaRow, metas, metas_to}
+use Rattle.sqltables.proofs.Words.{same_int, StateOf, update_where}
 use Rattle.sqlrows.proofs.ReplaceLemmas.{replaced-is-put}
-use Rattle.states.specs.States.{Makes, StateOf}
-use Rattle.states.specs.declared.fault.BookFault.{BookFault}
-use Rattle.sqltables.specs.Account.{AccountRow, accounts, account_with_id}
-use Rattle.sqltables.specs.Meta.{MetaRow, meta_with_id, metas}
-use Rattle.sqltables.specs.Content.{Content}
-use Rattle.sqltables.specs.inner.Content.{accounts_to, metas_to}
-use Rattle.sqltables.specs.inner.Consistent.{IsNamedBy, IsConsistent, LeadsTo}
 use Rattle.sqltables.proofs.RowLemmas.{all_at, same_by_key}
 
 -- ---- a row put in its place

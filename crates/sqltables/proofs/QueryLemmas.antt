@@ -1,31 +1,22 @@
 -- What the queries of each table mean.
 use Rattle.std.proofs.Common.{◌≡◌, take, drop, Equal, refl, List, [], ◌∷◌, ℕ, ℤ, pos, filter, codes, false}
 use Rattle.std.specs.Ordering.{ordering_then}
-use Rattle.sqlite_value.specs.declared.value.Value.TheVariants.{Int, Text}
-use Rattle.sqlite_value.specs.Order.{value_cmp}
-use Rattle.sqlite_value.proofs.OrderLemmas.{value_cmp-Int, value_cmp-Text}
-use Rattle.sqlite_sql.specs.declared.ops.CompareOp.TheVariants.{Eq, Ge, Gt, Le}
-use Rattle.sqlite_sql.specs.Term.{col}
-use Rattle.sqlite_typed.specs.Columns.{or_null}
-use Rattle.sqlite_typed.proofs.TestLemmas.{at_ints, at_points_to, at_texts, then_term, last_term, then_key, last_key}
+use Rattle.sqltables.proofs.Words.{account_by_id, account_shown, account_with_id, accounts, address_shown, address_with_host, addresses, Asks}
+use Rattle.sqltables.proofs.Words.{at_ints, at_points_to, at_texts, by_then_key, col, contact_shown, contact_with_id, ContactRow, contacts}
+use Rattle.sqltables.proofs.Words.{day_shown, domain_shown, domain_with_id, DomainRow, domains, Eq, Ge, Gt, host_shown, host_with_above}
+use Rattle.sqltables.proofs.Words.{host_with_id, host_with_name, hosts, Int, is_same_message, IsSelect, last_key, last_term, Le, line_of_object}
+use Rattle.sqltables.proofs.Words.{line_shown, line_with_account, lines, link_shown, link_with_domain, links, message_order, message_shown}
+use Rattle.sqltables.proofs.Words.{MessageRow, messages, meta_all, meta_shown, metas, or_null, queue_of, registry, select_query, Text, then_key}
+use Rattle.sqltables.proofs.Words.{then_term, transfer_shown, transfer_with_contact, transfer_with_domain, transfers, value_cmp, value_cmp-Int}
+use Rattle.sqltables.proofs.Words.{value_cmp-maybe_int, value_cmp-Text}
 use Rattle.sqlite.specs.Listing.{understood}
 use Rattle.sqlite_tied.specs.Compute.{everything}
-use Rattle.sqlrows.specs.inner.Layouts.{IsSelect, by_then_key, select_query}
-use Rattle.sqlrows.proofs.SelectLemmas.{value_cmp-maybe_int}
-use Rattle.sqltables.specs.inner.Tables.{meta_all, account_all, account_by_id, contact_by_id, contact_by_name, contact_until_due, contact_first_until_due, contact_by_sponsor_until_due, domain_all, domain_first, domain_after, domain_by_id, domain_by_name, domain_first_by_registrant, domain_until_due, domain_first_until_due, domain_by_sponsor_until_due, domain_by_registrant_until_due, domain_by_roid, host_all, host_by_id, host_by_name, host_by_above, address_by_host, link_by_domain, link_by_domains, link_first_by_contact, link_first_by_host, link_by_contact_until_due, link_by_host_until_due, line_by_account, line_by_object, message_first_by_account, message_same, transfer_by_contact, transfer_by_domain, transfer_by_domains, transfer_pending_by_requester, transfer_pending_by_losing, days_all}
-use Rattle.sqltables.specs.Tables.{registry}
-use Rattle.sqltables.specs.Meta.{meta_shown, metas}
-use Rattle.sqltables.specs.Account.{account_shown, accounts, account_with_id}
-use Rattle.sqltables.specs.Contact.{ContactRow, contact_shown, contacts, contact_with_id, contact_with_name, contact_within_due, contact_of_sponsor_within, by_due as contact_by_due, contacts_by_due}
-use Rattle.sqltables.specs.Domain.{DomainRow, domain_with_name, domain_shown, domains, domain_after_id, domain_with_id, domain_with_registrant, domain_within_due, by_due as domain_by_due, domains_by_due, domain_of_sponsor_within, domain_of_registrant_within, domain_with_roid}
-use Rattle.sqltables.specs.Host.{host_shown, hosts, host_with_id, host_with_name, host_with_above}
-use Rattle.sqltables.specs.Address.{address_shown, addresses, address_with_host}
-use Rattle.sqltables.specs.Link.{link_shown, links, link_with_domain, link_of_domains, link_with_contact, link_with_host, link_of_contact_within, link_of_host_within}
-use Rattle.sqltables.specs.Line.{line_shown, lines, line_with_account, line_of_object}
-use Rattle.sqltables.specs.Message.{MessageRow, message_shown, messages, is_same_message, message_order, queue_of}
-use Rattle.sqltables.specs.Transfer.{transfer_shown, transfers, transfer_with_contact, transfer_with_domain, transfer_of_domains, transfer_pending_by, transfer_pending_from}
-use Rattle.sqltables.specs.Day.{day_shown, days}
-use Rattle.sqltables.specs.inner.Statements.{Asks}
+use Rattle.sqltables.specs.inner.Tables.{account_all, contact_by_id, contact_by_name, contact_until_due, contact_first_until_due, contact_by_sponsor_until_due, domain_all, domain_first, domain_after, domain_by_id, domain_by_name, domain_first_by_registrant, domain_until_due, domain_first_until_due, domain_by_sponsor_until_due, domain_by_registrant_until_due, domain_by_roid, host_all, host_by_id, host_by_name, host_by_above, address_by_host, link_by_domain, link_by_domains, link_first_by_contact, link_first_by_host, link_by_contact_until_due, link_by_host_until_due, line_by_account, line_by_object, message_first_by_account, message_same, transfer_by_contact, transfer_by_domain, transfer_by_domains, transfer_pending_by_requester, transfer_pending_by_losing, days_all}
+use Rattle.sqltables.specs.Contact.{contact_with_name, contact_within_due, contact_of_sponsor_within, by_due as contact_by_due, contacts_by_due}
+use Rattle.sqltables.specs.Domain.{domain_with_name, domain_after_id, domain_with_registrant, domain_within_due, by_due as domain_by_due, domains_by_due, domain_of_sponsor_within, domain_of_registrant_within, domain_with_roid}
+use Rattle.sqltables.specs.Link.{link_of_domains, link_with_contact, link_with_host, link_of_contact_within, link_of_host_within}
+use Rattle.sqltables.specs.Transfer.{transfer_of_domains, transfer_pending_by, transfer_pending_from}
+use Rattle.sqltables.specs.Day.{days}
 use Rattle.sqltables.proofs.DueLemmas.{at_within, at_ever}
 use Rattle.sqltables.proofs.StatementLemmas.{all_columns, asks_all, asks_where, asks_first, asks_first_of_all, asks_sorted, asks_first_sorted, after, at_least, at_most, equals, from_zero, given, one}
 use Rattle.sqltables.proofs.TableLemmas.{meta_part, account_part, contact_part, domain_part, host_part, address_part, link_part, line_part, message_part, transfer_part, day_part}

@@ -1,16 +1,10 @@
 -- What is opened where a crash left it is what might have been left.
 use Rattle.std.proofs.Common.{◌≡◌, true, List, refl, sym, ap, ◌∙◌, true≢false}
-use Rattle.sqlite_trees.specs.Tree.{Trees}
-use Rattle.sqlrows.specs.Columns.{no_schema}
+use Rattle.sqltables.proofs.Words.{Content, Covers, is_numbered, IsAdopted, IsKnownAs, IsLeftAs, IsTakenAs, no_schema, registry, Remains, StateOf}
+use Rattle.sqltables.proofs.Words.{Trees}
 use Rattle.states.specs.declared.readiness.Ready.{Ready}
 use Rattle.states.specs.declared.readiness.Ready.TheVariants.{Empty, Used, Other}
-use Rattle.states.specs.States.{Remains, StateOf}
-use Rattle.sqltables.specs.Adoption.{IsAdopted, IsTakenAs}
-use Rattle.sqltables.specs.Content.{Content}
-use Rattle.sqltables.specs.Readiness.{IsKnownAs, is_numbered}
 use Rattle.sqltables.specs.inner.Reopening.{IsContentFoundAgain, AreRowsReopened}
-use Rattle.sqltables.specs.Stored.{Covers, IsLeftAs}
-use Rattle.sqltables.specs.Tables.{registry}
 use Rattle.sqltables.proofs.AdoptedLemmas.{schema_once, some-tables}
 
 again : (was now : Ready) (db : Trees) (left x : Content) → IsLeftAs was db left → IsTakenAs now db x → IsKnownAs now db → IsContentFoundAgain was left now x

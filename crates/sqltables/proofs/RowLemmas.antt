@@ -1,16 +1,8 @@
 -- A row among others: by its number, by its name, by a number that leads to it.
 use Rattle.std.proofs.Common.{◌≡◌, inl, inr, ℕ, ℤ, ◌<ℤ◌, Bool, true, false, not, ◌&&◌, List, [], ◌∷◌, cond, find, Option, Some, is_some, refl, sym, ap, ◌∙◌, subst, arith, int_eq, is_eq, true≢false}
-use Rattle.std.specs.List.{AllByRecursion}
-use Rattle.std.proofs.lemmas.Int.{ints}
-use Rattle.std.proofs.lemmas.Bool.{not-true}
 use Rattle.std.proofs.lemmas.Cmp.{nat_list_cmp_total, tied_itself}
-use Rattle.sqlite_keyed.specs.Keyed.{IsKeyedBy}
+use Rattle.sqltables.proofs.Words.{AllByRecursion, bytes_eq, Has, ints, IsKeyedBy, IsNamedBy, LeadsTo, none_from_any, not-true, same_int}
 use Rattle.sqlite_keyed.specs.Rules.{has_parent, is_apart}
-use Rattle.sqlite_keyed.proofs.KeyedLemmas.{same_int}
-use Rattle.sqlite_keyed.proofs.ListLemmas.{none_from_any}
-use Rattle.sqlite_rules.specs.Lists.{Has}
-use Rattle.sqlite_typed.specs.Tests.{bytes_eq}
-use Rattle.sqltables.specs.inner.Consistent.{IsNamedBy, LeadsTo}
 
 pub all_at : {X : Type 0} (P : X → Type 0) (xs : List X) (x : X) → AllByRecursion P xs → Has xs x → P x
 all_at P [] x each h = absurd h

@@ -1,21 +1,18 @@
 -- What the texts make of a database that was never used, and what its tables hold then.
 use Rattle.std.proofs.Common.{◌++◌, ℕ, List, codes, map, refl, inl, inr, [], ◌∷◌, Result, Ok, Err, OnOk}
 use Rattle.std.specs.Bool.{⊤}
-use Rattle.sqlite.specs.declared.error.Error.{Error}
+use Rattle.sqltables.proofs.Words.{account, address, contact, Database, DefinesAll, domain, Error, filled, host, IsBlank, IsContent, IsIndex, line}
+use Rattle.sqltables.proofs.Words.{link, message, meta, no_content, no_schema, nullable, registry, transfer, with_link}
 use Rattle.sqlite.specs.Listing.{understood}
 use Rattle.sqlite_tied.specs.Compute.{everything}
-use Rattle.sqlrows.specs.Columns.{filled, no_schema, nullable}
 use Rattle.sqlite.specs.Kind.TheVariants.{Integer}
 use Rattle.sqlite.specs.Schema.{Schema}
 use Rattle.sqlite_schema.specs.declared.schema.Column.{Column}
 use Rattle.sqlite_catalog.specs.Change.{created, indexed}
-use Rattle.sqlrows.specs.inner.Definitions.{IsTable, IsIndex, DefinesAll, IsBlank}
-use Rattle.sqlite.specs.Effect.{Database}
-use Rattle.sqltables.specs.Tables.{registry, meta, account, contact, domain, host, address, link, line, message, transfer, days, with_meta, with_account, with_contact, with_domain, with_host, with_address, with_link, with_transfer_losing}
+use Rattle.sqlrows.specs.inner.Definitions.{IsTable}
+use Rattle.sqltables.specs.Tables.{days, with_meta, with_account, with_contact, with_domain, with_host, with_address, with_transfer_losing}
 use Rattle.sqltables.specs.inner.Tables.{creation, meta_create, account_create, contact_create, domain_create, host_create, address_create, link_create, line_create, message_create, transfer_create, days_create}
 use Rattle.sqltables.specs.inner.FirstTables.{Indexing, indexed_by, indexings, line_with, with_transfer_behind}
-use Rattle.sqltables.specs.inner.Content.{IsContent}
-use Rattle.sqltables.specs.Content.{no_content}
 
 -- ---- what is made behind the lines
 

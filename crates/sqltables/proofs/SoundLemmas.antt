@@ -1,48 +1,23 @@
 -- A sound database that lies in order holds the rows that it decodes to.
 use Rattle.std.proofs.Common.{◌≡◌, ℕ, zero, suc, ◌+◌, ◌<◌, ℤ, ◌<ℤ◌, ◌&&◌, ◌||◌, Bool, true, false, not, if◌then◌else◌, List, [], ◌∷◌, map, drop, Some, Less, IsTrue, refl, sym, ap, ap₂, subst, subst₂, ◌∙◌, arith, ◌==◌, true≢false}
-use Rattle.std.specs.List.{AllByRecursion, list_all}
-use Rattle.std.proofs.lemmas.Bool.{and_parts}
 use Rattle.std.proofs.lemmas.Bool.Decides.{nat_tests}
 use Rattle.std.proofs.lemmas.List.{drop-drop}
-use Rattle.sqlite_value.specs.declared.value.Value.{Value}
-use Rattle.sqlite_value.specs.declared.value.Value.TheVariants.{Null, Int, Real, Text, Blob}
-use Rattle.sqlite_value.specs.Order.{Row, column, value_cmp}
-use Rattle.sqlite_value.proofs.OrderLemmas.{value_cmp-Int}
+use Rattle.sqltables.proofs.Words.{account, accounts, address, addresses, all_both, all_map, AllByRecursion, and_parts, Blob, bytes_of, column}
+use Rattle.sqltables.proofs.Words.{contact, contacts, contents, Database, domain, domains, Holds, host, hosts, id_column, Int, int_of, is_int}
+use Rattle.sqltables.proofs.Words.{is_null, IsContent, IsDatabase, IsInOrder, IsKeyedBy, IsShaped, IsSound, Layout, line, lines, link, links}
+use Rattle.sqltables.proofs.Words.{list_all, lt_from_Less, message, messages, meta, metas, Null, or_null, Real, registry, Row, rowid, Table, Text}
+use Rattle.sqltables.proofs.Words.{transfer, transfers, Trees, unless_null, Value, value_cmp, value_cmp-Int}
 use Rattle.sqlite_trees.specs.declared.store.Shape.TheVariants as shape
-use Rattle.sqlite_trees.specs.Tree.{Trees, rowid, IsTable}
-use Rattle.sqlite_trees.specs.View.{IsShaped, is_int}
-use Rattle.sqlite_sql.specs.Ops.{is_null}
+use Rattle.sqlite_trees.specs.Tree.{IsTable}
 use Rattle.sqlite_schema.specs.declared.schema.Column.{Column}
 use Rattle.sqlite_schema.specs.declared.schema.Constraint.TheVariants.{Datatype, NotNull}
 use Rattle.sqlite_schema.specs.declared.schema.Kind.{Kind}
 use Rattle.sqlite_schema.specs.declared.schema.Kind.TheVariants as kind
 use Rattle.sqlite_schema.specs.declared.schema.Schema.{Schema}
-use Rattle.sqlite_schema.specs.declared.schema.Table.{Table}
 use Rattle.sqlite_schema.specs.Rules.{are_present, are_typed, is_of}
-use Rattle.sqlite_catalog.specs.Listing.{IsSound}
-use Rattle.sqlite_keyed.specs.Keyed.{IsKeyedBy}
-use Rattle.sqlite_keyed.proofs.KeyedLemmas.{lt_from_Less}
-use Rattle.sqlite_keyed.proofs.ListLemmas.{all_both, all_map}
-use Rattle.sqlite_typed.specs.Columns.{bytes_of, int_of, or_null, unless_null}
-use Rattle.sqlite.specs.Effect.{Database, IsDatabase}
-use Rattle.sqlrows.specs.Columns.{id_column}
-use Rattle.sqlrows.specs.Layouts.{Layout}
-use Rattle.sqlrows.specs.inner.Layouts.{Holds}
-use Rattle.sqltables.specs.Tables.{registry, meta, account, contact, domain, host, address, link, line, message, transfer, days}
-use Rattle.sqltables.specs.Meta.{metas}
-use Rattle.sqltables.specs.Account.{accounts}
-use Rattle.sqltables.specs.Contact.{contacts}
-use Rattle.sqltables.specs.Domain.{domains}
-use Rattle.sqltables.specs.Host.{hosts}
-use Rattle.sqltables.specs.Address.{addresses}
-use Rattle.sqltables.specs.Link.{links}
-use Rattle.sqltables.specs.Line.{lines}
-use Rattle.sqltables.specs.Message.{messages}
-use Rattle.sqltables.specs.Transfer.{transfers}
+use Rattle.sqltables.specs.Tables.{days}
 use Rattle.sqltables.specs.Day as day_table
-use Rattle.sqltables.specs.inner.Content.{IsContent}
-use Rattle.sqltables.specs.Decoding.{contents, meta_in, account_in, contact_in, domain_in, host_in, address_in, link_in, line_in, message_in, transfer_in, day_in}
-use Rattle.sqltables.specs.Adoption.{IsInOrder}
+use Rattle.sqltables.specs.Decoding.{meta_in, account_in, contact_in, domain_in, host_in, address_in, link_in, line_in, message_in, transfer_in, day_in}
 
 -- ---- a value
 

@@ -1,22 +1,11 @@
 -- What a statement leaves of a store of rows.
 use Rattle.std.proofs.Common.{◌≡◌, ◌&&◌, inl, inr, not, ℕ, Bool, true, false, List, [], IfOk, IfErr, Result, Ok, Err, IsTrue, refl, sym, ap, subst, subst₂, ◌∙◌, if◌then◌else◌, arith, true≢false}
-use Rattle.std.proofs.lemmas.Bool.{and_parts}
-use Rattle.sqlite_trees.specs.Tree.{Trees}
+use Rattle.sqltables.proofs.Words.{AgreesWithForm, and_parts, Answer, AreRight, Bears, Content, Database, Error, Fits, Form, Guards, HasCleanDisk}
+use Rattle.sqltables.proofs.Words.{IsNotRun, IsUnchanged, LeavesSame, Made, Making, not_run, readiness_of, Reads, Recalls, Remains, Row, rows_in}
+use Rattle.sqltables.proofs.Words.{State, Stays, StaysOrUndoes, store_state, Survives, Trees, undone, Unused, was_open}
 use Rattle.sqlite_trees.specs.View.{doubt}
-use Rattle.sqlite.specs.Effect.{Database}
-use Rattle.sqlite_value.specs.Order.{Row}
-use Rattle.sqlite.specs.declared.error.Error.{Error}
-use Rattle.sqlite.specs.State.{State, HasCleanDisk, IsNotRun, IsUnchanged, IsRolledBack, Survives}
-use Rattle.sqlrows.specs.inner.Calls.{StaysOrUndoes}
-use Rattle.sqlrows.proofs.SoundLemmas.{was_open}
-use Rattle.sqlrows.proofs.StandLemmas.{not_run}
-use Rattle.sqltables.specs.declared.form.Form.{Form}
-use Rattle.sqltables.specs.declared.form.Form.TheVariants.{Unused, Making, Made, Other}
-use Rattle.states.specs.States.{LeavesSame, Reads, Remains, Stays}
-use Rattle.sqltables.specs.Content.{Content}
-use Rattle.sqltables.specs.declared.answers.Answer.{Answer}
-use Rattle.sqltables.specs.inner.Answers.{AreRight, Recalls}
-use Rattle.sqltables.specs.inner.Stored.{AgreesWithForm, Bears, Fits, Guards, readiness_of, rows_in, store_state, undone}
+use Rattle.sqlite.specs.State.{IsRolledBack}
+use Rattle.sqltables.specs.declared.form.Form.TheVariants.{Other}
 
 -- ---- clean and open
 

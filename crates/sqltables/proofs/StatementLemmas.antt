@@ -1,24 +1,14 @@
 -- The statements that there are on several tables, on one of them.
 use Rattle.std.proofs.Common.{◌≡◌, ◌+◌, ℕ, ℤ, pos, zero, suc, Bool, true, Option, Some, List, [], ◌∷◌, map, filter, take, drop, ◌∙◌, refl, ap, Ordering}
-use Rattle.std.specs.List.{list_all, take-map}
-use Rattle.sqlite_value.specs.declared.value.Value.TheVariants.{Null, Int}
-use Rattle.sqlite_value.specs.declared.keys.Collation.TheVariants.{Binary}
-use Rattle.sqlite_value.specs.Order.{Row}
-use Rattle.sqlite_sql.specs.declared.ops.CompareOp.TheVariants.{Eq, Ge, Gt, Le}
-use Rattle.sqlite_sql.specs.declared.ops.BinaryOp.TheVariants.{Compare}
-use Rattle.sqlite_sql.specs.Query.{Query, as_count, limited, output, output_cmp}
-use Rattle.sqlite_sql.specs.Term.{Term, lit, col, op2, eval, eval_all, holds}
-use Rattle.sqlite_keyed.specs.Keyed.{insert_by, next_key}
-use Rattle.sqlite_keyed.specs.Lists.{delete_where, sort_by, update_where}
-use Rattle.sqlite_keyed.proofs.ListLemmas.{filter_all, all_of}
-use Rattle.sqlrows.specs.inner.Layouts.{writes_tables, Gives, Numbers, IsSelect, IsPut, IsAppend, IsDelete, IsUpdate, Renews, select_query, limited_query, no_limit, sorted_query, by_then_key, appended}
-use Rattle.sqlrows.proofs.SelectLemmas.{selects, limits, sorts}
+use Rattle.sqltables.proofs.Words.{all_of, Alters, appended, Appends, as_count, Asks, Binary, by_then_key, col, Compare, delete_where, Eq, eval}
+use Rattle.sqltables.proofs.Words.{eval_all, filter_all, Ge, Gt, holds, insert_by, Int, IsSelect, IsUpdate, Le, limited, limits, list_all, lit}
+use Rattle.sqltables.proofs.Words.{next_key, Null, op2, output, output_cmp, Query, registry, Row, select_query, selects, sort_by, sorts, take-map}
+use Rattle.sqltables.proofs.Words.{Term, update_where, writes_tables}
+use Rattle.sqlrows.specs.inner.Layouts.{Gives, Numbers, IsPut, IsAppend, IsDelete, Renews, limited_query, no_limit, sorted_query}
 use Rattle.sqlrows.proofs.PutLemmas.{puts}
 use Rattle.sqlrows.proofs.AppendLemmas.{appends, appends_last}
 use Rattle.sqlrows.proofs.UpdateLemmas.{updates}
 use Rattle.sqlrows.proofs.WriteLemmas.{deletes}
-use Rattle.sqltables.specs.Tables.{registry}
-use Rattle.sqltables.specs.inner.Statements.{Alters, Appends, Asks}
 use Rattle.sqltables.proofs.TableLemmas.{Part, alters, asks}
 
 -- ---- terms

@@ -1,39 +1,18 @@
 -- Statements on one of the eleven tables, as statements on all of them.
 use Rattle.std.proofs.Common.{◌≡◌, ◌≢◌, ◌==◌, ◌||◌, Bool, true, false, ℕ, ℤ, List, [], ◌∷◌, map, Option, Some, slice_get, ◌∙◌, refl, ap, ap₂, subst, sym, true≢false}
-use Rattle.std.proofs.lemmas.Bool.{eqb-true, eq-eqb}
-use Rattle.std.specs.List.{AllByRecursion, list_any}
-use Rattle.sqlite_schema.specs.declared.schema.Table.{Table}
-use Rattle.sqlite_value.specs.declared.value.Value.{Value}
-use Rattle.sqlite_value.specs.Order.{Row}
-use Rattle.sqlite.specs.Values.{bound_value}
-use Rattle.sqlite_trees.specs.Tree.{Trees}
+use Rattle.sqltables.proofs.Words.{AccountRow, accounts, accounts_to, addresses, AddressRow, AllByRecursion, Alters, Appends, AreOthersSame, Asks}
+use Rattle.sqltables.proofs.Words.{bound_value, command_of, ContactRow, contacts, Content, Database, DayRow, DomainRow, domains, end, eq-eqb}
+use Rattle.sqltables.proofs.Words.{eqb-true, Holds, HostRow, hosts, inner, is_table, IsAnswer, IsContent, IsSelect, Layout, Leads, LineRow, lines}
+use Rattle.sqltables.proofs.Words.{LinkRow, links, list_any, Listed, MessageRow, messages, MetaRow, metas, metas_to, overlay, Query, registry, Row}
+use Rattle.sqltables.proofs.Words.{Sets, Table, TransferRow, transfers, Trees, understood, Value, writes_tables}
 use Rattle.sqlite_rules.specs.Cast.{cast_row}
-use Rattle.sqlite_sql.specs.Query.{Query, IsAnswer, inner, end}
-use Rattle.sqlite_sql.specs.Program.{overlay}
 use Rattle.sqlite.specs.Does.{Tally}
-use Rattle.sqlite.specs.Effect.{Database}
 use Rattle.sqlite.specs.Given.{IsPlain}
-use Rattle.sqlite.specs.Listing.{understood}
-use Rattle.sqlrows.specs.inner.Layouts.{command_of, writes_tables, Holds, IsSelect, Leads, Listed, Sets}
-use Rattle.sqlrows.specs.Layouts.{Layout}
 use Rattle.sqlrows.proofs.CastLemmas.{cast_int, cast_null, cast_text, cast_maybe_int, cast_maybe_text}
 use Rattle.sqlrows.proofs.QuietLemmas.{quiet_if_idle}
-use Rattle.sqltables.specs.Content.{Content}
-use Rattle.sqltables.specs.inner.Content.{IsContent, metas_to, accounts_to, contacts_to, domains_to, hosts_to, addresses_to, links_to, lines_to, messages_to, transfers_to, days_to}
-use Rattle.sqltables.specs.inner.Statements.{Alters, Appends, AreOthersSame, Asks, is_table}
-use Rattle.sqltables.specs.Tables.{registry}
+use Rattle.sqltables.specs.inner.Content.{contacts_to, domains_to, hosts_to, addresses_to, links_to, lines_to, messages_to, transfers_to, days_to}
 use Rattle.sqltables.specs.Tables as schema
-use Rattle.sqltables.specs.Meta.{MetaRow, metas}
-use Rattle.sqltables.specs.Account.{AccountRow, accounts}
-use Rattle.sqltables.specs.Contact.{ContactRow, contacts}
-use Rattle.sqltables.specs.Domain.{DomainRow, domains}
-use Rattle.sqltables.specs.Host.{HostRow, hosts}
-use Rattle.sqltables.specs.Address.{AddressRow, addresses}
-use Rattle.sqltables.specs.Link.{LinkRow, links}
-use Rattle.sqltables.specs.Line.{LineRow, lines}
-use Rattle.sqltables.specs.Message.{MessageRow, messages}
-use Rattle.sqltables.specs.Transfer.{TransferRow, transfers}
-use Rattle.sqltables.specs.Day.{DayRow, days}
+use Rattle.sqltables.specs.Day.{days}
 
 kept : {X : Type 0} (L : Layout X) (db next : Trees) (xs : List X) → next L.tree ≡ db L.tree → Holds L db xs → Holds L next xs
 kept L db next xs same h = record { rows = same ∙ h.rows; keyed = h.keyed }

@@ -1,30 +1,18 @@
 -- What beginning, committing and going back leave of a store of rows.
 use Rattle.std.proofs.Common.{◌≡◌, ◌⊎◌, ◌&&◌, inl, inr, ℕ, Bool, true, false, List, [], ◌∷◌, ◌++◌, Ok, Err, IsTrue, refl, sym, ap, subst, subst₂, ◌∙◌, true≢false}
-use Rattle.std.proofs.lemmas.Bool.{and_parts}
-use Rattle.sqlite_trees.specs.Tree.{Trees}
-use Rattle.sqlite.specs.declared.error.Error.{Error}
-use Rattle.sqlite.specs.Effect.{Database, IsDatabase}
-use Rattle.sqlite.specs.State.{State, Executes, HasCleanDisk, IsRolledBack, Shows, Survives}
+use Rattle.sqltables.proofs.Words.{AgreesWithForm, and_parts, Answer, AreRight, Bears, began, Closes, committed, Content, Database, ended, Error}
+use Rattle.sqltables.proofs.Words.{executed_open, Executes, Fails, Fits, Form, Guards, has_rows, HasCleanDisk, holding, IsDatabase, IsLeftAs}
+use Rattle.sqltables.proofs.Words.{IsRight, IsSound, lasting, leaves_of, left_in, Made, Making, readiness_of, Recalls, Remains, rows_in, runs_as}
+use Rattle.sqltables.proofs.Words.{same_command, Shows, Starts, State, Stays, store_state, Survives, Trees, understood, undone, Unused}
+use Rattle.sqlite.specs.State.{IsRolledBack}
 use Rattle.sqlrows.specs.inner.Transactions.{begin_text, commit_text}
-use Rattle.sqlite_catalog.specs.Listing.{IsSound}
 use Rattle.sqlite_schema.specs.declared.schema.Schema.{Schema}
 use Rattle.sqlite_schema.specs.declared.command.Command.TheVariants as command
-use Rattle.sqlite.specs.Listing.{understood}
-use Rattle.sqlite.proofs.Callers.{runs_as}
-use Rattle.sqlrows.proofs.SelectLemmas.{same_command}
-use Rattle.sqlrows.proofs.SoundLemmas.{executed_open}
 use Rattle.sqlrows.proofs.SwitchLemmas.{begin_is, commit_is}
-use Rattle.sqlrows.proofs.TransactionLemmas.{began, ended}
-use Rattle.sqltables.specs.declared.form.Form.{Form}
-use Rattle.sqltables.specs.declared.form.Form.TheVariants.{Unused, Making, Made, Other}
+use Rattle.sqltables.specs.declared.form.Form.TheVariants.{Other}
 use Rattle.states.proofs.LeavingLemmas.{has-alone, has-either, has-front, has-last}
-use Rattle.states.specs.States.{Closes, Fails, Keeps, Remains, Starts, Stays, holding}
-use Rattle.sqltables.specs.Content.{Content}
-use Rattle.sqltables.specs.declared.answers.Answer.{Answer}
-use Rattle.sqltables.specs.inner.Answers.{AreRight, IsRight, Recalls, lasting}
+use Rattle.states.specs.States.{Keeps}
 use Rattle.sqltables.proofs.AnswerLemmas.{all-lasting}
-use Rattle.sqltables.specs.inner.Stored.{AgreesWithForm, Bears, Fits, Guards, committed, has_rows, leaves_of, left_in, readiness_of, rows_in, store_state, undone}
-use Rattle.sqltables.specs.Stored.{IsLeftAs}
 use Rattle.sqltables.proofs.StandingLemmas.{agrees-back, clean-of, guards-on, home, honest, leaves-same, undone-ready, was-honest}
 
 bears-committed : (form : Form) (now last : Database) → Bears form now last → Bears (committed form) now now

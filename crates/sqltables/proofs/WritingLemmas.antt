@@ -1,35 +1,20 @@
 -- What the statements that write rows of a table mean.
 use Rattle.std.proofs.Common.{◌≡◌, ◌∙◌, ap, drop, refl, List, [], ◌∷◌, ℕ, ℤ, false, not, Option, Some, None, is_none, is_some}
-use Rattle.sqlite_value.specs.declared.value.Value.TheVariants.{Null, Int, Text}
-use Rattle.sqlite_value.specs.declared.keys.Collation.TheVariants.{Binary}
-use Rattle.sqlite_sql.specs.declared.ops.CompareOp.TheVariants.{Eq}
-use Rattle.sqlite_sql.specs.declared.ops.BinaryOp.TheVariants.{Is}
-use Rattle.sqlite_sql.specs.Term.{Term, lit, col, op2}
-use Rattle.sqlite_typed.specs.Columns.{or_null}
-use Rattle.sqlite_value.proofs.OrderLemmas.{value_cmp-Null}
-use Rattle.sqlite_typed.proofs.TestLemmas.{at_ints, at_is_null, at_points_to, at_texts, last_term, then_term}
-use Rattle.sqlite_keyed.specs.Keyed.{insert_by, next_key}
-use Rattle.sqlite_keyed.specs.Lists.{delete_where, update_where}
+use Rattle.sqltables.proofs.Words.{account_shown, account_with_id, AccountRow, accounts, accounts_to, address_shown, address_with_host, addresses}
+use Rattle.sqltables.proofs.Words.{AddressRow, Alters, appended, Appends, at_ints, at_is_null, at_points_to, at_texts, Binary, col, contact_shown}
+use Rattle.sqltables.proofs.Words.{contact_with_id, ContactRow, contacts, day_shown, DayRow, delete_where, domain_shown, domain_with_id, DomainRow}
+use Rattle.sqltables.proofs.Words.{domains, Eq, host_shown, host_takes_sponsor, host_with_id, HostRow, hosts, insert_by, Int, Is, IsUpdate}
+use Rattle.sqltables.proofs.Words.{last_term, line_shown, line_with_id, LineRow, lines, link_shown, link_with_domain, LinkRow, links, lit}
+use Rattle.sqltables.proofs.Words.{message_shown, message_with_id, MessageRow, messages, meta_shown, meta_with_id, MetaRow, metas, metas_to}
+use Rattle.sqltables.proofs.Words.{next_key, Null, op2, or_null, registry, Term, Text, then_term, transfer_shown, transfer_with_contact}
+use Rattle.sqltables.proofs.Words.{transfer_with_domain, TransferRow, transfers, update_where, value_cmp-Null, writes_tables}
 use Rattle.sqlite.specs.Listing.{understood}
 use Rattle.sqlite_tied.specs.Compute.{everything}
-use Rattle.sqlrows.specs.inner.Layouts.{appended, writes_tables, IsUpdate}
 use Rattle.sqlrows.proofs.CastLemmas.{cast_int, cast_null, cast_text, cast_maybe_int, cast_maybe_text}
 use Rattle.sqlrows.proofs.UpdateLemmas.{updates}
-use Rattle.sqltables.specs.Tables.{registry}
 use Rattle.sqltables.specs.inner.Tables.{meta_put, meta_replace, account_put, account_replace, contact_put, contact_replace, contact_append, contact_remove_id, domain_put, domain_replace, domain_append, domain_remove_id, host_put, host_replace, host_append, host_update_sponsor, host_remove_id, address_put, address_append, address_remove_host, link_put, link_append, link_remove_domain, link_update_due, line_put, line_append, line_remove_id, message_put, message_append, message_remove_id, transfer_put, transfer_append, transfer_remove_contact, transfer_remove_domain, days_append}
-use Rattle.sqltables.specs.Meta.{MetaRow, meta_shown, meta_with_id, metas}
-use Rattle.sqltables.specs.Account.{AccountRow, account_shown, account_with_id, accounts}
-use Rattle.sqltables.specs.Contact.{ContactRow, contact_shown, contacts, contact_with_id}
-use Rattle.sqltables.specs.Domain.{DomainRow, domain_shown, domains, domain_with_id}
-use Rattle.sqltables.specs.Host.{HostRow, host_shown, hosts, host_takes_sponsor, host_with_id}
-use Rattle.sqltables.specs.Address.{AddressRow, address_shown, addresses, address_with_host}
-use Rattle.sqltables.specs.Link.{LinkRow, link_shown, links, link_with_domain}
-use Rattle.sqltables.specs.Line.{LineRow, line_shown, lines, line_with_id}
-use Rattle.sqltables.specs.Message.{MessageRow, message_shown, messages, message_with_id}
-use Rattle.sqltables.specs.Transfer.{TransferRow, transfer_shown, transfers, transfer_with_contact, transfer_with_domain}
-use Rattle.sqltables.specs.Day.{DayRow, day_shown, days}
-use Rattle.sqltables.specs.inner.Content.{metas_to, accounts_to, contacts_to, domains_to, hosts_to, addresses_to, links_to, lines_to, messages_to, transfers_to, days_to}
-use Rattle.sqltables.specs.inner.Statements.{Alters, Appends}
+use Rattle.sqltables.specs.Day.{days}
+use Rattle.sqltables.specs.inner.Content.{contacts_to, domains_to, hosts_to, addresses_to, links_to, lines_to, messages_to, transfers_to, days_to}
 use Rattle.sqltables.proofs.StatementLemmas.{adds_by, append_by, equals, put_by, remove_by, replace_by}
 use Rattle.sqltables.proofs.TableLemmas.{alters, meta_part, account_part, contact_part, domain_part, host_part, address_part, link_part, line_part, message_part, transfer_part, day_part}
 pub use Rattle.sqltables.proofs.TableLemmas.{alters-by, appends-by, bound-last, bound-then}

@@ -1,7 +1,5 @@
 use Rattle.std.proofs.Common.{◌≡◌, sym, ap, ◌∙◌}
-use Rattle.std.specs.FinMap.{insert}
-use Rattle.books.proofs.PutLemmas.{changed-if, put-same}
-use Rattle.mapbook.specs.Edits.{account_edited}
+use Rattle.mapbook.proofs.Words.{account_edited, changed-if, insert, put-same}
 use Rattle.mapbook.proofs.EditLemmas.{on-err, on-ok, where-found}
 use Rattle.mapbook.proofs.PostingLemmas.{nothing-changed}
 use Rattle.mapbook.proofs.changing.edit_at.Goals as goal

@@ -1,9 +1,8 @@
 use Rattle.std.proofs.Common.{◌≡◌, ◌∙◌, ◌∷◌, ◌++◌, ◌+◌, [], ap, sym, take}
 use Rattle.std.proofs.lemmas.List.{take_more}
-use Rattle.accounts.specs.declared.line.Line.{Line}
-use Rattle.accounts.specs.Lines.{in_order}
+use Rattle.mapbook.proofs.Words.{add, in_order, Line}
 use Rattle.accounts.proofs.LineLaws.{lines_in_order}
-use Rattle.basis.specs.Bag.{add, bag_of}
+use Rattle.basis.specs.Bag.{bag_of}
 use Rattle.basis.proofs.BagLaws.{bag_of-push}
 use Rattle.mapbook.proofs.ledgers.bag_of.Goals as goal
 

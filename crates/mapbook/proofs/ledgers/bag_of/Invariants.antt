@@ -1,6 +1,5 @@
 use Rattle.std.proofs.Common.{◌≡◌, take}
-use Rattle.accounts.specs.Lines.{in_order}
-use Rattle.basis.specs.Bag.{bag_of}
+use Rattle.mapbook.proofs.Words.{bag_of, in_order}
 use Rattle.mapbook.proofs.ledgers.bag_of.Given as goal
 
 abbrev pub invariant-loop-line : goal.invariant-loop-line

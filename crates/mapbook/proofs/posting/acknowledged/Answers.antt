@@ -1,8 +1,5 @@
 use Rattle.std.proofs.Common.{List, Option, ap, refl, ◌∙◌}
-use Rattle.accounts.specs.declared.message.Message.{Message}
-use Rattle.mapbook.specs.declared.account_edit.AccountEdit.{AccountEdit}
-use Rattle.mapbook.specs.Edits.{all_edited}
-use Rattle.mapbook.specs.inner.Posting.{ack_edits}
+use Rattle.mapbook.proofs.Words.{AccountEdit, ack_edits, all_edited, Message}
 use Rattle.mapbook.proofs.EditLemmas.{if-ok}
 use Rattle.mapbook.proofs.PostingLemmas.{ack-made}
 use Rattle.mapbook.proofs.posting.acknowledged.Goals as goal

@@ -1,7 +1,5 @@
 use Rattle.std.proofs.Common.{List, ap, ◌∙◌}
-use Rattle.accounts.specs.declared.line.Line.{Line}
-use Rattle.mapbook.specs.declared.account_edit.AccountEdit.{AccountEdit}
-use Rattle.mapbook.specs.Edits.{all_edited}
+use Rattle.mapbook.proofs.Words.{AccountEdit, all_edited, Line}
 use Rattle.mapbook.proofs.EditLemmas.{if-ok}
 use Rattle.mapbook.proofs.PostingLemmas.{swaps-made}
 use Rattle.mapbook.proofs.posting.lines_changed.Goals as goal

@@ -1,8 +1,6 @@
 use Rattle.std.proofs.Common.{subst, filter, Ok}
-use Rattle.sqlcolumns.specs.Numbers.{registrar_column}
+use Rattle.sqlaccounts.proofs.Words.{Finds, one-asked, registrar_column}
 use Rattle.sqltables.specs.Account.{account_with_id}
-use Rattle.states.specs.States.{Finds}
-use Rattle.sqlrows.proofs.StateLemmas.{one-asked}
 use Rattle.sqlaccounts.proofs.account.maybe_row.Goals as goal
 
 pub returns-clause-row : goal.returns-clause-row

@@ -1,10 +1,7 @@
 use Rattle.std.proofs.Common.{false, ap, sym, ◌∙◌}
 use Rattle.std.proofs.lemmas.Option.{same_Some}
 use Rattle.std.specs.Str.{bytes_eq}
-use Rattle.accounts.specs.declared.message.Message.{Message}
-use Rattle.accounts.specs.Entries.{with_queue}
-use Rattle.accounts.specs.Messages.{message_id}
-use Rattle.accounts.specs.Queue.{dropped}
+use Rattle.sqlaccounts.proofs.Words.{dropped, Message, message_id, with_queue}
 use Rattle.sqlaccounts.proofs.CallLemmas.{then-kept}
 use Rattle.sqlaccounts.proofs.PostingLemmas.{posts-behind}
 use Rattle.sqlaccounts.proofs.StepLemmas.{ack-posted, none-to-ack}

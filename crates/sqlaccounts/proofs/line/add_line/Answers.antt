@@ -1,11 +1,5 @@
 use Rattle.std.proofs.Common.{rules, ap, subst, ◌∙◌, FitsSigned, to_z-of_z}
-use Rattle.std.specs.Int.{w128}
-use Rattle.sqlrows.specs.inner.Layouts.{appended}
-use Rattle.sqlrows.proofs.StateLemmas.{reads-same, then-made}
-use Rattle.sqlcolumns.specs.Numbers.{maybe_moment_column}
-use Rattle.sqltables.specs.inner.Content.{lines_to}
-use Rattle.sqltables.specs.Line.{lines}
-use Rattle.sqlaccounts.specs.inner.Changes.{IsBalanceChanged}
+use Rattle.sqlaccounts.proofs.Words.{appended, IsBalanceChanged, lines, lines_to, maybe_moment_column, reads-same, then-made, w128}
 use Rattle.sqlaccounts.proofs.LineLemmas.{line-posted}
 use Rattle.sqlaccounts.proofs.line.add_line.Goals as goal
 

@@ -1,9 +1,5 @@
 use Rattle.std.proofs.Common.{subst, sym, ◌∙◌}
-use Rattle.sqlite_keyed.specs.Lists.{delete_where}
-use Rattle.sqlrows.proofs.StateLemmas.{then-made}
-use Rattle.sqltables.specs.inner.Consistent.{IsConsistent}
-use Rattle.sqltables.specs.inner.Content.{lines_to}
-use Rattle.sqltables.specs.Line.{line_with_id}
+use Rattle.sqlaccounts.proofs.Words.{delete_where, IsConsistent, line_with_id, lines_to, then-made}
 use Rattle.sqlaccounts.proofs.CallLemmas.{then-kept}
 use Rattle.sqlaccounts.proofs.LineLemmas.{line-left, line-taken}
 use Rattle.sqlaccounts.proofs.line.take_line.Goals as goal

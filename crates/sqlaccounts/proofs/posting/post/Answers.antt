@@ -1,11 +1,6 @@
 use Rattle.std.proofs.Common.{refl, subst, sym}
-use Rattle.accounts.specs.Account.{with_command, with_serial}
-use Rattle.accounts.specs.Counters.{next_command, next_serial}
-use Rattle.lifecycle.specs.Changes.{changed}
+use Rattle.sqlaccounts.proofs.Words.{changed, counted_in, next_command, next_serial, PostsTo, reads-same, with_command, with_serial}
 use Rattle.lifecycle.specs.declared.change.AccountChange.{AccountChange}
-use Rattle.sqlrows.proofs.StateLemmas.{reads-same}
-use Rattle.sqlaccounts.specs.inner.Changes.{counted_in}
-use Rattle.sqlaccounts.specs.inner.Posting.{PostsTo}
 use Rattle.sqlaccounts.proofs.CallLemmas.{then-kept}
 use Rattle.sqlaccounts.proofs.PostingLemmas.{counts-posted}
 use Rattle.sqlaccounts.proofs.posting.post.Goals as goal

@@ -1,8 +1,5 @@
 use Rattle.std.proofs.Common.{pos, sym, subst, ap, ◌∙◌}
-use Rattle.std.specs.Prelude.{slice_get}
-use Rattle.sqltables.specs.Content.{Content}
-use Rattle.sqltables.specs.Message.{queue_of}
-use Rattle.sqltables.specs.inner.Consistent.{IsConsistent}
+use Rattle.sqlaccounts.proofs.Words.{Content, IsConsistent, queue_of, slice_get}
 use Rattle.sqlaccounts.proofs.ConsistencyLemmas.{parts-there}
 use Rattle.sqlaccounts.proofs.MessageLemmas.{first_found, none_found}
 use Rattle.sqlaccounts.proofs.queue.oldest.Goals as goal

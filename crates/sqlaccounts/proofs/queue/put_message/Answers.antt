@@ -1,8 +1,5 @@
 use Rattle.std.proofs.Common.{sym, ◌∙◌}
-use Rattle.sqlrows.specs.inner.Layouts.{appended}
-use Rattle.sqltables.specs.inner.Content.{messages_to}
-use Rattle.sqltables.specs.Message.{messages}
-use Rattle.sqlrows.proofs.StateLemmas.{then-made}
+use Rattle.sqlaccounts.proofs.Words.{appended, messages, messages_to, then-made}
 use Rattle.sqlaccounts.proofs.CallLemmas.{then-kept}
 use Rattle.sqlaccounts.proofs.MessageLemmas.{message-posted, message-there}
 use Rattle.sqlaccounts.proofs.queue.put_message.Goals as goal

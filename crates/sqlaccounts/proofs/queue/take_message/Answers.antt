@@ -1,14 +1,6 @@
 use Rattle.std.proofs.Common.{ℤ, ap, subst, sym, ◌∙◌}
-use Rattle.accounts.specs.Entries.{with_queue}
-use Rattle.accounts.specs.Queue.{dropped}
-use Rattle.sqlite_keyed.specs.Lists.{delete_where}
-use Rattle.sqltables.specs.Content.{Content}
-use Rattle.sqltables.specs.inner.Consistent.{IsConsistent}
-use Rattle.sqltables.specs.inner.Content.{messages_to}
-use Rattle.sqltables.specs.Message.{message_with_id}
-use Rattle.sqlrows.proofs.StateLemmas.{then-made}
+use Rattle.sqlaccounts.proofs.Words.{Content, delete_where, dropped, IsConsistent, IsPosted, message_with_id, messages_to, then-made, with_queue}
 use Rattle.sqlrows.specs.Read.{rows_of}
-use Rattle.sqlaccounts.specs.inner.Posting.{IsPosted}
 use Rattle.sqlaccounts.proofs.CallLemmas.{then-kept}
 use Rattle.sqlaccounts.proofs.MessageLemmas.{message-left, message-taken}
 use Rattle.sqlaccounts.proofs.queue.take_message.Goals as goal

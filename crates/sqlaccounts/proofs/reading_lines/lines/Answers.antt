@@ -1,9 +1,5 @@
 use Rattle.std.proofs.Common.{ap, subst, sym, ◌∙◌}
-use Rattle.std.specs.List.{filter_map}
-use Rattle.accounts.specs.Lines.{in_order}
-use Rattle.basis.specs.Bag.{bag_of}
-use Rattle.sqlcolumns.specs.Lines.{line_of_columns}
-use Rattle.sqltables.specs.inner.Consistent.{IsConsistent}
+use Rattle.sqlaccounts.proofs.Words.{bag_of, filter_map, in_order, IsConsistent, line_of_columns}
 use Rattle.sqlaccounts.proofs.ConsistencyLemmas.{parts-there}
 use Rattle.sqlaccounts.proofs.reading_lines.lines.Goals as goal
 

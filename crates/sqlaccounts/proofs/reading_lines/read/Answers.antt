@@ -1,9 +1,6 @@
 use Rattle.std.proofs.Common.{◌∙◌, ap, sym, take}
-use Rattle.std.proofs.lemmas.List.{take_more}
-use Rattle.std.specs.List.{filter_map}
-use Rattle.accounts.specs.Lines.{in_order}
-use Rattle.basis.specs.Bag.{add, bag_of}
-use Rattle.sqlcolumns.specs.Lines.{line_of_columns}
+use Rattle.sqlaccounts.proofs.Words.{add, filter_map, in_order, line_of_columns, take_more}
+use Rattle.basis.specs.Bag.{bag_of}
 use Rattle.sqlaccounts.proofs.LinesOnLemmas.{read-more}
 use Rattle.sqlaccounts.proofs.reading_lines.read.Goals as goal
 

@@ -1,8 +1,5 @@
 use Rattle.std.proofs.Common.{◌≡◌, take}
-use Rattle.std.specs.List.{filter_map}
-use Rattle.accounts.specs.Lines.{in_order}
-use Rattle.basis.specs.Bag.{bag_of}
-use Rattle.sqlcolumns.specs.Lines.{line_of_columns}
+use Rattle.sqlaccounts.proofs.Words.{bag_of, filter_map, in_order, line_of_columns}
 use Rattle.sqlaccounts.proofs.reading_lines.read.Given as goal
 
 abbrev pub invariant-loop-row : goal.invariant-loop-row

@@ -1,11 +1,5 @@
 use Rattle.std.proofs.Common.{◌≡◌, List, filter, ap, sym, ◌∙◌}
-use Rattle.std.specs.List.{list_all}
-use Rattle.objects.specs.declared.roid.Roid.{Roid}
-use Rattle.accounts.specs.declared.line.Line.{Line}
-use Rattle.accounts.specs.declared.line.LineSwap.{LineSwap}
-use Rattle.accounts.specs.Lines.{in_order, is_on, swapped_all}
-use Rattle.basis.specs.Bag.{remade}
-use Rattle.sqlaccounts.specs.Accounts.{account_of_rows}
+use Rattle.sqlaccounts.proofs.Words.{account_of_rows, in_order, is_on, Line, LineSwap, list_all, remade, Roid, swapped_all}
 use Rattle.sqlaccounts.proofs.LinesOnLemmas.{lines-bag}
 use Rattle.sqlaccounts.proofs.SwapLemmas.{swaps-on}
 use Rattle.sqlaccounts.proofs.reading_lines.swaps.Goals as goal

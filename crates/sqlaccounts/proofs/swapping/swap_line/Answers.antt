@@ -1,6 +1,4 @@
-use Rattle.accounts.specs.Entries.{with_lines}
-use Rattle.accounts.specs.Lines.{in_order}
-use Rattle.basis.specs.Bag.{add, taken}
+use Rattle.sqlaccounts.proofs.Words.{add, in_order, taken, with_lines}
 use Rattle.sqlaccounts.proofs.PostingLemmas.{posts-then, row-posted}
 use Rattle.sqlaccounts.proofs.swapping.swap_line.Goals as goal
 

@@ -1,5 +1,4 @@
-use Rattle.accounts.specs.Entries.{with_lines}
-use Rattle.accounts.specs.Lines.{swapped_all}
+use Rattle.sqlaccounts.proofs.Words.{swapped_all, with_lines}
 use Rattle.sqlaccounts.proofs.LineLemmas.{swaps-posted}
 use Rattle.sqlaccounts.proofs.PostingLemmas.{posts-behind}
 use Rattle.sqlaccounts.proofs.swapping.swap_lines.Goals as goal

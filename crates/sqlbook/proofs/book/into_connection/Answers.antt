@@ -1,8 +1,6 @@
 use Rattle.std.proofs.Common.{ap, subst, ◌∙◌}
+use Rattle.sqlbook.proofs.Words.{Content, Covers, StateOf}
 use Rattle.sqlite.specs.Held.{state}
-use Rattle.sqltables.specs.Content.{Content}
-use Rattle.sqltables.specs.Stored.{Covers}
-use Rattle.states.specs.States.{StateOf}
 use Rattle.sqlbook.proofs.book.into_connection.Goals as goal
 
 pub returns-clause-covers : goal.returns-clause-covers

@@ -1,9 +1,5 @@
 use Rattle.std.proofs.Common.{◌≡◌, true, sym, subst}
-use Rattle.sqlrows.specs.Meanings.{HasChanged}
-use Rattle.sqltables.specs.Content.{Content}
-use Rattle.sqlaccounts.specs.inner.Posting.{IsRowOf, with_row}
-use Rattle.books.specs.Tables.{maybe_posted}
-use Rattle.sqlbook.specs.inner.Posting.{ArePosted}
+use Rattle.sqlbook.proofs.Words.{ArePosted, Content, HasChanged, IsRowOf, maybe_posted, with_row}
 use Rattle.sqlbook.proofs.changed_accounts.maybe_posted.Goals as goal
 
 pub returns : goal.returns

@@ -1,9 +1,6 @@
 use Rattle.std.proofs.Common.{inl, subst}
+use Rattle.sqlbook.proofs.Words.{asked-then, IsOpened, IsOpenedInBook, reads-same}
 use Rattle.sqlite_rules.specs.Lists.{Has}
-use Rattle.sqlaccounts.specs.inner.Changes.{IsOpened}
-use Rattle.sqlbook.specs.inner.Posting.{IsOpenedInBook}
-use Rattle.sqlobjects.proofs.StepLemmas.{asked-then}
-use Rattle.sqlrows.proofs.StateLemmas.{reads-same}
 use Rattle.sqlbook.proofs.OpeningLemmas.{opening-changed, opening-right}
 use Rattle.sqlbook.proofs.changed_accounts.open.Goals as goal
 

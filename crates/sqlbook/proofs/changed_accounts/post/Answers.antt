@@ -1,9 +1,5 @@
 use Rattle.std.proofs.Common.{Ok}
-use Rattle.sqlobjects.proofs.StepLemmas.{became-made}
-use Rattle.sqltables.specs.Content.{Content}
-use Rattle.sqlaccounts.specs.inner.Posting.{with_row}
-use Rattle.books.specs.Tables.{posted_all}
-use Rattle.sqlbook.specs.inner.Posting.{ArePosted}
+use Rattle.sqlbook.proofs.Words.{ArePosted, became-made, Content, posted_all, with_row}
 use Rattle.sqlbook.proofs.AlteringLemmas.{alters}
 use Rattle.sqlbook.proofs.PostingLemmas.{posted-right}
 use Rattle.sqlbook.proofs.changed_accounts.post.Goals as goal

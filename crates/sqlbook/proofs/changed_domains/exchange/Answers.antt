@@ -1,8 +1,4 @@
-use Rattle.sqlrows.proofs.StateLemmas.{then-became}
-use Rattle.sqltables.specs.Content.{Content}
-use Rattle.sqldomains.specs.inner.Changes.{IsDomainPut}
-use Rattle.sqlderived.specs.inner.Recounts.{IsRecounted, with_unwritten}
-use Rattle.sqlbook.specs.inner.Replacing.{IsExchanged, due_with}
+use Rattle.sqlbook.proofs.Words.{Content, due_with, IsDomainPut, IsExchanged, IsRecounted, then-became, with_unwritten}
 use Rattle.sqlbook.proofs.changed_domains.exchange.Goals as goal
 
 pub returns : goal.returns

@@ -1,7 +1,5 @@
 use Rattle.std.proofs.Common.{◌≡◌, true, subst}
-use Rattle.policy.specs.declared.schedule.Schedule.{Schedule}
-use Rattle.states.specs.States.{Reads}
-use Rattle.sqlbook.specs.inner.Replacing.{IsUnderDays}
+use Rattle.sqlbook.proofs.Words.{IsUnderDays, Reads, Schedule}
 use Rattle.sqlbook.proofs.ReplacingLemmas.{found-under}
 use Rattle.sqlbook.proofs.changed_domains.found.Goals as goal
 

@@ -1,9 +1,5 @@
 use Rattle.std.proofs.Common.{subst}
-use Rattle.sqlrows.proofs.StateLemmas.{then-became}
-use Rattle.sqlobjects.specs.Sponsors.{IsSponsorSetBelow}
-use Rattle.sqltables.specs.Content.{Content}
-use Rattle.sqlderived.specs.inner.Recounts.{with_unwritten}
-use Rattle.sqlbook.specs.inner.Replacing.{IsExchanged, IsReplaced}
+use Rattle.sqlbook.proofs.Words.{Content, IsExchanged, IsReplaced, IsSponsorSetBelow, then-became, with_unwritten}
 use Rattle.sqlbook.proofs.PostingLemmas.{followed-beside}
 use Rattle.sqlbook.proofs.changed_domains.replace.Goals as goal
 

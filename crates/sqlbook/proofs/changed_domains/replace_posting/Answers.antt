@@ -1,9 +1,4 @@
-use Rattle.sqlrows.proofs.StateLemmas.{then-became}
-use Rattle.sqltables.specs.Content.{Content}
-use Rattle.books.specs.Tables.{maybe_posted}
-use Rattle.sqlderived.specs.inner.Recounts.{with_unwritten}
-use Rattle.sqlbook.specs.inner.Posting.{ArePosted, IsReplacedPosting}
-use Rattle.sqlbook.specs.inner.Replacing.{IsReplaced}
+use Rattle.sqlbook.proofs.Words.{ArePosted, Content, IsReplaced, IsReplacedPosting, maybe_posted, then-became, with_unwritten}
 use Rattle.sqlbook.proofs.changed_domains.replace_posting.Goals as goal
 
 pub returns : goal.returns

@@ -1,13 +1,6 @@
 use Rattle.std.proofs.Common.{◌≡◌, IfSome, Ok, Option, subst}
-use Rattle.calendar.specs.Moment.{capped}
-use Rattle.lifecycle.specs.Lapse.{due_at}
-use Rattle.lifecycle.specs.Periods.{rules_with}
-use Rattle.objects.specs.declared.domain.Domain.{Domain}
-use Rattle.sqlobjects.proofs.StepLemmas.{asked-then}
-use Rattle.sqltables.specs.Content.{Content}
-use Rattle.books.specs.Tables.{domain_set, maybe_posted}
-use Rattle.sqlbook.specs.Meaning.{are_right, stored_of}
-use Rattle.sqlbook.specs.inner.Posting.{HaveEnds, IsReplacedPosting}
+use Rattle.sqlbook.proofs.Words.{are_right, asked-then, capped, Content, Domain, domain_set, due_at, HaveEnds, IsReplacedPosting, maybe_posted}
+use Rattle.sqlbook.proofs.Words.{rules_with, stored_of}
 use Rattle.sqlbook.proofs.AlteringLemmas.{alters}
 use Rattle.sqlbook.proofs.PostingLemmas.{put-posting}
 use Rattle.sqlbook.proofs.changed_domains.set_domain.Goals as goal

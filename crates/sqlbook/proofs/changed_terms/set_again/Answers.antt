@@ -1,8 +1,5 @@
 use Rattle.std.proofs.Common.{◌≡◌, Some, inl, ap, ◌∙◌}
-use Rattle.policy.specs.declared.schedule.Schedule.{Schedule}
-use Rattle.sqltables.specs.Content.{Content}
-use Rattle.sqlterms.specs.Terms.{days_of_rows}
-use Rattle.sqlbook.specs.inner.Suiting.{IsSetDown}
+use Rattle.sqlbook.proofs.Words.{Content, days_of_rows, IsSetDown, Schedule}
 use Rattle.sqlbook.proofs.TermLemmas.{turned}
 use Rattle.sqlbook.proofs.changed_terms.set_again.Goals as goal
 

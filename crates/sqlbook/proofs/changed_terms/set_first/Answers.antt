@@ -1,7 +1,5 @@
 use Rattle.std.proofs.Common.{inr}
-use Rattle.sqlobjects.proofs.StepLemmas.{asked-then}
-use Rattle.sqlterms.specs.inner.Changes.{IsTermsSet}
-use Rattle.sqlbook.specs.inner.Suiting.{IsSetDown}
+use Rattle.sqlbook.proofs.Words.{asked-then, IsSetDown, IsTermsSet}
 use Rattle.sqlbook.proofs.TermLemmas.{set-down}
 use Rattle.sqlbook.proofs.changed_terms.set_first.Goals as goal
 

@@ -1,9 +1,5 @@
 use Rattle.std.proofs.Common.{◌≡◌, Option, sym, subst}
-use Rattle.policy.specs.declared.schedule.Schedule.{Schedule}
-use Rattle.sqltables.specs.Content.{Content}
-use Rattle.sqlrows.specs.Meanings.{Changes}
-use Rattle.sqlterms.specs.Terms.{days_of_rows}
-use Rattle.sqlbook.specs.inner.Suiting.{IsSetOver}
+use Rattle.sqlbook.proofs.Words.{Changes, Content, days_of_rows, IsSetOver, Schedule}
 use Rattle.sqlbook.proofs.changed_terms.set_over.Goals as goal
 
 pub returns-in-Some : goal.returns-in-Some

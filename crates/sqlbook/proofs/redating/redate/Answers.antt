@@ -1,5 +1,4 @@
-use Rattle.sqlobjects.proofs.StepLemmas.{asked-then}
-use Rattle.sqlbook.specs.inner.Suiting.{MeansSame}
+use Rattle.sqlbook.proofs.Words.{asked-then, MeansSame}
 use Rattle.sqlbook.proofs.redating.redate.Goals as goal
 
 pub returns : goal.returns

@@ -1,5 +1,4 @@
-use Rattle.sqlrows.specs.Meanings.{HasChanged}
-use Rattle.sqlbook.specs.inner.Suiting.{MeansSame}
+use Rattle.sqlbook.proofs.Words.{HasChanged, MeansSame}
 use Rattle.sqlbook.proofs.redating.redate_all.Given as goal
 
 abbrev pub invariant-loop-name : goal.invariant-loop-name

@@ -1,7 +1,5 @@
 use Rattle.std.proofs.Common.{Some, sym, ◌∙◌}
-use Rattle.sqlobjects.proofs.StepLemmas.{asked-then}
-use Rattle.sqlbook.specs.inner.Replacing.{IsReplaced}
-use Rattle.sqlbook.specs.inner.Suiting.{MeansSame}
+use Rattle.sqlbook.proofs.Words.{asked-then, IsReplaced, MeansSame}
 use Rattle.sqlbook.proofs.RedatingLemmas.{ended-deleted, put-again}
 use Rattle.sqlbook.proofs.redating.redate_one.Goals as goal
 

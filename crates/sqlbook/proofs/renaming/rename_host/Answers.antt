@@ -1,9 +1,6 @@
 use Rattle.std.proofs.Common.{◌∙◌, ap, sym}
+use Rattle.sqlbook.proofs.Words.{are_right, Content, host_moved, leaves-on, stored_of}
 use Rattle.books.proofs.RenameLemmas.{renamed-nowhere, renamed-there}
-use Rattle.books.specs.Tables.{host_moved}
-use Rattle.states.proofs.LeavingLemmas.{leaves-on}
-use Rattle.sqltables.specs.Content.{Content}
-use Rattle.sqlbook.specs.Meaning.{are_right, stored_of}
 use Rattle.sqlbook.proofs.renaming.rename_host.Goals as goal
 
 pub returns : goal.returns

@@ -1,8 +1,6 @@
 use Rattle.std.proofs.Common.{[], ◌∷◌}
+use Rattle.sqlobjects.proofs.Words.{addresses, addresses_to, AreAddressesAdded}
 use Rattle.sqlrows.specs.inner.Layouts.{appended}
-use Rattle.sqltables.specs.Address.{addresses}
-use Rattle.sqltables.specs.inner.Content.{addresses_to}
-use Rattle.sqlobjects.specs.inner.Stages.{AreAddressesAdded}
 use Rattle.sqlobjects.proofs.AddressLemmas.{one-added}
 use Rattle.sqlobjects.proofs.StepLemmas.{made}
 use Rattle.sqlobjects.proofs.addresses.add_address.Goals as goal

@@ -1,8 +1,5 @@
 use Rattle.std.proofs.Common.{◌+◌, [], ◌∷◌, subst, take}
-use Rattle.std.proofs.lemmas.List.{take_all}
-use Rattle.sqlrows.specs.Meanings.{HasChanged}
-use Rattle.sqlrows.proofs.StateLemmas.{then-became}
-use Rattle.sqlobjects.specs.inner.Stages.{AreAddressesAdded}
+use Rattle.sqlobjects.proofs.Words.{AreAddressesAdded, HasChanged, take_all, then-became}
 use Rattle.sqlobjects.proofs.AddressLemmas.{next-added, none-added}
 use Rattle.sqlobjects.proofs.StepLemmas.{stood}
 use Rattle.sqlobjects.proofs.addresses.add_addresses.Goals as goal

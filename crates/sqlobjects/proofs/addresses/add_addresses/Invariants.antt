@@ -1,6 +1,5 @@
 use Rattle.std.proofs.Common.{take}
-use Rattle.sqlrows.specs.Meanings.{HasChanged}
-use Rattle.sqlobjects.specs.inner.Stages.{AreAddressesAdded}
+use Rattle.sqlobjects.proofs.Words.{AreAddressesAdded, HasChanged}
 use Rattle.sqlobjects.proofs.addresses.add_addresses.Given as goal
 
 -- those so far were added

@@ -1,8 +1,5 @@
 use Rattle.std.proofs.Common.{[]}
-use Rattle.sqlite_keyed.specs.Lists.{delete_where}
-use Rattle.sqltables.specs.Address.{address_with_host}
-use Rattle.sqltables.specs.inner.Content.{addresses_to}
-use Rattle.sqlobjects.specs.inner.Stages.{AreAddressesPut}
+use Rattle.sqlobjects.proofs.Words.{address_with_host, addresses_to, AreAddressesPut, delete_where}
 use Rattle.sqlobjects.proofs.AddressLemmas.{cleared}
 use Rattle.sqlobjects.proofs.StepLemmas.{made}
 use Rattle.sqlobjects.proofs.addresses.clear_addresses.Goals as goal

@@ -1,6 +1,5 @@
 use Rattle.std.proofs.Common.{◌∙◌, filter, sym, ap}
-use Rattle.sqltables.specs.Address.{address_with_host}
-use Rattle.sqlobjects.specs.Objects.{texts_of}
+use Rattle.sqlobjects.proofs.Words.{address_with_host, texts_of}
 use Rattle.sqlobjects.proofs.addresses.has_addresses.Goals as goal
 
 pub returns : goal.returns

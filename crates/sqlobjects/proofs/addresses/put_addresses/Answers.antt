@@ -1,7 +1,5 @@
 use Rattle.std.proofs.Common.{◌≡◌, true, []}
-use Rattle.sqlrows.proofs.StateLemmas.{reads-same}
-use Rattle.sqlobjects.specs.Objects.{addresses_of}
-use Rattle.sqlobjects.specs.inner.Stages.{AreAddressesAdded, AreAddressesPut}
+use Rattle.sqlobjects.proofs.Words.{addresses_of, AreAddressesAdded, AreAddressesPut, reads-same}
 use Rattle.sqlobjects.proofs.AddressLemmas.{added-put}
 use Rattle.sqlobjects.proofs.StepLemmas.{asked-turns}
 use Rattle.sqlobjects.proofs.addresses.put_addresses.Goals as goal

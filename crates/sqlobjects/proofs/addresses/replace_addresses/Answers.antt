@@ -1,6 +1,5 @@
 use Rattle.std.proofs.Common.{[]}
-use Rattle.sqlrows.proofs.StateLemmas.{then-became}
-use Rattle.sqlobjects.specs.inner.Stages.{AreAddressesAdded, AreAddressesPut}
+use Rattle.sqlobjects.proofs.Words.{AreAddressesAdded, AreAddressesPut, then-became}
 use Rattle.sqlobjects.proofs.AddressLemmas.{addresses-put, already-put}
 use Rattle.sqlobjects.proofs.StepLemmas.{asked-stood, asked-then}
 use Rattle.sqlobjects.proofs.addresses.replace_addresses.Goals as goal

@@ -1,6 +1,5 @@
 use Rattle.std.proofs.Common.{None}
-use Rattle.sqlobjects.specs.inner.Changes.{IsContactPut}
-use Rattle.sqlobjects.specs.inner.Stages.{IsContactDropped}
+use Rattle.sqlobjects.proofs.Words.{IsContactDropped, IsContactPut}
 use Rattle.sqlobjects.proofs.ContactLemmas.{dropped}
 use Rattle.sqlobjects.proofs.StepLemmas.{asked-then}
 use Rattle.sqlobjects.proofs.contact_changes.drop_contact.Goals as goal

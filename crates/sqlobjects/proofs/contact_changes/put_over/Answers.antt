@@ -1,16 +1,7 @@
 use Rattle.std.proofs.Common.{◌≡◌, true, [], filter, Some, subst, ◌∙◌}
-use Rattle.sqlrows.specs.Meanings.{HasChanged}
-use Rattle.sqlrows.specs.Read.{rows_of}
-use Rattle.sqlrows.proofs.StateLemmas.{reads-same}
-use Rattle.sqlcolumns.specs.inner.Contacts.{row_of_contact}
-use Rattle.sqltables.specs.declared.contact.ContactRow.{ContactRow}
-use Rattle.sqltables.specs.Content.{Content}
-use Rattle.sqltables.specs.inner.Consistent.{IsConsistent}
-use Rattle.sqlobjects.specs.declared.transfers.Transferable.{Transferable}
+use Rattle.sqlobjects.proofs.Words.{ContactRow, Content, HasChanged, is_transfer_of, IsConsistent, IsContactPlaced, IsContactPut, IsTransferPut}
+use Rattle.sqlobjects.proofs.Words.{named_contacts, reads-same, row_of_contact, rows_named, rows_of, Transferable}
 use Rattle.sqlobjects.specs.declared.transfers.Transferable.TheVariants as transferable
-use Rattle.sqlobjects.specs.inner.Changes.{IsContactPut}
-use Rattle.sqlobjects.specs.inner.Stages.{IsContactPlaced, named_contacts, rows_named}
-use Rattle.sqlobjects.specs.inner.Transfers.{IsTransferPut, is_transfer_of}
 use Rattle.sqlobjects.proofs.ContactLemmas.{contact-put}
 use Rattle.sqlobjects.proofs.NewRowLemmas.{no-transfer, none-found}
 use Rattle.sqlobjects.proofs.StepLemmas.{asked-then, became-consistent}

@@ -1,10 +1,6 @@
 use Rattle.std.proofs.Common.{◌≡◌, Some, pos}
-use Rattle.sqltables.specs.declared.contact.ContactRow.{ContactRow}
-use Rattle.sqltables.specs.inner.Consistent.{IsConsistent}
-use Rattle.sqlcolumns.specs.inner.Contacts.{row_of_contact}
-use Rattle.sqlrows.specs.Read.{rows_of}
-use Rattle.sqlrows.proofs.StateLemmas.{reads-same}
-use Rattle.sqlobjects.specs.inner.Stages.{IsContactPlaced, IsPlacedAt, named_contacts, rows_named}
+use Rattle.sqlobjects.proofs.Words.{ContactRow, IsConsistent, IsContactPlaced, IsPlacedAt, named_contacts, reads-same, row_of_contact, rows_named}
+use Rattle.sqlobjects.proofs.Words.{rows_of}
 use Rattle.sqlobjects.proofs.ContactLemmas.{written}
 use Rattle.sqlobjects.proofs.NamedRowLemmas.{placed-as}
 use Rattle.sqlobjects.proofs.StepLemmas.{asked-brings}

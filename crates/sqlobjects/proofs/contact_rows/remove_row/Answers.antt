@@ -1,10 +1,6 @@
 use Rattle.std.proofs.Common.{subst}
-use Rattle.sqlobjects.specs.declared.transfers.Transferable.{Transferable}
-use Rattle.sqlite_keyed.specs.Lists.{delete_where}
+use Rattle.sqlobjects.proofs.Words.{contacts_to, delete_where, IsContactRemoved, IsTransferCleared, Transferable}
 use Rattle.sqltables.specs.Contact.{contact_with_id}
-use Rattle.sqltables.specs.inner.Content.{contacts_to}
-use Rattle.sqlobjects.specs.inner.Stages.{IsContactRemoved}
-use Rattle.sqlobjects.specs.inner.Transfers.{IsTransferCleared}
 use Rattle.sqlobjects.proofs.ContactLemmas.{removed-so}
 use Rattle.sqlobjects.proofs.StepLemmas.{became-made}
 use Rattle.sqlobjects.proofs.contact_rows.remove_row.Goals as goal

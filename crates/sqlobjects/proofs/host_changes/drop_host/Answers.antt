@@ -1,6 +1,5 @@
 use Rattle.std.proofs.Common.{None}
-use Rattle.sqlobjects.specs.inner.Changes.{IsHostPut}
-use Rattle.sqlobjects.specs.inner.Stages.{IsHostDropped}
+use Rattle.sqlobjects.proofs.Words.{IsHostDropped, IsHostPut}
 use Rattle.sqlobjects.proofs.HostLemmas.{dropped}
 use Rattle.sqlobjects.proofs.SponsorLemmas.{found-right}
 use Rattle.sqlobjects.proofs.StepLemmas.{asked-then}

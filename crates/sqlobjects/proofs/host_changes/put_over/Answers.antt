@@ -1,12 +1,6 @@
 use Rattle.std.proofs.Common.{◌≡◌, true, [], Some, subst, ◌∙◌}
-use Rattle.sqlrows.specs.Meanings.{HasChanged}
-use Rattle.sqlrows.specs.Read.{rows_of}
-use Rattle.sqlrows.proofs.StateLemmas.{reads-same}
-use Rattle.sqltables.specs.declared.host.HostRow.{HostRow}
-use Rattle.sqltables.specs.inner.Consistent.{IsConsistent}
-use Rattle.sqlobjects.specs.Objects.{addresses_of}
-use Rattle.sqlobjects.specs.inner.Changes.{IsHostPut}
-use Rattle.sqlobjects.specs.inner.Stages.{AreAddressesPut, IsHostFound, IsHostPlaced, IsHostRow, named_hosts, rows_named}
+use Rattle.sqlobjects.proofs.Words.{addresses_of, AreAddressesPut, HasChanged, HostRow, IsConsistent, IsHostFound, IsHostPlaced, IsHostPut}
+use Rattle.sqlobjects.proofs.Words.{IsHostRow, named_hosts, reads-same, rows_named, rows_of}
 use Rattle.sqlobjects.proofs.HostLemmas.{host-put}
 use Rattle.sqlobjects.proofs.NewRowLemmas.{no-address, none-found}
 use Rattle.sqlobjects.proofs.SponsorLemmas.{found-right}

@@ -1,10 +1,5 @@
 use Rattle.std.proofs.Common.{◌≡◌, ℕ, true, false, List, [], subst, sym, true≢false}
-use Rattle.sqltables.specs.Content.{Content}
-use Rattle.sqltables.specs.inner.Consistent.{IsConsistent}
-use Rattle.sqlrows.specs.Meanings.{HasChanged}
-use Rattle.sqlobjects.specs.Objects.{addresses_of}
-use Rattle.sqlobjects.specs.inner.Changes.{IsRowRenamed}
-use Rattle.sqlobjects.specs.inner.Stages.{AreAddressesPut, IsRowTaken}
+use Rattle.sqlobjects.proofs.Words.{addresses_of, AreAddressesPut, Content, HasChanged, IsConsistent, IsRowRenamed, IsRowTaken}
 use Rattle.sqlobjects.proofs.RowNameLemmas.{row-renamed}
 use Rattle.sqlobjects.proofs.StepLemmas.{became-consistent}
 use Rattle.sqlobjects.proofs.host_names.rename_row.Goals as goal

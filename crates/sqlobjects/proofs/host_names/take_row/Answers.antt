@@ -1,9 +1,5 @@
-use Rattle.sqlite_keyed.specs.Keyed.{insert_by}
-use Rattle.sqltables.specs.inner.Content.{hosts_to}
-use Rattle.sqltables.specs.Host.{hosts}
-use Rattle.sqlrows.proofs.StateLemmas.{reads-on, then-made}
 use Rattle.std.proofs.Common.{Some, refl, subst}
-use Rattle.sqlobjects.specs.inner.Stages.{IsHostFound, IsHostRow, IsRowTaken}
+use Rattle.sqlobjects.proofs.Words.{hosts, hosts_to, insert_by, IsHostFound, IsHostRow, IsRowTaken, reads-on, then-made}
 use Rattle.sqlobjects.proofs.host_names.take_row.Goals as goal
 
 pub returns : goal.returns

@@ -1,8 +1,5 @@
 use Rattle.std.proofs.Common.{◌≡◌, pos}
-use Rattle.sqltables.specs.declared.host.HostRow.{HostRow}
-use Rattle.sqltables.specs.inner.Consistent.{IsConsistent}
-use Rattle.sqlrows.specs.Read.{rows_of}
-use Rattle.sqlobjects.specs.inner.Stages.{IsHostPlaced, IsHostRow, IsPlacedAt, named_hosts, rows_named}
+use Rattle.sqlobjects.proofs.Words.{HostRow, IsConsistent, IsHostPlaced, IsHostRow, IsPlacedAt, named_hosts, rows_named, rows_of}
 use Rattle.sqlobjects.proofs.HostLemmas.{written}
 use Rattle.sqlobjects.proofs.NamedRowLemmas.{placed-as}
 use Rattle.sqlobjects.proofs.StepLemmas.{asked-brings}

@@ -1,8 +1,5 @@
 use Rattle.std.proofs.Common.{[]}
-use Rattle.sqlite_keyed.specs.Lists.{delete_where}
-use Rattle.sqltables.specs.inner.Content.{hosts_to}
-use Rattle.sqltables.specs.Host.{host_with_id}
-use Rattle.sqlobjects.specs.inner.Stages.{AreAddressesPut, IsHostRemoved}
+use Rattle.sqlobjects.proofs.Words.{AreAddressesPut, delete_where, host_with_id, hosts_to, IsHostRemoved}
 use Rattle.sqlobjects.proofs.HostLemmas.{removed-so}
 use Rattle.sqlobjects.proofs.StepLemmas.{became-made}
 use Rattle.sqlobjects.proofs.host_rows.remove_row.Goals as goal

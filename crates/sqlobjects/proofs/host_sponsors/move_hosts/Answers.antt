@@ -1,12 +1,5 @@
 use Rattle.std.proofs.Common.{length, ap, sym, ◌∙◌}
-use Rattle.std.specs.List.{list_all}
-use Rattle.std.proofs.lemmas.List.{nil_from_length}
-use Rattle.std.proofs.lemmas.Bool.{eqb-true}
-use Rattle.sqlite_keyed.specs.Lists.{update_where}
-use Rattle.sqltables.specs.Host.{host_takes_sponsor}
-use Rattle.sqltables.specs.declared.host.HostRow.{HostRow}
-use Rattle.sqltables.specs.inner.Content.{hosts_to}
-use Rattle.sqlobjects.specs.inner.Stages.{AreHostsMoved}
+use Rattle.sqlobjects.proofs.Words.{AreHostsMoved, eqb-true, host_takes_sponsor, HostRow, hosts_to, list_all, nil_from_length, update_where}
 use Rattle.sqlobjects.proofs.HostSponsorLemmas.{Had, hosts-moved, none-below}
 use Rattle.sqlobjects.proofs.StepLemmas.{asked-makes, asked-stood}
 use Rattle.sqlobjects.proofs.host_sponsors.move_hosts.Goals as goal

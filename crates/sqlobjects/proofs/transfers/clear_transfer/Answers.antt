@@ -1,6 +1,4 @@
-use Rattle.sqlite_keyed.specs.Lists.{delete_where}
-use Rattle.sqltables.specs.inner.Content.{transfers_to}
-use Rattle.sqlobjects.specs.inner.Transfers.{IsTransferCleared, is_transfer_of}
+use Rattle.sqlobjects.proofs.Words.{delete_where, is_transfer_of, IsTransferCleared, transfers_to}
 use Rattle.sqlobjects.proofs.StepLemmas.{asked-makes}
 use Rattle.sqlobjects.proofs.TransferLemmas.{transfer-cleared}
 use Rattle.sqlobjects.proofs.transfers.clear_transfer.Goals as goal

@@ -1,7 +1,5 @@
 use Rattle.std.proofs.Common.{subst}
-use Rattle.sqltables.specs.inner.Consistent.{IsConsistent}
-use Rattle.sqltables.specs.inner.Content.{transfers_to}
-use Rattle.sqlobjects.specs.inner.Transfers.{IsTransferPut, with_over}
+use Rattle.sqlobjects.proofs.Words.{IsConsistent, IsTransferPut, transfers_to, with_over}
 use Rattle.sqlobjects.proofs.StepLemmas.{asked-makes}
 use Rattle.sqlobjects.proofs.TransferLemmas.{transfer-put}
 use Rattle.sqlobjects.proofs.transfers.put_transfer.Goals as goal

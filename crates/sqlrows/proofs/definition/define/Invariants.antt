@@ -1,9 +1,5 @@
 use Rattle.std.proofs.Common.{◌≡◌, true, map, drop, IsTrue}
-use Rattle.sqlite_schema.specs.declared.schema.Schema.{Schema}
-use Rattle.sqlite.specs.Held.{state}
-use Rattle.sqlite.specs.State.{HasCleanDisk}
-use Rattle.sqlrows.specs.inner.Calls.{ForgetsNoFault, StaysOpen, LeavesOnly}
-use Rattle.sqlrows.specs.inner.Definitions.{DefinesAll, IsBlank}
+use Rattle.sqlrows.proofs.Words.{DefinesAll, ForgetsNoFault, HasCleanDisk, IsBlank, LeavesOnly, Schema, state, StaysOpen}
 use Rattle.sqlrows.proofs.definition.define.Given as goal
 
 -- what the texts so far left is what those to come begin from

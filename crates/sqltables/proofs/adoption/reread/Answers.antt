@@ -1,11 +1,6 @@
 use Rattle.std.proofs.Common.{◌≡◌, sym, ap, subst, ◌∙◌, arith}
-use Rattle.std.specs.List.{AllByRecursion}
+use Rattle.sqltables.proofs.Words.{AllByRecursion, Database, IsClean, IsShaped, IsSound, Table, Trees, View}
 use Rattle.sqlite_trees.specs.declared.store.Shape.TheVariants as shape
-use Rattle.sqlite_trees.specs.Tree.{Trees}
-use Rattle.sqlite_trees.specs.View.{View, IsClean, IsShaped}
-use Rattle.sqlite_schema.specs.declared.schema.Table.{Table}
-use Rattle.sqlite.specs.Effect.{Database}
-use Rattle.sqlite_catalog.specs.Listing.{IsSound}
 use Rattle.sqltables.proofs.AdoptionLemmas.{commit_adds_none, fresh_if_committed, last_commit, lies_in_order, open_if_consistent}
 use Rattle.sqltables.proofs.adoption.reread.Goals as goal
 

@@ -1,6 +1,4 @@
-use Rattle.sqlite.specs.Held.{state}
-use Rattle.sqlrows.specs.Columns.{no_schema}
-use Rattle.sqltables.specs.Tables.{registry}
+use Rattle.sqltables.proofs.Words.{no_schema, registry, state}
 use Rattle.sqltables.proofs.SchemaLemmas.{creation_defines, made_empty}
 use Rattle.sqltables.proofs.schema.create.Goals as goal
 

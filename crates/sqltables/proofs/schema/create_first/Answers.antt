@@ -1,5 +1,4 @@
-use Rattle.sqlrows.specs.Columns.{no_schema}
-use Rattle.sqltables.specs.inner.FirstTables.{first_registry}
+use Rattle.sqltables.proofs.Words.{first_registry, no_schema}
 use Rattle.sqltables.proofs.FirstSchemaLemmas.{first_creation_defines}
 use Rattle.sqltables.proofs.schema.create_first.Goals as goal
 

@@ -1,15 +1,10 @@
 use Rattle.std.proofs.Common.{List, sym, ap, ◌∙◌}
-use Rattle.accounts.specs.declared.line.Line.{Line}
-use Rattle.accounts.specs.declared.message.Message.{Message}
+use Rattle.mapbook.proofs.Words.{account_edited, AccountEdit, in_order, Line, Message, taken}
 use Rattle.accounts.specs.Entries.{with_lines, with_queue}
-use Rattle.accounts.specs.Lines.{in_order}
 use Rattle.accounts.specs.Queue.{dropped}
 use Rattle.accounts.proofs.LineLaws.{lines_in_order}
 use Rattle.accounts.proofs.QueueLaws.{dropped-put}
-use Rattle.basis.specs.Bag.{taken}
 use Rattle.basis.proofs.BagLaws.{taken-add}
-use Rattle.mapbook.specs.declared.account_edit.AccountEdit.{AccountEdit}
-use Rattle.mapbook.specs.Edits.{account_edited}
 use Rattle.mapbook.proofs.account_edit.AccountEdit.inverse.Goals as goal
 
 pub returns-in-AddLine : goal.returns-in-AddLine

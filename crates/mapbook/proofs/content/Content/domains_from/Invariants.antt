@@ -1,7 +1,5 @@
 use Rattle.std.proofs.Common.{◌≡◌}
-use Rattle.std.specs.FinMap.{entries}
-use Rattle.mapbook.specs.Plain.{content_of}
-use Rattle.mapbook.specs.inner.Quiet.{until_domains}
+use Rattle.mapbook.proofs.Words.{content_of, entries, until_domains}
 use Rattle.mapbook.proofs.content.Content.domains_from.Given as goal
 
 -- what is left leads to where all of them do

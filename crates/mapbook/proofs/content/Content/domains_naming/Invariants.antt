@@ -1,8 +1,7 @@
 use Rattle.std.proofs.Common.{◌≡◌, ℕ, ◌++◌, List, filter, map}
-use Rattle.objects.specs.declared.domain.Domain.{Domain}
+use Rattle.mapbook.proofs.Words.{Domain, domains_naming}
 use Rattle.objects.specs.Links.{names_host}
 use Rattle.mapbook.specs.Plain.{registry_in}
-use Rattle.mapbook.specs.Renaming.{domains_naming}
 use Rattle.mapbook.proofs.content.Content.domains_naming.Given as goal
 
 -- the names found, and those of what is left

@@ -1,7 +1,5 @@
 use Rattle.std.proofs.Common.{◌≡◌}
-use Rattle.std.specs.FinMap.{entries}
-use Rattle.lifecycle.specs.DueObjects.{contact_due, found_due}
-use Rattle.mapbook.specs.Plain.{content_of}
+use Rattle.mapbook.proofs.Words.{contact_due, content_of, entries, found_due}
 use Rattle.mapbook.proofs.content.Content.find_contacts.Given as goal
 
 -- what is left adds what all of them do

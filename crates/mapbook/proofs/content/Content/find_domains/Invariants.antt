@@ -1,7 +1,5 @@
 use Rattle.std.proofs.Common.{◌≡◌}
-use Rattle.std.specs.FinMap.{entries}
-use Rattle.lifecycle.specs.DueObjects.{domain_due, found_due}
-use Rattle.mapbook.specs.Plain.{content_of}
+use Rattle.mapbook.proofs.Words.{content_of, domain_due, entries, found_due}
 use Rattle.mapbook.proofs.content.Content.find_domains.Given as goal
 
 -- what is left adds what all of them do

@@ -1,7 +1,5 @@
 use Rattle.std.proofs.Common.{◌∙◌, ap}
-use Rattle.mapbook.specs.declared.edit.Edit.{Edit}
-use Rattle.mapbook.specs.Edits.{edited}
-use Rattle.mapbook.specs.Plain.{content_of}
+use Rattle.mapbook.proofs.Words.{content_of, Edit, edited}
 use Rattle.mapbook.proofs.EditLemmas.{edited-back, if-ok}
 use Rattle.mapbook.proofs.content.Content.inverse.Goals as goal
 

@@ -1,13 +1,8 @@
 use Rattle.std.proofs.Common.{Option, IfSome, IsSomeAnd, subst, ap, ◌≡◌, ◌∙◌}
-use Rattle.std.specs.FinMap.{FinMap}
-use Rattle.std.specs.Ordering.{nat_cmp}
 use Rattle.std.specs.Option.{option_copied}
+use Rattle.mapbook.proofs.Words.{account_edited, AccountEdit, content_of, Edit, edited, FinMap, nat_cmp}
 use Rattle.accounts.specs.declared.account.Account.{Account}
-use Rattle.mapbook.specs.declared.account_edit.AccountEdit.{AccountEdit}
-use Rattle.mapbook.specs.declared.edit.Edit.{Edit}
 use Rattle.mapbook.specs.declared.edit.Edit.TheVariants as edits
-use Rattle.mapbook.specs.Edits.{account_edited, edited}
-use Rattle.mapbook.specs.Plain.{content_of}
 use Rattle.mapbook.proofs.EditLemmas.{edited-back, if-ok}
 use Rattle.mapbook.proofs.PostingLemmas.{back-there}
 use Rattle.mapbook.proofs.content.Content.inverse_within.Goals as goal

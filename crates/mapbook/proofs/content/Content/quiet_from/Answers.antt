@@ -1,7 +1,6 @@
 use Rattle.std.proofs.Common.{ap, ◌∙◌}
-use Rattle.std.specs.FinMap.{entries}
+use Rattle.mapbook.proofs.Words.{entries, until_domains}
 use Rattle.mapbook.specs.Contents.{registry_in}
-use Rattle.mapbook.specs.inner.Quiet.{until_domains}
 use Rattle.mapbook.proofs.QuietLemmas.{quiet-from}
 use Rattle.mapbook.proofs.content.Content.quiet_from.Goals as goal
 

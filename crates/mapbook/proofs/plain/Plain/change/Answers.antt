@@ -1,10 +1,6 @@
 use Rattle.std.proofs.Common.{◌≡◌, Bool, cond, sym, subst}
-use Rattle.books.specs.Book.{Stored}
+use Rattle.mapbook.proofs.Words.{all_edited, at_begin, changed, content_of, Makes, plain_records, Stored}
 use Rattle.books.specs.Ledgers.{changed_if_there}
-use Rattle.lifecycle.specs.Changes.{changed}
-use Rattle.states.specs.States.{Makes}
-use Rattle.mapbook.specs.Edits.{all_edited}
-use Rattle.mapbook.specs.Plain.{at_begin, content_of, plain_records}
 use Rattle.mapbook.proofs.PostingLemmas.{edits-made}
 use Rattle.mapbook.proofs.plain.Plain.change.Goals as goal
 

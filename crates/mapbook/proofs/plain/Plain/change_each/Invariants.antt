@@ -1,8 +1,5 @@
 use Rattle.std.proofs.Common.{◌≡◌, true}
-use Rattle.states.specs.States.{Answers, Stays}
-use Rattle.lifecycle.specs.Changes.{changed}
-use Rattle.mapbook.specs.Plain.{plain_records}
-use Rattle.mapbook.specs.inner.Posting.{changed_each}
+use Rattle.mapbook.proofs.Words.{Answers, changed, changed_each, plain_records, Stays}
 use Rattle.mapbook.proofs.plain.Plain.change_each.Given as goal
 
 -- the changes that are left lead to where all of them do

@@ -1,8 +1,5 @@
 use Rattle.std.proofs.Common.{◌≡◌, true}
-use Rattle.states.specs.States.{Answers, Stays}
-use Rattle.mapbook.specs.Edits.{account_edited}
-use Rattle.mapbook.specs.Plain.{plain_records}
-use Rattle.mapbook.specs.inner.Posting.{changed_each}
+use Rattle.mapbook.proofs.Words.{account_edited, Answers, changed_each, plain_records, Stays}
 use Rattle.mapbook.proofs.plain.Plain.edit_each.Given as goal
 
 -- the edits that are left lead to where all of them do

@@ -1,10 +1,7 @@
 use Rattle.std.proofs.Common.{◌∙◌, Some, None, ap}
-use Rattle.books.specs.Tables.{host_moved, host_set}
+use Rattle.mapbook.proofs.Words.{edited, host_moved, host_set, leaves-on, plain_records}
 use Rattle.states.proofs.CallLemmas.{makes-on}
-use Rattle.states.proofs.LeavingLemmas.{leaves-on}
 use Rattle.mapbook.specs.declared.edit.Edit.TheVariants as edit
-use Rattle.mapbook.specs.Edits.{edited}
-use Rattle.mapbook.specs.Plain.{plain_records}
 use Rattle.mapbook.proofs.RenameLemmas.{moved, naming-open}
 use Rattle.mapbook.proofs.plain.Plain.move_host.Goals as goal
 

@@ -1,9 +1,6 @@
 use Rattle.std.proofs.Common.{ap, ◌∙◌}
-use Rattle.books.specs.Tables.{posted_all}
-use Rattle.lifecycle.specs.Changes.{changed}
+use Rattle.mapbook.proofs.Words.{changed, changed_each, plain_records, posted_all}
 use Rattle.states.proofs.CallLemmas.{makes-on}
-use Rattle.mapbook.specs.Plain.{plain_records}
-use Rattle.mapbook.specs.inner.Posting.{changed_each}
 use Rattle.mapbook.proofs.PostingLemmas.{posts-made}
 use Rattle.mapbook.proofs.plain.Plain.post_all.Goals as goal
 

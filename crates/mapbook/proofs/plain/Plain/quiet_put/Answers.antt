@@ -1,6 +1,5 @@
 use Rattle.std.proofs.Common.{ap, ◌∙◌}
-use Rattle.mapbook.specs.Plain.{content_of}
-use Rattle.mapbook.specs.inner.Quiet.{sooner}
+use Rattle.mapbook.proofs.Words.{content_of, sooner}
 use Rattle.mapbook.proofs.QuietLemmas.{quiet-put}
 use Rattle.mapbook.proofs.plain.Plain.quiet_put.Goals as goal
 

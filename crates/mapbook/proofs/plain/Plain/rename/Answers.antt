@@ -1,9 +1,6 @@
 use Rattle.std.proofs.Common.{◌∙◌, refl, subst, sym}
+use Rattle.mapbook.proofs.Words.{leaves-refl, Makes, plain_records, Stored}
 use Rattle.books.proofs.RenameLemmas.{renamed-nowhere, renamed-there}
-use Rattle.books.specs.Book.{Stored}
-use Rattle.states.proofs.LeavingLemmas.{leaves-refl}
-use Rattle.states.specs.States.{Makes}
-use Rattle.mapbook.specs.Plain.{plain_records}
 use Rattle.mapbook.proofs.RenameLemmas.{held-open}
 use Rattle.mapbook.proofs.plain.Plain.rename.Goals as goal
 

@@ -1,7 +1,5 @@
 use Rattle.std.proofs.Common.{◌≡◌, true, drop}
-use Rattle.mapbook.specs.Plain.{plain_records}
-use Rattle.mapbook.specs.Renaming.{host_renamed_in}
-use Rattle.states.specs.States.{Answers, Stays}
+use Rattle.mapbook.proofs.Words.{Answers, host_renamed_in, plain_records, Stays}
 use Rattle.mapbook.proofs.plain.Plain.rename_in.Given as goal
 
 -- the domains that are left lead to where all of them do

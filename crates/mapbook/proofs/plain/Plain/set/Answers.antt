@@ -1,7 +1,5 @@
 use Rattle.std.proofs.Common.{ℕ, sym, subst, Option}
-use Rattle.mapbook.specs.Edits.{edited}
-use Rattle.mapbook.specs.Plain.{content_of}
-use Rattle.mapbook.specs.Quiet.{IsQuiet}
+use Rattle.mapbook.proofs.Words.{content_of, edited, IsQuiet}
 use Rattle.mapbook.proofs.QuietLemmas.{quiet-edited}
 use Rattle.mapbook.proofs.plain.Plain.set.Goals as goal
 

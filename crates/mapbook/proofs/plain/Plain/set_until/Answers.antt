@@ -1,6 +1,5 @@
 use Rattle.std.proofs.Common.{sym, subst}
-use Rattle.books.specs.Book.{Stored}
-use Rattle.mapbook.specs.Quiet.{IsQuiet}
+use Rattle.mapbook.proofs.Words.{IsQuiet, Stored}
 use Rattle.mapbook.proofs.plain.Plain.set_until.Goals as goal
 
 pub invariant_of-self : goal.invariant_of-self

@@ -1,8 +1,5 @@
 use Rattle.std.proofs.Common.{◌≡◌, ◌-◌, length, ap, sym, ◌∙◌, List, Some}
-use Rattle.std.specs.Prelude.{slice_get}
-use Rattle.mapbook.specs.declared.edit.Edit.{Edit}
-use Rattle.mapbook.specs.Plain.{content_of}
-use Rattle.mapbook.specs.Edits.{edited, undone_all}
+use Rattle.mapbook.proofs.Words.{content_of, Edit, edited, slice_get, undone_all}
 use Rattle.mapbook.proofs.EditLemmas.{undone_all-latest}
 use Rattle.mapbook.proofs.plain.Plain.undo_latest.Goals as goal
 

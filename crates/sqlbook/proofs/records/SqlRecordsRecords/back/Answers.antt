@@ -1,6 +1,5 @@
 use Rattle.std.proofs.Common.{sym, ap, ◌∙◌}
-use Rattle.sqlbook.specs.Meaning.{are_right}
-use Rattle.sqlbook.specs.AsBook.{are_all_right}
+use Rattle.sqlbook.proofs.Words.{are_all_right, are_right}
 use Rattle.sqlbook.proofs.records.SqlRecordsRecords.back.Goals as goal
 
 pub invariant_of-self : goal.invariant_of-self

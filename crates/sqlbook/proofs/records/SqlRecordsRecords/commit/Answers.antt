@@ -1,8 +1,5 @@
 use Rattle.std.proofs.Common.{Result, sym, subst}
-use Rattle.states.specs.declared.fault.BookFault.{BookFault}
-use Rattle.states.specs.States.{Ends}
-use Rattle.sqlbook.specs.Meaning.{are_right, stored_of}
-use Rattle.sqlbook.specs.AsBook.{as_book}
+use Rattle.sqlbook.proofs.Words.{are_right, as_book, BookFault, Ends, stored_of}
 use Rattle.sqlbook.proofs.SteadyLemmas.{ends-seen, steady-ended}
 use Rattle.sqlbook.proofs.records.SqlRecordsRecords.commit.Goals as goal
 

@@ -1,8 +1,5 @@
 use Rattle.std.proofs.Common.{List, ◌<◌, length, get_or, refl, sym, ap, subst, ◌∙◌}
-use Rattle.std.specs.List.{All}
-use Rattle.sqlite.specs.Values.{bound}
-use Rattle.sqltables.specs.inner.Answers.{IsRight}
-use Rattle.sqltables.specs.declared.answers.Answer.{Answer}
+use Rattle.sqltables.proofs.Words.{All, Answer, bound, IsRight}
 use Rattle.sqltables.proofs.AnswerLemmas.{shown-by}
 use Rattle.sqltables.proofs.answers.Answers.find.Goals as goal
 

@@ -1,8 +1,6 @@
 use Rattle.std.proofs.Common.{◌==◌, not, sym, subst, rules}
-use Rattle.std.specs.List.{All}
 use Rattle.std.proofs.lemmas.Fn.{filter_same}
-use Rattle.sqltables.specs.inner.Answers.{IsRight}
-use Rattle.sqltables.specs.declared.answers.Answer.{Answer}
+use Rattle.sqltables.proofs.Words.{All, Answer, IsRight}
 use Rattle.sqltables.proofs.AnswerLemmas.{few-left, rights-after}
 use Rattle.sqltables.proofs.answers.Answers.forget_of.Goals as goal
 

@@ -1,7 +1,6 @@
 use Rattle.std.proofs.Common.{ap, rules, ◌∙◌}
 use Rattle.std.proofs.lemmas.Fn.{filter_same}
-use Rattle.sqltables.specs.inner.Answers.{lasting, lasts}
-use Rattle.sqltables.specs.declared.answers.Answer.{Answer}
+use Rattle.sqltables.proofs.Words.{Answer, lasting, lasts}
 use Rattle.sqltables.proofs.AnswerLemmas.{few-left}
 use Rattle.sqltables.proofs.answers.Answers.forget_passing.Goals as goal
 

@@ -1,6 +1,5 @@
 use Rattle.std.proofs.Common.{sym, subst}
-use Rattle.sqlite.specs.Values.{bound}
-use Rattle.sqltables.specs.inner.Answers.{IsAnsweredByRows}
+use Rattle.sqltables.proofs.Words.{bound, IsAnsweredByRows}
 use Rattle.sqltables.proofs.answers.Answers.keep_row.Goals as goal
 
 pub returns-in-Ok : goal.returns-in-Ok

@@ -1,16 +1,8 @@
 use Rattle.std.proofs.Common.{List, false, refl, sym, subst}
-use Rattle.std.specs.List.{AllByRecursion}
+use Rattle.sqltables.proofs.Words.{AllByRecursion, Content, Guards, IsFound, IsShaped, Remains, state, Table, Unused}
 use Rattle.sqlite_trees.specs.declared.store.Shape.TheVariants as shape
-use Rattle.sqlite_trees.specs.View.{IsShaped}
 use Rattle.sqlite_schema.specs.declared.schema.Schema.{Schema}
-use Rattle.sqlite_schema.specs.declared.schema.Table.{Table}
-use Rattle.sqlite.specs.Held.{state}
 use Rattle.sqlite.specs.Steps.{over_memory}
-use Rattle.states.specs.States.{Remains}
-use Rattle.sqltables.specs.Adoption.{IsFound}
-use Rattle.sqltables.specs.Content.{Content}
-use Rattle.sqltables.specs.inner.Stored.{Guards}
-use Rattle.sqltables.specs.declared.form.Form.TheVariants.{Unused}
 use Rattle.sqltables.proofs.AdoptedLemmas.{fits_found, guards_found}
 use Rattle.sqltables.proofs.TurningLemmas.{noted-alone}
 use Rattle.sqltables.proofs.store.RowStore+MemStore.in_memory.Goals as goal

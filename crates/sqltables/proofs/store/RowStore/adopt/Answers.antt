@@ -1,11 +1,6 @@
 use Rattle.std.proofs.Common.{◌≡◌, inl, inr, Result, Ok, Err, IfErr, sym, ap, subst, ◌∙◌}
 use Rattle.std.proofs.lemmas.Result.{IfErr-weaker}
-use Rattle.sqlite_trees.specs.Tree.{Trees}
-use Rattle.sqlite.specs.Effect.{Database}
-use Rattle.sqlite.specs.Held.{state}
-use Rattle.sqlite.specs.State.{State}
-use Rattle.sqltables.specs.inner.Adoption.{IsReread}
-use Rattle.sqltables.specs.Adoption.{IsSameRegistry}
+use Rattle.sqltables.proofs.Words.{Database, IsReread, IsSameRegistry, State, state, Trees}
 use Rattle.sqltables.proofs.store.RowStore.adopt.Goals as goal
 
 both : {A E : Type 0} (result : Result A E) (P Q : E → Type 0) → IfErr result P → IfErr result Q → IfErr result (λ e. P e × Q e)

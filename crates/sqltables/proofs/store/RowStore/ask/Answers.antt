@@ -1,11 +1,5 @@
 use Rattle.std.proofs.Common.{◌≡◌, true, false, IsTrue, sym, subst, ◌∙◌, true≢false}
-use Rattle.sqlite.specs.Held.{state}
-use Rattle.sqlite.specs.State.{HasCleanDisk}
-use Rattle.sqlite.specs.Values.{bound}
-use Rattle.sqltables.specs.Content.{Content}
-use Rattle.states.specs.States.{Finds, Stays, StateOf}
-use Rattle.sqltables.specs.inner.Stored.{Fits, leaves_of, store_state}
-use Rattle.sqltables.specs.declared.form.Form.{Form}
+use Rattle.sqltables.proofs.Words.{bound, Content, Finds, Fits, Form, HasCleanDisk, leaves_of, state, StateOf, Stays, store_state}
 use Rattle.sqltables.proofs.AskingLemmas.{asked, fits-shown, left-by-query, left-open, nothing-committed, recalls-shown, same-if}
 use Rattle.sqltables.proofs.StandingLemmas.{answered-open, fits-held, fits-idle, guards-on, opened-held, stays-held, stays-idle}
 use Rattle.sqltables.proofs.store.RowStore.ask.Goals as goal

@@ -1,9 +1,5 @@
 use Rattle.std.proofs.Common.{false, sym, subst, true≢false}
-use Rattle.sqlite.specs.Held.{state}
-use Rattle.sqltables.specs.Content.{Content}
-use Rattle.states.specs.States.{Closes, StateOf}
-use Rattle.sqltables.specs.inner.Stored.{Fits, leaves_of, store_state}
-use Rattle.sqltables.specs.declared.form.Form.{Form}
+use Rattle.sqltables.proofs.Words.{Closes, Content, Fits, Form, leaves_of, state, StateOf, store_state}
 use Rattle.sqltables.proofs.StandingLemmas.{guards-on, leaves-no-more}
 use Rattle.sqltables.proofs.TurningLemmas.{closes-back, fits-back}
 use Rattle.sqltables.proofs.store.RowStore.back.Goals as goal

@@ -1,10 +1,5 @@
 use Rattle.std.proofs.Common.{Bool, false, true, sym, ap, subst, ◌∙◌, true≢false}
-use Rattle.sqlite.specs.Held.{state}
-use Rattle.sqltables.specs.Content.{Content}
-use Rattle.states.specs.States.{Starts, Stays, StateOf}
-use Rattle.sqlrows.proofs.TransactionLemmas.{begin_leaves}
-use Rattle.sqltables.specs.inner.Answers.{Recalls}
-use Rattle.sqltables.specs.inner.Stored.{Fits, Guards, leaves_of, store_state}
+use Rattle.sqltables.proofs.Words.{begin_leaves, Content, Fits, Guards, leaves_of, Recalls, Starts, state, StateOf, Stays, store_state}
 use Rattle.sqltables.proofs.StandingLemmas.{guards-on, leaves-no-more}
 use Rattle.sqltables.proofs.TurningLemmas.{fits-begun, fits-not-begun, guards-begun, recalls-begun, starts, stays-not-begun}
 use Rattle.sqltables.proofs.store.RowStore.begin_as_is.Goals as goal

@@ -1,11 +1,7 @@
 use Rattle.std.proofs.Common.{◌&&◌, Bool, false, true, inl, inr, List, [], ◌∷◌, ◌++◌, refl, sym, ap, subst, ◌∙◌}
-use Rattle.sqlite.specs.Held.{state}
-use Rattle.sqlrows.proofs.TransactionLemmas.{commit_leaves}
-use Rattle.sqltables.specs.Content.{Content}
-use Rattle.states.specs.States.{Fails, Keeps, Remains, StateOf, holding}
-use Rattle.sqltables.specs.inner.Answers.{Recalls}
-use Rattle.sqltables.specs.inner.Stored.{Fits, Guards, committed, leaves_of, left_in, store_state}
-use Rattle.sqltables.specs.declared.form.Form.{Form}
+use Rattle.sqltables.proofs.Words.{commit_leaves, committed, Content, Fails, Fits, Form, Guards, holding, leaves_of, left_in, Recalls, Remains}
+use Rattle.sqltables.proofs.Words.{state, StateOf, store_state}
+use Rattle.states.specs.States.{Keeps}
 use Rattle.sqltables.proofs.StandingLemmas.{honest}
 use Rattle.sqltables.proofs.TurningLemmas.{fails, fits-committed, fits-not-committed, guards-committed, guards-failed, holding-it, keeps, noted-alone, noted-more, recalls-committed}
 use Rattle.sqltables.proofs.store.RowStore.commit.Goals as goal

@@ -1,14 +1,5 @@
 use Rattle.std.proofs.Common.{◌≡◌, true, [], ◌∷◌, map, sym, subst, ◌∙◌}
-use Rattle.sqlite.specs.Held.{state}
-use Rattle.sqlite.specs.Values.{bound}
-use Rattle.sqlite_trees.specs.Tree.{Trees}
-use Rattle.sqlite_value.specs.Value.{owned}
-use Rattle.sqltables.specs.Content.{Content}
-use Rattle.sqltables.specs.Tables.{registry}
-use Rattle.states.specs.States.{StateOf}
-use Rattle.sqltables.specs.inner.Answers.{IsAnsweredByRows}
-use Rattle.sqltables.specs.inner.Content.{IsContent}
-use Rattle.sqltables.specs.inner.Stored.{leaves_of}
+use Rattle.sqltables.proofs.Words.{bound, Content, IsAnsweredByRows, IsContent, leaves_of, owned, registry, state, StateOf, Trees}
 use Rattle.sqltables.proofs.AnswerLemmas.{recalls-known}
 use Rattle.sqltables.proofs.store.RowStore.know.Goals as goal
 

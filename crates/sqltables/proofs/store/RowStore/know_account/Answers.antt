@@ -1,8 +1,5 @@
 use Rattle.std.proofs.Common.{[], ◌∷◌, sym, subst₂}
-use Rattle.sqlite_value.specs.Order.{Row}
-use Rattle.sqltables.specs.Account.{account_shown, accounts}
-use Rattle.sqltables.specs.inner.Answers.{IsAnsweredByRows}
-use Rattle.sqltables.specs.inner.Tables.{account_by_id}
+use Rattle.sqltables.proofs.Words.{account_by_id, account_shown, accounts, IsAnsweredByRows, Row}
 use Rattle.sqltables.proofs.AnswerLemmas.{reads-by}
 use Rattle.sqltables.proofs.KnownLemmas.{account-known}
 use Rattle.sqltables.proofs.QueryLemmas.{accounts_by_id}

@@ -1,8 +1,5 @@
 use Rattle.std.proofs.Common.{[], ◌∷◌, sym, subst}
-use Rattle.sqlite_value.specs.Order.{Row}
-use Rattle.sqltables.specs.Meta.{meta_shown, metas}
-use Rattle.sqltables.specs.inner.Answers.{IsAnsweredByRows}
-use Rattle.sqltables.specs.inner.Tables.{meta_all}
+use Rattle.sqltables.proofs.Words.{IsAnsweredByRows, meta_all, meta_shown, metas, Row}
 use Rattle.sqltables.proofs.AnswerLemmas.{reads-by}
 use Rattle.sqltables.proofs.KnownLemmas.{meta-known}
 use Rattle.sqltables.proofs.QueryLemmas.{all_metas}

@@ -1,8 +1,5 @@
 use Rattle.std.proofs.Common.{IfSome, sym, subst, ◌∙◌}
-use Rattle.sqlite.specs.Held.{state}
-use Rattle.sqltables.specs.Content.{Content}
-use Rattle.states.specs.States.{Finds, StateOf}
-use Rattle.sqltables.specs.inner.Stored.{leaves_of}
+use Rattle.sqltables.proofs.Words.{Content, Finds, leaves_of, state, StateOf}
 use Rattle.sqltables.proofs.AnswerLemmas.{recalled}
 use Rattle.sqltables.proofs.store.RowStore.known.Goals as goal
 

@@ -1,10 +1,5 @@
 use Rattle.std.proofs.Common.{◌≡◌, ◌&&◌, Bool, true, false, sym, ap, subst, ◌∙◌, true≢false}
-use Rattle.sqlite.specs.Held.{state}
-use Rattle.sqlite.specs.State.{HasCleanDisk}
-use Rattle.sqlrows.specs.inner.Calls.{StaysOrUndoes}
-use Rattle.sqltables.specs.Content.{Content}
-use Rattle.states.specs.States.{Reads, StateOf, Stays}
-use Rattle.sqltables.specs.inner.Stored.{Fits, leaves_of, store_state}
+use Rattle.sqltables.proofs.Words.{Content, Fits, HasCleanDisk, leaves_of, Reads, state, StateOf, Stays, StaysOrUndoes, store_state}
 use Rattle.sqltables.proofs.StandingLemmas.{fits-looked, guards-on, honest, leaves-no-more, prepared, reads-same, recalls-same, stays-looked}
 use Rattle.sqltables.proofs.store.RowStore.look.Goals as goal
 

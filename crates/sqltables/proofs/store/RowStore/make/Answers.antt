@@ -1,15 +1,7 @@
 use Rattle.std.proofs.Common.{◌⊎◌, Bool, false, true, IsTrue, sym, ap, subst, subst₂, ◌∙◌}
-use Rattle.sqlite_trees.specs.Tree.{Trees}
-use Rattle.sqlite.specs.Held.{state}
-use Rattle.sqlite.specs.State.{HasCleanDisk}
+use Rattle.sqltables.proofs.Words.{AgreesWithForm, Content, Fits, Form, Guards, HasCleanDisk, IsContent, IsUndone, leaves_of, Making, no_content}
+use Rattle.sqltables.proofs.Words.{state, StateOf, Stays, store_state, Trees, Unused, Writes}
 use Rattle.sqlrows.specs.inner.Calls as calls
-use Rattle.sqlrows.specs.inner.Definitions.{IsUndone}
-use Rattle.sqltables.specs.Content.{Content, no_content}
-use Rattle.sqltables.specs.inner.Content.{IsContent}
-use Rattle.states.specs.States.{Stays, StateOf, Writes}
-use Rattle.sqltables.specs.inner.Stored.{AgreesWithForm, Fits, Guards, leaves_of, store_state}
-use Rattle.sqltables.specs.declared.form.Form.{Form}
-use Rattle.sqltables.specs.declared.form.Form.TheVariants.{Unused, Making}
 use Rattle.sqltables.proofs.MakingLemmas.{back-or-same, fits-made, fits-unmade, guards-made, guards-unmade, makes-made, stays-unmade}
 use Rattle.sqltables.proofs.store.RowStore.make.Goals as goal
 

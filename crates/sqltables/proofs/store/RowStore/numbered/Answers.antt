@@ -1,8 +1,5 @@
 use Rattle.std.proofs.Common.{sym, ap, ◌∙◌}
-use Rattle.states.specs.States.{StateOf}
-use Rattle.sqltables.specs.Content.{Content}
-use Rattle.sqltables.specs.Readiness.{is_numbered}
-use Rattle.sqltables.specs.inner.Stored.{readiness_of}
+use Rattle.sqltables.proofs.Words.{Content, is_numbered, readiness_of, StateOf}
 use Rattle.sqltables.proofs.AdoptedLemmas.{known-other}
 use Rattle.sqltables.proofs.store.RowStore.numbered.Goals as goal
 

@@ -1,9 +1,5 @@
 use Rattle.std.proofs.Common.{List, false, refl, sym, subst, arith}
-use Rattle.sqlite.specs.Held.{state}
-use Rattle.states.specs.States.{Remains}
-use Rattle.sqltables.specs.inner.Adoption.{IsShown}
-use Rattle.sqltables.specs.Content.{Content}
-use Rattle.sqltables.specs.inner.Stored.{Guards, store_state}
+use Rattle.sqltables.proofs.Words.{Content, Guards, IsShown, Remains, state, store_state}
 use Rattle.sqltables.proofs.AdoptedLemmas.{fits_found, found-other, guards_found, shown}
 use Rattle.sqltables.proofs.TurningLemmas.{noted-alone}
 use Rattle.sqltables.proofs.store.RowStore.over.Goals as goal

@@ -1,6 +1,5 @@
 use Rattle.std.proofs.Common.{filter, ap, ◌∙◌}
-use Rattle.sqltables.specs.Account.{account_with_id}
-use Rattle.sqltables.specs.Content.{Content}
+use Rattle.sqltables.proofs.Words.{account_with_id, Content}
 use Rattle.sqltables.proofs.PuttingLemmas.{account-put}
 use Rattle.sqltables.proofs.store.RowStore.put_account.Goals as goal
 

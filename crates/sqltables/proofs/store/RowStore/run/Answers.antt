@@ -1,12 +1,6 @@
 use Rattle.std.proofs.Common.{Bool, true, false, IsTrue, refl, sym, ap, subst, ◌∙◌, true≢false, FitsSigned, rules, to_z-of_z, w64}
-use Rattle.std.proofs.lemmas.Bool.{and_parts}
-use Rattle.sqlite.specs.Held.{state}
-use Rattle.sqlite.specs.State.{HasCleanDisk}
-use Rattle.sqlite.specs.Values.{bound}
-use Rattle.sqltables.specs.Content.{Content}
-use Rattle.states.specs.States.{Stays, StateOf, Writes}
-use Rattle.sqltables.specs.inner.Stored.{Fits, Guards, leaves_of, store_state}
-use Rattle.sqltables.specs.declared.form.Form.{Form}
+use Rattle.sqltables.proofs.Words.{and_parts, bound, Content, Fits, Form, Guards, HasCleanDisk, leaves_of, state, StateOf, Stays, store_state}
+use Rattle.sqltables.proofs.Words.{Writes}
 use Rattle.sqltables.proofs.AlteringLemmas.{fits-written, left-by-write, left-open, none-committed, numbered, open-after, recalls-written, written}
 use Rattle.sqltables.proofs.StandingLemmas.{fits-held, fits-idle, guards-on, honest, opened-held, stays-held, stays-idle, was-honest}
 use Rattle.sqltables.proofs.store.RowStore.run.Goals as goal

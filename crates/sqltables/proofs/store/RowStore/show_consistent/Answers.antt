@@ -1,9 +1,5 @@
 use Rattle.std.proofs.Common.{◌≡◌, true, subst}
-use Rattle.std.proofs.lemmas.Bool.{and_parts}
-use Rattle.sqlite.specs.Held.{state}
-use Rattle.sqltables.specs.Content.{Content}
-use Rattle.states.specs.States.{StateOf}
-use Rattle.sqltables.specs.inner.Consistent.{IsConsistent}
+use Rattle.sqltables.proofs.Words.{and_parts, Content, IsConsistent, state, StateOf}
 use Rattle.sqltables.proofs.StandingLemmas.{honest}
 use Rattle.sqltables.proofs.ConsistencyLemmas.{consistent}
 use Rattle.sqltables.proofs.store.RowStore.show_consistent.Goals as goal

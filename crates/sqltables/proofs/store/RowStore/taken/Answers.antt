@@ -1,9 +1,6 @@
 use Rattle.std.proofs.Common.{◌≡◌, inr, sym, ap, ◌∙◌}
 use Rattle.std.proofs.lemmas.Result.{IfErr-weaker, IfOk-weaker}
-use Rattle.sqlite.specs.Effect.{Database}
-use Rattle.sqlite.specs.Held.{state}
-use Rattle.sqlite.specs.State.{State, HasCleanDisk}
-use Rattle.sqltables.specs.Adoption.{IsFound}
+use Rattle.sqltables.proofs.Words.{Database, HasCleanDisk, IsFound, State, state}
 use Rattle.sqltables.proofs.StandingLemmas.{honest}
 use Rattle.sqltables.proofs.store.RowStore.taken.Goals as goal
 
