@@ -1,5 +1,5 @@
 -- A reply has no float.
-use Rattle.std.proofs.Common.{ℕ, List, [], ◌∷◌, Option, Some, refl, map, codes}
+use Rattle.std.proofs.Common.{ℕ, List, ◌∷◌, Option, Some, refl, map, codes}
 use Rattle.std.specs.Prelude.{option_and_then, decimal}
 use Rattle.serde_json.specs.Data.{string}
 use Rattle.protocol.specs.declared.code.Code.{Code}
@@ -29,57 +29,29 @@ transfer_plain t = members_plain (transfer_members t) (refl, (refl, (refl, (refl
 postal_plain : (p : Postal) → IsPlain (postal_value p)
 postal_plain p = members_plain (postal_members p) (refl, (refl, (refl, (maybe_text p.org, (maybe_text p.pc, (maybe_text p.sp, (texts p.street, tt)))))))
 
+-- the first is, and so are the others
+infixr 2 ◌&◌
+◌&◌ : {A B : Type 0} → A → B → A × B
+a & b = (a, b)
+
 contact_plain : (c : ContactInfo) → ArePlain (contact_members c)
-contact_plain c = (
-  refl,
-  refl,
-  maybe_plain (λ h. string h.mail) c.hidden (λ h. refl),
-  refl,
-  maybe_plain (λ h. postal_value h.postal) c.hidden (λ h. postal_plain h.postal),
-  refl,
-  maybe_text (option_and_then (λ h. h.secret) c.hidden),
-  texts (map status_text c.face.statuses),
-  maybe_moment c.face.transferred,
-  maybe_plain transfer_value (contact_transfer_of c) transfer_plain,
-  maybe_moment c.face.updated,
-  maybe_text (option_and_then (λ h. h.voice) c.hidden),
-  tt,
-)
+contact_plain c =
+    refl & refl & maybe_plain (λ h. string h.mail) c.hidden (λ h. refl) & refl
+    & maybe_plain (λ h. postal_value h.postal) c.hidden (λ h. postal_plain h.postal) & refl
+    & maybe_text (option_and_then (λ h. h.secret) c.hidden) & texts (map status_text c.face.statuses) & maybe_moment c.face.transferred
+    & maybe_plain transfer_value (contact_transfer_of c) transfer_plain & maybe_moment c.face.updated
+    & maybe_text (option_and_then (λ h. h.voice) c.hidden) & tt
 
 host_plain : (h : HostInfo) → ArePlain (host_members h)
-host_plain h = (
-  texts h.face.addresses,
-  refl,
-  refl,
-  refl,
-  refl,
-  texts (map status_text h.face.statuses),
-  maybe_moment h.face.updated,
-  tt,
-)
+host_plain h =
+    texts h.face.addresses & refl & refl & refl & refl & texts (map status_text h.face.statuses) & maybe_moment h.face.updated & tt
 
 domain_plain : (d : DomainInfo) → ArePlain (domain_members d)
-domain_plain d = (
-  texts d.face.links.admin,
-  refl,
-  refl,
-  maybe_moment (deleted_of d),
-  refl,
-  texts d.face.links.hosts,
-  refl,
-  refl,
-  maybe_moment (restore_requested_of d),
-  texts (map rgp_text (states_of d.face.standing)),
-  refl,
-  maybe_text (secret_of d),
-  texts (map status_text d.face.statuses),
-  texts d.subordinate,
-  texts d.face.links.tech,
-  maybe_moment d.face.transferred,
-  maybe_plain transfer_value (transfer_of d) transfer_plain,
-  maybe_moment d.face.updated,
-  tt,
-)
+domain_plain d =
+    texts d.face.links.admin & refl & refl & maybe_moment (deleted_of d) & refl & texts d.face.links.hosts & refl & refl
+    & maybe_moment (restore_requested_of d) & texts (map rgp_text (states_of d.face.standing)) & refl & maybe_text (secret_of d)
+    & texts (map status_text d.face.statuses) & texts d.subordinate & texts d.face.links.tech & maybe_moment d.face.transferred
+    & maybe_plain transfer_value (transfer_of d) transfer_plain & maybe_moment d.face.updated & tt
 
 data_plain : (d : the_data.Data) → IsPlain (data_value d)
 data_plain (Checked results) = members_plain ((codes "results", Some (checks_value results)) ∷ []) (items_plain checked_value results checked_plain, tt)

@@ -14,6 +14,34 @@ use Rattle.sqltables.specs.Tables.{days, with_meta, with_account, with_contact, 
 use Rattle.sqltables.specs.inner.Tables.{creation, meta_create, account_create, contact_create, domain_create, host_create, address_create, link_create, line_create, message_create, transfer_create, days_create}
 use Rattle.sqltables.specs.inner.FirstTables.{Indexing, indexed_by, indexings, line_with, with_transfer_behind}
 
+meta_is : IsTable no_schema meta_create meta
+unfolding understood everything
+meta_is = record { command = refl; as_written = refl; defined = refl; plain = (refl, refl); uncounted = refl }
+
+account_is : IsTable with_meta account_create account
+unfolding understood everything
+account_is = record { command = refl; as_written = refl; defined = refl; plain = (refl, refl); uncounted = refl }
+
+contact_is : IsTable with_account contact_create contact
+unfolding understood everything
+contact_is = record { command = refl; as_written = refl; defined = refl; plain = (refl, refl); uncounted = refl }
+
+domain_is : IsTable with_contact domain_create domain
+unfolding understood everything
+domain_is = record { command = refl; as_written = refl; defined = refl; plain = (refl, refl); uncounted = refl }
+
+host_is : IsTable with_domain host_create host
+unfolding understood everything
+host_is = record { command = refl; as_written = refl; defined = refl; plain = (refl, refl); uncounted = refl }
+
+address_is : IsTable with_host address_create address
+unfolding understood everything
+address_is = record { command = refl; as_written = refl; defined = refl; plain = (refl, refl); uncounted = refl }
+
+link_is : IsTable with_address link_create link
+unfolding understood everything
+link_is = record { command = refl; as_written = refl; defined = refl; plain = (refl, refl); uncounted = refl }
+
 -- ---- what is made behind the lines
 
 -- each text makes its index
@@ -26,67 +54,101 @@ indexings_define schema to texts [] are rest = rest
 indexings_define schema to texts (it ∷ more) are rest =
     (indexed schema it.table it.index, inr (it.at, it.table, it.index, are.0, refl), indexings_define (indexed schema it.table it.index) to texts more are.1 rest)
 
+infixr 2 ◌&◌
+◌&◌ : {A B : Type 0} → A → B → A × B
+a & b = (a, b)
+
 -- whatever columns the lines have behind the first seven
 indexings_are : (more : List Column) → AreIndexings (with_transfer_behind (line_with more)) (indexings (line_with more))
 unfolding understood everything
-indexings_are more = (
-  record { command = refl; as_written = refl; place = refl; defined = refl; plain = (refl, refl) },
-  record { command = refl; as_written = refl; place = refl; defined = refl; plain = (refl, refl) },
-  record { command = refl; as_written = refl; place = refl; defined = refl; plain = (refl, refl) },
-  record { command = refl; as_written = refl; place = refl; defined = refl; plain = (refl, refl) },
-  record { command = refl; as_written = refl; place = refl; defined = refl; plain = (refl, refl) },
-  record { command = refl; as_written = refl; place = refl; defined = refl; plain = (refl, refl) },
-  record { command = refl; as_written = refl; place = refl; defined = refl; plain = (refl, refl) },
-  record { command = refl; as_written = refl; place = refl; defined = refl; plain = (refl, refl) },
-  record { command = refl; as_written = refl; place = refl; defined = refl; plain = (refl, refl) },
-  record { command = refl; as_written = refl; place = refl; defined = refl; plain = (refl, refl) },
-  record { command = refl; as_written = refl; place = refl; defined = refl; plain = (refl, refl) },
-  record { command = refl; as_written = refl; place = refl; defined = refl; plain = (refl, refl) },
-  record { command = refl; as_written = refl; place = refl; defined = refl; plain = (refl, refl) },
-  record { command = refl; as_written = refl; place = refl; defined = refl; plain = (refl, refl) },
-  record { command = refl; as_written = refl; place = refl; defined = refl; plain = (refl, refl) },
-  record { command = refl; as_written = refl; place = refl; defined = refl; plain = (refl, refl) },
-  record { command = refl; as_written = refl; place = refl; defined = refl; plain = (refl, refl) },
-  record { command = refl; as_written = refl; place = refl; defined = refl; plain = (refl, refl) },
-  record { command = refl; as_written = refl; place = refl; defined = refl; plain = (refl, refl) },
-  record { command = refl; as_written = refl; place = refl; defined = refl; plain = (refl, refl) },
-  tt,
-)
+indexings_are more =
+    record { command = refl; as_written = refl; place = refl; defined = refl; plain = (refl, refl) }
+    & record { command = refl; as_written = refl; place = refl; defined = refl; plain = (refl, refl) }
+    & record { command = refl; as_written = refl; place = refl; defined = refl; plain = (refl, refl) }
+    & record { command = refl; as_written = refl; place = refl; defined = refl; plain = (refl, refl) }
+    & record { command = refl; as_written = refl; place = refl; defined = refl; plain = (refl, refl) }
+    & record { command = refl; as_written = refl; place = refl; defined = refl; plain = (refl, refl) }
+    & record { command = refl; as_written = refl; place = refl; defined = refl; plain = (refl, refl) }
+    & record { command = refl; as_written = refl; place = refl; defined = refl; plain = (refl, refl) }
+    & record { command = refl; as_written = refl; place = refl; defined = refl; plain = (refl, refl) }
+    & record { command = refl; as_written = refl; place = refl; defined = refl; plain = (refl, refl) }
+    & record { command = refl; as_written = refl; place = refl; defined = refl; plain = (refl, refl) }
+    & record { command = refl; as_written = refl; place = refl; defined = refl; plain = (refl, refl) }
+    & record { command = refl; as_written = refl; place = refl; defined = refl; plain = (refl, refl) }
+    & record { command = refl; as_written = refl; place = refl; defined = refl; plain = (refl, refl) }
+    & record { command = refl; as_written = refl; place = refl; defined = refl; plain = (refl, refl) }
+    & record { command = refl; as_written = refl; place = refl; defined = refl; plain = (refl, refl) }
+    & record { command = refl; as_written = refl; place = refl; defined = refl; plain = (refl, refl) }
+    & record { command = refl; as_written = refl; place = refl; defined = refl; plain = (refl, refl) }
+    & record { command = refl; as_written = refl; place = refl; defined = refl; plain = (refl, refl) }
+    & record { command = refl; as_written = refl; place = refl; defined = refl; plain = (refl, refl) }
+    & tt
+
+message_is : (more : List Column) → IsTable (created with_link (line_with more)) message_create message
+unfolding understood everything
+message_is more = record { command = refl; as_written = refl; defined = refl; plain = (refl, refl); uncounted = refl }
+
+transfer_is : (more : List Column) → IsTable (created (created with_link (line_with more)) message) transfer_create transfer
+unfolding understood everything
+transfer_is more = record { command = refl; as_written = refl; defined = refl; plain = (refl, refl); uncounted = refl }
 
 -- a table of the lines, and all that is made around it
 pub all_defines : (line_text : List ℕ) (more : List Column) (texts : List (List ℕ)) (to : Schema) → IsTable with_link line_text (line_with more)
     → DefinesAll (indexed_by (with_transfer_behind (line_with more)) (indexings (line_with more))) texts to
     → DefinesAll no_schema (meta_create ∷ account_create ∷ contact_create ∷ domain_create ∷ host_create ∷ address_create ∷ link_create ∷ line_text ∷ message_create ∷ transfer_create ∷ map (λ it. it.text) (indexings (line_with more)) ++ texts) to
-unfolding understood everything
 all_defines line_text more texts to line_is rest = (
   with_meta,
-  inl (meta, record { command = refl; as_written = refl; defined = refl; plain = (refl, refl); uncounted = refl }, refl),
-  with_account,
-  inl (account, record { command = refl; as_written = refl; defined = refl; plain = (refl, refl); uncounted = refl }, refl),
-  with_contact,
-  inl (contact, record { command = refl; as_written = refl; defined = refl; plain = (refl, refl); uncounted = refl }, refl),
-  with_domain,
-  inl (domain, record { command = refl; as_written = refl; defined = refl; plain = (refl, refl); uncounted = refl }, refl),
-  with_host,
-  inl (host, record { command = refl; as_written = refl; defined = refl; plain = (refl, refl); uncounted = refl }, refl),
-  with_address,
-  inl (address, record { command = refl; as_written = refl; defined = refl; plain = (refl, refl); uncounted = refl }, refl),
-  with_link,
-  inl (link, record { command = refl; as_written = refl; defined = refl; plain = (refl, refl); uncounted = refl }, refl),
-  created with_link (line_with more),
-  inl (line_with more, line_is, refl),
-  created (created with_link (line_with more)) message,
-  inl (message, record { command = refl; as_written = refl; defined = refl; plain = (refl, refl); uncounted = refl }, refl),
-  with_transfer_behind (line_with more),
-  inl (transfer, record { command = refl; as_written = refl; defined = refl; plain = (refl, refl); uncounted = refl }, refl),
-  indexings_define (with_transfer_behind (line_with more)) to texts (indexings (line_with more)) (indexings_are more) rest,
+  inl (meta, meta_is, refl),
+  (
+    with_account,
+    inl (account, account_is, refl),
+    (
+      with_contact,
+      inl (contact, contact_is, refl),
+      (
+        with_domain,
+        inl (domain, domain_is, refl),
+        (
+          with_host,
+          inl (host, host_is, refl),
+          (
+            with_address,
+            inl (address, address_is, refl),
+            (
+              with_link,
+              inl (link, link_is, refl),
+              (
+                created with_link (line_with more),
+                inl (line_with more, line_is, refl),
+                (
+                  created (created with_link (line_with more)) message,
+                  inl (message, message_is more, refl),
+                  (
+                    with_transfer_behind (line_with more),
+                    inl (transfer, transfer_is more, refl),
+                    indexings_define (with_transfer_behind (line_with more)) to texts (indexings (line_with more)) (indexings_are more) rest,
+                  ),
+                ),
+              ),
+            ),
+          ),
+        ),
+      ),
+    ),
+  ),
 )
 
-pub creation_defines : DefinesAll no_schema creation registry
+line_is : IsTable with_link line_create line
 unfolding understood everything
-creation_defines = all_defines line_create (nullable (codes "ends") Integer ∷ nullable (codes "refunded") Integer ∷ filled (codes "recorded") Integer ∷ []) (days_create ∷ []) registry
-    (record { command = refl; as_written = refl; defined = refl; plain = (refl, refl); uncounted = refl })
-    (registry, inl (days, record { command = refl; as_written = refl; defined = refl; plain = (refl, refl); uncounted = refl }, refl), refl)
+line_is = record { command = refl; as_written = refl; defined = refl; plain = (refl, refl); uncounted = refl }
+
+days_is : IsTable with_transfer_losing days_create days
+unfolding understood everything
+days_is = record { command = refl; as_written = refl; defined = refl; plain = (refl, refl); uncounted = refl }
+
+pub creation_defines : DefinesAll no_schema creation registry
+creation_defines = all_defines line_create (nullable (codes "ends") Integer ∷ nullable (codes "refunded") Integer ∷ filled (codes "recorded") Integer ∷ []) (days_create ∷ []) registry line_is
+    (registry, inl (days, days_is, refl), refl)
 
 pub blank_holds_nothing : (db : Database) → IsBlank registry db → IsContent no_content db
 blank_holds_nothing db blank = record {
