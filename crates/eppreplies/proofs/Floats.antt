@@ -1,5 +1,5 @@
 -- A reply has no float.
-use Rattle.std.proofs.Common.{ℕ, List, ◌∷◌, Option, Some, refl, map, codes}
+use Rattle.std.proofs.Common.{ℕ, List, [], ◌∷◌, Option, Some, refl, map, codes}
 use Rattle.std.specs.Prelude.{option_and_then, decimal}
 use Rattle.serde_json.specs.Data.{string}
 use Rattle.protocol.specs.declared.code.Code.{Code}
