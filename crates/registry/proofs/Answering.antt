@@ -1,42 +1,66 @@
--- Each call of the registry answers a question by the rules, where it answers.
-use Rattle.std.proofs.Common.{ℕ, max, Result, Ok, Err, IfOk, refl, sym, ap, ◌∙◌, arith}
+-- Each call of the registry that comes in time answers a question by the rules, where it answers, and keeps what every
+-- call does.
+use Rattle.std.proofs.Common.{◌≡◌, ℕ, ◌≤◌, max, true, false, nat_lt, Result, Ok, Err, IfOk, Some, refl, sym, ap, ◌∙◌, arith}
+use Rattle.std.proofs.lemmas.Bool.Decides.{nat_tests}
+use Rattle.decisions.specs.Askable.{CanBeAsked}
+use Rattle.decisions.proofs.IsolationLemmas.{isolated}
 use Rattle.model.specs.Lapse.{lapsed}
 use Rattle.model.specs.Registry.{Registry}
+use Rattle.model.specs.WellFormed.{last_clock}
 use Rattle.model.proofs.LapseLaws.{lapses-on}
-use Rattle.policy.specs.Rules.{PolicyRules}
+use Rattle.policy.specs.Rules.{PolicyRules, IsRegistrar, IsSound}
+use Rattle.policy.specs.Terms.{terms_of}
 use Rattle.isolation.specs.Public.{public_part}
-use Rattle.isolation.specs.Runs.{IsCall, code, command, date, dated, look_up, order, reply, shown}
+use Rattle.isolation.specs.Runs.{code, command, date, dated, look_up, order, reply, shown}
 use Rattle.protocol.specs.declared.code.Code.{Code}
 use Rattle.protocol.specs.declared.command.Command.{Command}
 use Rattle.protocol.specs.declared.order.Order.{Order}
 use Rattle.protocol.specs.declared.reply.Reply.{Reply}
-use Rattle.registry.specs.Execution.{IsGreetingStep, IsOrderStep, IsSettlement, IsStep}
-use Rattle.registry.specs.Faces.{IsLookUp}
+use Rattle.registry.specs.declared.fault.Fault.{Fault}
+use Rattle.registry.specs.Calls.{CallKeeps, LooksUpKeeping, StepKeeps}
+use Rattle.registry.specs.Crashes.{Makes}
+use Rattle.registry.specs.Execution.{Greets, IsGreetingStep, IsOrderStep, IsSettlement, IsStep, Isolates, OrderSteps, Settles, Steps, last_call}
+use Rattle.registry.specs.Faces.{IsLookUp, LooksUp}
+use Rattle.registry.proofs.CallsKept.{call_kept}
+use Rattle.books.specs.Book.{BookState}
 
-pub command_answered : {E : Type 0} (clean : Type 0) (p : PolicyRules) (moment : ℕ) (before after : Registry) (result : Result Reply E) (r : ℕ) (c : Command)
-    → IfOk result (λ a. clean → IsStep p r c moment before after a) → IfOk result (λ a. clean → IsCall p moment (command r c) before after (reply a))
-command_answered clean p moment before after (Ok a) r c step = λ taken. record { answered = ap reply (step taken).answered; left = (step taken).left }
-command_answered clean p moment before after (Err e) r c step = tt
+pub in_time : (moment : ℕ) → nat_lt last_call moment ≡ false → moment ≤ last_clock
+in_time moment early = grind (arith, nat_tests, early)
 
-pub order_answered : {E : Type 0} (clean : Type 0) (p : PolicyRules) (moment : ℕ) (before after : Registry) (result : Result Code E) (o : Order)
-    → IfOk result (λ a. clean → IsOrderStep p o moment before after a) → IfOk result (λ a. clean → IsCall p moment (order o) before after (code a))
-order_answered clean p moment before after (Ok a) o step = λ taken. record { answered = ap code (step taken).answered; left = (step taken).left }
-order_answered clean p moment before after (Err e) o step = tt
+-- a command is a step of the rules, and so it is isolated
+pub command_isolated : (p : PolicyRules) (r : ℕ) (c : Command) (moment : ℕ) (result : Result Reply Fault) (old new : BookState) → IsSound p → nat_lt last_call moment ≡ false
+    → IfOk result (λ it. Steps p r c moment it old new) → IfOk result (λ it. Isolates p r c moment it old new)
+command_isolated p r c moment (Ok it) old new sound early steps = λ clean.
+    isolated p sound r c moment (in_time moment early) old.content.registry new.content.registry it (steps clean).answered (steps clean).left
+command_isolated p r c moment (Err fault) old new sound early steps = tt
 
-pub greeting_answered : {E : Type 0} (clean : Type 0) (p : PolicyRules) (moment : ℕ) (before after : Registry) (result : Result ℕ E)
-    → IfOk result (λ a. clean → IsGreetingStep p moment before after a) → IfOk result (λ a. clean → IsCall p moment date before after (dated a))
-greeting_answered clean p moment before after (Ok a) step = λ taken. record { answered = ap dated (step taken).dated; left = (step taken).left }
-greeting_answered clean p moment before after (Err e) step = tt
+module _ (p : PolicyRules) (moment : ℕ) (after : PolicyRules) (old new : BookState) (sound : IsSound p) (early : nat_lt last_call moment ≡ false)
+    (held : old.is_clean ≡ true → old.content.terms ≡ Some (terms_of p)) where
+  pub command_kept : (r : ℕ) (c : Command) (result : Result Reply Fault) → IsRegistrar p r → CanBeAsked c → StepKeeps p (Makes (IsStep p r c moment)) result after old new
+      → IfOk result (λ it. Steps p r c moment it old new) → CallKeeps p moment (command r c) reply (Makes (IsStep p r c moment)) result after old new
+  command_kept r c result place askable keeps steps = call_kept p sound moment (in_time moment early) (command r c) (place, askable) reply (IsStep p r c moment)
+      result after old new (λ it step. record { answered = ap reply step.answered; left = step.left }) held keeps steps
 
-pub settlement_answered : {E : Type 0} (clean : Type 0) (p : PolicyRules) (moment : ℕ) (before after : Registry) (result : Result ℕ E) (at_most : ℕ)
-    → IfOk result (λ done. clean → IsSettlement p moment at_most before after done) → IfOk result (λ done. clean → IsCall p moment look_up before after (shown (public_part p (lapsed p moment before))))
-settlement_answered clean p moment before after (Ok done) at_most step = λ taken. record {
-  answered = refl;
-  left = (step taken).unnoticed ∙ sym (lapses-on p (max moment before.clock) (max moment before.clock) (omega arith) before);
-}
-settlement_answered clean p moment before after (Err e) at_most step = tt
+  pub order_kept : (o : Order) (result : Result Code Fault) → StepKeeps p (Makes (IsOrderStep p o moment)) result after old new
+      → IfOk result (λ it. OrderSteps p o moment it old new) → CallKeeps p moment (order o) code (Makes (IsOrderStep p o moment)) result after old new
+  order_kept o result keeps steps = call_kept p sound moment (in_time moment early) (order o) tt code (IsOrderStep p o moment)
+      result after old new (λ it step. record { answered = ap code step.answered; left = step.left }) held keeps steps
 
-pub look_up_answered : {E X : Type 0} (lapses : ℕ → Registry → Registry) (clean : Type 0) (p : PolicyRules) (moment : ℕ) (before after : Registry) (result : Result X E) (find : Registry → X)
-    → IfOk result (λ found. clean → IsLookUp p find lapses moment before after found) → IfOk result (λ found. clean → IsCall p moment look_up before after (shown (public_part p (lapsed p moment before))))
-look_up_answered lapses clean p moment before after (Ok found) find step = λ taken. record { answered = refl; left = (step taken).left }
-look_up_answered lapses clean p moment before after (Err e) find step = tt
+  pub greeting_kept : (result : Result ℕ Fault) → StepKeeps p (Makes (IsGreetingStep p moment)) result after old new
+      → IfOk result (λ it. Greets p moment it old new) → CallKeeps p moment date dated (Makes (IsGreetingStep p moment)) result after old new
+  greeting_kept result keeps steps = call_kept p sound moment (in_time moment early) date tt dated (IsGreetingStep p moment)
+      result after old new (λ it step. record { answered = ap dated step.dated; left = step.left }) held keeps steps
+
+  pub settlement_kept : (at_most : ℕ) (result : Result ℕ Fault) → StepKeeps p (Makes (IsSettlement p moment at_most)) result after old new
+      → IfOk result (λ it. Settles p moment at_most it old new) → LooksUpKeeping p moment (Makes (IsSettlement p moment at_most)) result after old new
+  settlement_kept at_most result keeps steps =
+      let s : Registry = old.content.registry in
+      let u : ℕ = max moment s.clock in
+      call_kept p sound moment (in_time moment early) look_up tt (λ it. shown (public_part p (lapsed p moment s))) (IsSettlement p moment at_most)
+      result after old new (λ it step. record { answered = refl; left = step.unnoticed ∙ sym (lapses-on p u u (omega arith) s) }) held keeps steps
+
+  pub look_up_kept : {X : Type 0} (find : Registry → X) (lapsing : ℕ → Registry → Registry) (result : Result X Fault) → StepKeeps p (Makes (IsLookUp p find lapsing moment)) result after old new
+      → IfOk result (λ it. LooksUp p find lapsing moment it old new) → LooksUpKeeping p moment (Makes (IsLookUp p find lapsing moment)) result after old new
+  look_up_kept find lapsing result keeps steps =
+      call_kept p sound moment (in_time moment early) look_up tt (λ it. shown (public_part p (lapsed p moment old.content.registry))) (IsLookUp p find lapsing moment)
+      result after old new (λ it step. record { answered = refl; left = step.left }) held keeps steps

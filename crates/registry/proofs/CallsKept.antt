@@ -9,8 +9,6 @@ use Rattle.policy.specs.Rules.{PolicyRules, IsRegistrar, IsSound}
 use Rattle.policy.specs.Terms.{terms_of}
 use Rattle.isolation.specs.Runs.{Answer, IsCall, Question, command, date, inspection, look_up, order}
 use Rattle.isolation.proofs.RunLemmas.{calls-are-steps-of-two}
-use Rattle.protocol.specs.declared.command.Command.{Command}
-use Rattle.protocol.specs.declared.order.Order.{Order}
 use Rattle.registry.specs.declared.fault.Fault.{Fault}
 use Rattle.registry.specs.declared.fault.Fault.TheVariants as faults
 use Rattle.registry.specs.Calls.{CallKeeps, StepKeeps}
@@ -18,7 +16,7 @@ use Rattle.registry.specs.Crashes.{GivesUpTo, Makes}
 use Rattle.registry.specs.Faults.{of_book}
 use Rattle.registry.specs.inner.Steps.{KeepsStep}
 use Rattle.registry.specs.Money.{CallKeepsMoney}
-use Rattle.registry.specs.WellFormed.{CallKeepsWellFormed, KeepsWellFormed, StaysWellFormed}
+use Rattle.registry.specs.WellFormed.{CallKeepsWellFormed}
 use Rattle.decisions.specs.Askable.{CanBeAsked}
 use Rattle.decisions.specs.Orders.{order_effect}
 use Rattle.decisions.specs.Steps.{effect}
@@ -29,21 +27,6 @@ use Rattle.books.specs.Book.{BookStarts, BookState, BookStays, Follows, LeavesOl
 use Rattle.states.specs.declared.fault.BookFault.{BookFault}
 use Rattle.states.specs.declared.fault.BookFault.TheVariants.{Memory, Store}
 use Rattle.registry.proofs.CrashLemmas.{gave_up_by, later}
-
--- ---- a well formed registry
-
-stays : (p : PolicyRules) → IsSound p → (r : ℕ) (c : Command) (moment : ℕ) → moment ≤ last_clock → (before after : Registry) → IsRegistrar p r → CanBeAsked c → now p after ≡ now p (effect p r c (lapsed p moment before)) → StaysWellFormed p r before after
-stays p sound r c moment early before after place few left is small =
-    let passed : Registry = lapsed p moment before in
-    subst (IsRegistry p) (sym left) (registry-now p (effect p r c passed) (registry-effect p sound r c passed place (registry-lapsed p moment before early is) (lapsed-is-settled p (max moment before.clock) before) (omega (arith, small, serial-lapsed p moment r before)) few))
-
-keeps-after-order : (p : PolicyRules) (o : Order) (moment : ℕ) → moment ≤ last_clock → (before after : Registry) → now p after ≡ now p (order_effect p o (lapsed p moment before)) → KeepsWellFormed p before after
-keeps-after-order p o moment early before after left is =
-    let passed : Registry = lapsed p moment before in
-    subst (IsRegistry p) (sym left) (registry-now p (order_effect p o passed) (registry-order p o passed (registry-lapsed p moment before early is)))
-
-keeps-in-time : (p : PolicyRules) (moment : ℕ) → moment ≤ last_clock → (before after : Registry) → now p after ≡ now p (lapsed p moment before) → KeepsWellFormed p before after
-keeps-in-time p moment early before after left is = subst (IsRegistry p) (sym left) (registry-now p (lapsed p moment before) (registry-lapsed p moment before early is))
 
 -- ---- refusals stay counted
 
@@ -64,12 +47,23 @@ MayAsk p look_up = Unit {0}
 MayAsk p inspection = Unit {0}
 
 module _ (p : PolicyRules) (sound : IsSound p) (moment : ℕ) (early : moment ≤ last_clock) where
+  -- what a call finds is well formed
+  found : (before : Registry) → IsRegistry p (now p before) → IsRegistry p (lapsed p moment before)
+  found before was = registry-lapsed p moment before early was
+
+  -- and so by now is what it leaves, where that is well formed at the moment
+  by-now : (u after : Registry) → now p after ≡ now p u → IsRegistry p u → IsRegistry p (now p after)
+  by-now u after left is = subst (IsRegistry p) (sym left) (registry-now p u is)
+
   pub formed : (x : Question) → MayAsk p x → (before after : Registry) (a : Answer) → IsCall p moment x before after a → CallKeepsWellFormed p x before after
-  formed (command r c) may before after a is = stays p sound r c moment early before after may.0 may.1 is.left
-  formed (order o) may before after a is = keeps-after-order p o moment early before after is.left
-  formed date may before after a is = keeps-in-time p moment early before after is.left
-  formed look_up may before after a is = keeps-in-time p moment early before after is.left
-  formed inspection may before after a is = keeps-in-time p moment early before after is.left
+  formed (command r c) may before after a is = λ was small.
+      let passed : Registry = lapsed p moment before in
+      by-now (effect p r c passed) after is.left (registry-effect p sound r c passed may.0 (found before was) (lapsed-is-settled p (max moment before.clock) before)
+      (omega (arith, small, serial-lapsed p moment r before)) may.1)
+  formed (order o) may before after a is = λ was. by-now (order_effect p o (lapsed p moment before)) after is.left (registry-order p o (lapsed p moment before) (found before was))
+  formed date may before after a is = λ was. by-now (lapsed p moment before) after is.left (found before was)
+  formed look_up may before after a is = λ was. by-now (lapsed p moment before) after is.left (found before was)
+  formed inspection may before after a is = λ was. by-now (lapsed p moment before) after is.left (found before was)
 
   -- ---- money
 
@@ -82,22 +76,23 @@ module _ (p : PolicyRules) (sound : IsSound p) (moment : ℕ) (early : moment �
 
   -- ---- all of it
 
-  pub call_kept : {A : Type 0} (x : Question) → MayAsk p x → (as_answer : A → Answer) (makes : Stored → Stored → Type 0) (result : Result A Fault) (after : PolicyRules) (old new : BookState)
-      → (old.is_clean ≡ true → old.content.terms ≡ Some (terms_of p)) → StepKeeps p makes result after old new
-      → IfOk result (λ it. new.is_clean ≡ true → IsCall p moment x old.content.registry new.content.registry (as_answer it)) → CallKeeps p moment x as_answer makes result after old new
-  call_kept x may as_answer makes (Ok it) after old new held step is = record {
-    policy = step.policy;
-    follows = step.follows;
-    crash = step.crash;
+  pub call_kept : {A : Type 0} (x : Question) → MayAsk p x → (as_answer : A → Answer) (step : Registry → Registry → A → Type 0) (result : Result A Fault) (after : PolicyRules) (old new : BookState)
+      → ((it : A) → step old.content.registry new.content.registry it → IsCall p moment x old.content.registry new.content.registry (as_answer it))
+      → (old.is_clean ≡ true → old.content.terms ≡ Some (terms_of p)) → StepKeeps p (Makes step) result after old new
+      → IfOk result (λ it. new.is_clean ≡ true → step old.content.registry new.content.registry it) → CallKeeps p moment x as_answer (Makes step) result after old new
+  call_kept x may as_answer step (Ok it) after old new answers held keeps steps = record {
+    policy = keeps.policy;
+    follows = keeps.follows;
+    crash = keeps.crash;
     answered = record {
-      terms = step.terms;
-      has_terms = λ clean. step.terms clean ∙ held (step.follows.clean clean);
-      well_formed = λ clean. formed x may old.content.registry new.content.registry (as_answer it) (is clean);
-      money = λ clean. paid x old.content.registry new.content.registry (as_answer it) (is clean);
-      two_runs = λ clean. calls-are-steps-of-two p moment x old.content.registry new.content.registry (as_answer it) (is clean).answered (is clean).left;
+      terms = keeps.terms;
+      has_terms = λ clean. keeps.terms clean ∙ held (keeps.follows.clean clean);
+      well_formed = λ clean. formed x may old.content.registry new.content.registry (as_answer it) (answers it (steps clean));
+      money = λ clean. paid x old.content.registry new.content.registry (as_answer it) (answers it (steps clean));
+      two_runs = λ clean. let is = answers it (steps clean) in calls-are-steps-of-two p moment x old.content.registry new.content.registry (as_answer it) is.answered is.left;
     };
   }
-  call_kept x may as_answer makes (Err fault) after old new held step is = record { policy = step.policy; follows = step.follows; crash = step.crash; answered = tt }
+  call_kept x may as_answer step (Err fault) after old new answers held keeps steps = record { policy = keeps.policy; follows = keeps.follows; crash = keeps.crash; answered = tt }
 
 -- one that comes too late does nothing
 pub kept_late : {A : Type 0} (p : PolicyRules) (moment : ℕ) (x : Question) (as_answer : A → Answer) (makes : Stored → Stored → Type 0) (s : BookState) → CallKeeps p moment x as_answer makes (Err faults.Moment) p s s

@@ -45,9 +45,6 @@ pub ruleset leaving = (left_alone, gave_up, kept_alone, kept_or_not)
 
 -- ---- a call that nothing but a look came before
 
-older : (old mid new : BookState) → BookLeavesSame old mid → LeavesOld mid new → LeavesOld old new
-older old mid new same then = λ left may. left_alone old mid same left (then left may)
-
 pub later : (makes : Stored → Stored → Type 0) (old mid new : BookState) → Follows old mid
     → BookLeavesSame old mid → (mid.is_clean ≡ true → mid.content ≡ old.content)
     → LeavesOldOrMade makes mid new → LeavesOldOrMade makes old new
@@ -57,8 +54,8 @@ later makes old mid new follows same content then = λ left may.
 pub refused_later : (fault : OpenFault) (p : PolicyRules) (old mid new : BookState)
     → Follows old mid → BookLeavesSame old mid → (mid.is_clean ≡ true → mid.content ≡ old.content)
     → RefusedTo fault p mid new → RefusedTo fault p old new
-refused_later refusals.Policy p old mid new follows same content then = older old mid new same then
-refused_later refusals.Schema p old mid new follows same content then = older old mid new same then
+refused_later refusals.Policy p old mid new follows same content then = λ left may. left_alone old mid same left (then left may)
+refused_later refusals.Schema p old mid new follows same content then = λ left may. left_alone old mid same left (then left may)
 refused_later refusals.Memory p old mid new follows same content then =
     later (OpensTo p) old mid new follows same content then
 refused_later refusals.Store p old mid new follows same content then =

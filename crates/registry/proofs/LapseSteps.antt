@@ -11,7 +11,7 @@ use Rattle.lifecycle.specs.Lapse.{lapse as lapse_domain, lapse_contact}
 use Rattle.model.specs.declared.object.Object.{Object}
 use Rattle.model.specs.declared.object.Object.TheVariants as objects
 use Rattle.model.specs.Objects.{object_at}
-use Rattle.model.specs.Lapse.{accounts_at, at, lapse, now, with_contact_lapsed, with_domain_lapsed}
+use Rattle.model.specs.Lapse.{at, now, with_contact_lapsed, with_domain_lapsed}
 use Rattle.model.specs.Registry.{Registry}
 use Rattle.objects.specs.declared.contact.Contact.{Contact}
 use Rattle.objects.specs.declared.domain.Domain.{Domain}
@@ -90,11 +90,6 @@ lapsed-more p t postings more due left all old mid new was it = record {
 
 -- ---- a settlement
 
--- what a registry becomes doesn't hang on where its clock stood
-pub same-lapse : (p : PolicyRules) (u : ℕ) (s : Registry) → lapse p u (at u s) ≡ lapse p u s
-unfolding accounts_at
-same-lapse p u s = refl
-
 -- to count so many at most of the first so many is to count so many at most of all
 first-counted : (n : ℕ) (ds : List Due) → min n (length (take n ds)) ≡ min n (length ds)
 first-counted n ds = omega (arith, length-take n ds)
@@ -136,6 +131,5 @@ settled p moment at_most clock count due old moved listed new first found counte
           counted = counted ∙ ap (λ (ds : List Due). min at_most (length ds)) due-is
               ∙ first-counted at_most (due_by p u s);
           left = left;
-          unnoticed = ap (now p) left ∙ some-lapsed p u (take at_most (due_by p u s)) (at u s) refl
-              ∙ same-lapse p u s;
+          unnoticed = ap (now p) left ∙ some-lapsed p u (take at_most (due_by p u s)) s;
         }

@@ -1,4 +1,3 @@
-pub mod Isolations
 pub mod OpeningLemmas
 pub mod OpenedLemmas
 pub mod StepLemmas
@@ -10,4 +9,3 @@ pub mod Answering
 pub mod CallsKept
 pub mod PassingSteps
 pub mod PublicLemmas
-mod CallLemmas

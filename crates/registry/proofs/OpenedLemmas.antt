@@ -23,7 +23,7 @@ use Rattle.registry.specs.Opening.{KeepsLengths, Opens, OpensAsItWas, continues_
 use Rattle.registry.specs.WellFormed.{HoldsRegistry, OpensWellFormed}
 use Rattle.decisions.specs.declared.change.Change.{Change}
 use Rattle.decisions.specs.declared.change.Change.TheVariants.{OpenAccount}
-use Rattle.decisions.specs.Changes.{changed, changed_all, itself, with_account}
+use Rattle.decisions.specs.Changes.{changed, changed_all, itself}
 use Rattle.decisions.proofs.GrowthLemmas.{Grows}
 use Rattle.decisions.proofs.KeepingLemmas.{kept-grown, placed}
 use Rattle.decisions.proofs.LineKeepingLemmas.{lines-domains}
@@ -35,30 +35,33 @@ use Rattle.model.specs.Lapse.{accounts_at, now, postings}
 use Rattle.model.specs.Registry.{Registry, account_of, blank}
 use Rattle.model.proofs.TermsLemmas.{AgreeUntil, same-lapse}
 use Rattle.model.specs.Shapes.{HasShapes}
-use Rattle.model.specs.WellFormed.{HasCome, HasLines, HasMessages, HasObjects, IsLineOf, IsRegistry}
+use Rattle.model.specs.WellFormed.{HasCome, IsLineOf, IsRegistry}
 
 -- ---- the accounts, once those of the first n registrars are open
 
-accounts-after : ℕ → Registry → FinMap nat_cmp Account
-accounts-after zero s = s.accounts
-accounts-after (suc n) s = (with_account (suc n) itself (record s { accounts = accounts-after n s })).accounts
+accounts-after : ℕ → FinMap nat_cmp Account → FinMap nat_cmp Account
+accounts-after zero m = m
+accounts-after (suc n) m = change_at empty_account (suc n) itself (accounts-after n m)
+
+abbrev with-opened : ℕ → Registry → Registry
+with-opened n s = record s { accounts = accounts-after n s.accounts }
 
 changed_all-push : (p : PolicyRules) (changes : List Change) (change : Change) (s : Registry) → changed_all p (changes ++ change ∷ []) s ≡ changed p change (changed_all p changes s)
 changed_all-push p [] change s = refl
 changed_all-push p (first ∷ changes) change s = changed_all-push p changes change (changed p first s)
 
-changed-openings : (p : PolicyRules) (n : ℕ) (s : Registry) → changed_all p (openings n) s ≡ record s { accounts = accounts-after n s }
+changed-openings : (p : PolicyRules) (n : ℕ) (s : Registry) → changed_all p (openings n) s ≡ with-opened n s
 unfolding openings accounts-after
 changed-openings p zero s = refl
 changed-openings p (suc n) s = changed_all-push p (openings n) (OpenAccount (suc n)) s ∙ ap (λ (t : Registry). changed p (OpenAccount (suc n)) t) (changed-openings p n s)
 
 -- each account that was there is as it was
-same-account : (n r : ℕ) (s : Registry) → account_of r (record s { accounts = accounts-after n s }) ≡ account_of r s
+same-account : (n r : ℕ) (s : Registry) → account_of r (with-opened n s) ≡ account_of r s
 unfolding accounts-after
 same-account zero r s = refl
-same-account (suc n) r s = account_of-with_account r (suc n) itself (record s { accounts = accounts-after n s }) ∙ by (eq_by_cmp nat_cmp r (suc n)) ∙ same-account n r s
+same-account (suc n) r s = account_of-with_account r (suc n) itself (with-opened n s) ∙ by (eq_by_cmp nat_cmp r (suc n)) ∙ same-account n r s
   where
-    by : (b : Bool) → (let a : Account = account_of r (record s { accounts = accounts-after n s }) in cond b (itself a) a ≡ a)
+    by : (b : Bool) → (let a : Account = account_of r (with-opened n s) in cond b (itself a) a ≡ a)
     by true = refl
     by false = refl
 
@@ -70,33 +73,27 @@ opened-posted (e ∷ es) accounts r =
     ap (λ (m : FinMap nat_cmp Account). fold posted m es) (change_at-commutes nat_cmp nat_cmp_total nat_cmp-IsAntisymmetric empty_account accounts e.registrar r (entered e.what) itself (λ same a. refl))
     ∙ opened-posted es (posted accounts e) r
 
-accounts-after-posted : (n : ℕ) (es : List Posting) (s : Registry) → fold posted (accounts-after n s) es ≡ accounts-after n (record s { accounts = fold posted s.accounts es })
+accounts-after-posted : (n : ℕ) (es : List Posting) (m : FinMap nat_cmp Account) → fold posted (accounts-after n m) es ≡ accounts-after n (fold posted m es)
 unfolding accounts-after
-accounts-after-posted zero es s = refl
-accounts-after-posted (suc n) es s = opened-posted es (accounts-after n s) (suc n) ∙ ap (λ (m : FinMap nat_cmp Account). change_at empty_account (suc n) itself m) (accounts-after-posted n es s)
-
--- accounts alone matter
-accounts-after-of : (n : ℕ) (s t : Registry) → s.accounts ≡ t.accounts → accounts-after n s ≡ accounts-after n t
-unfolding accounts-after
-accounts-after-of zero s t same = same
-accounts-after-of (suc n) s t same = ap (λ (m : FinMap nat_cmp Account). change_at empty_account (suc n) itself m) (accounts-after-of n s t same)
+accounts-after-posted zero es m = refl
+accounts-after-posted (suc n) es m = opened-posted es (accounts-after n m) (suc n) ∙ ap (λ (m : FinMap nat_cmp Account). change_at empty_account (suc n) itself m) (accounts-after-posted n es m)
 
 pub now-opened : (p : PolicyRules) (n : ℕ) (s : Registry) → now p (changed_all p (openings n) s) ≡ changed_all p (openings n) (now p s)
 unfolding accounts_at
 now-opened p n s =
     let es : List Posting = postings (λ name. lapse_contact s.clock) (λ name. lapse p s.clock) s in
     ap (now p) (changed-openings p n s)
-    ∙ (λ i. record (now p s) { accounts = (accounts-after-posted n es s ∙ accounts-after-of n (record s { accounts = fold posted s.accounts es }) (now p s) refl) i })
+    ∙ ap (λ (m : FinMap nat_cmp Account). record (now p s) { accounts = m }) (accounts-after-posted n es s.accounts)
     ∙ sym (changed-openings p n (now p s))
 
 -- ---- whose accounts there are
 
-places-after : (n r : ℕ) (s : Registry) → IsSome (get (accounts-after n s) r) ↔ (IsSome (get s.accounts r) ⊎ ((1 ≤ r) × (r ≤ n)))
+places-after : (n r : ℕ) (m : FinMap nat_cmp Account) → IsSome (get (accounts-after n m) r) ↔ (IsSome (get m r) ⊎ ((1 ≤ r) × (r ≤ n)))
 unfolding accounts-after
-places-after zero r s = (λ there. inl there, ⊎_elim (λ there. there) (λ place. absurd (omega (arith, place.0, place.1))))
-places-after (suc n) r s =
-    let put = placed (accounts-after n s) (suc n) (account_of (suc n) (record s { accounts = accounts-after n s })) r in
-    let before = places-after n r s in (
+places-after zero r m = (λ there. inl there, ⊎_elim (λ there. there) (λ place. absurd (omega (arith, place.0, place.1))))
+places-after (suc n) r m =
+    let put = placed (accounts-after n m) (suc n) (unwrap_or (get (accounts-after n m) (suc n)) empty_account) r in
+    let before = places-after n r m in (
       λ there. ⊎_elim (λ same. inr (omega (arith, same), omega (arith, same))) (λ old. ⊎_elim (λ was. inl was) (λ place. inr (place.0, omega (arith, place.1))) (before.0 old)) (put.0 there),
       λ which. ⊎_elim (λ was. put.1 (inr (before.1 (inl was)))) (λ place. ⊎_elim (λ first. put.1 (inr (before.1 (inr (place.0, first))))) (λ same. put.1 (inl same)) (last place.1)) which,
     )
@@ -109,19 +106,20 @@ places-after (suc n) r s =
 kept-opened : (p q : PolicyRules) (s : Registry) → q.zone ≡ p.zone → length q.ids ≤ length p.ids → IsRegistry q s → IsRegistry p (changed_all p (openings (length p.ids)) s)
 kept-opened p q s zone more is =
     let n : ℕ = length p.ids in
-    let grows : Grows q p s (record s { accounts = accounts-after n s }) = record {
+    let t : Registry = with-opened n s in
+    let grows : Grows q p s t = record {
       zone = zone;
       place = λ r place. (place.0, omega (arith, place.1, more));
       clock = omega arith;
       serial = λ r. omega (arith, ap (λ (a : Account). a.serial) (same-account n r s));
     } in
-    let places : (r : ℕ) → IsSome (get (accounts-after n s) r) ↔ IsRegistrar p r = λ r.
-    (λ there. ⊎_elim (λ was. grows.place r ((is.objects.identities.accounts r).0 was)) (λ place. place) ((places-after n r s).0 there), λ place. (places-after n r s).1 (inr place)) in
-    let t : Registry = record s { accounts = accounts-after n s } in
+    let places : (r : ℕ) → IsSome (get t.accounts r) ↔ IsRegistrar p r = λ r.
+    let whose = places-after n r s.accounts in
+    (λ there. ⊎_elim (λ was. grows.place r ((is.objects.identities.accounts r).0 was)) (λ place. place) (whose.0 there), λ place. whose.1 (inr place)) in
     let of_q : HasShapes q.zone t = record { domains = is.shapes.domains; hosts = is.shapes.hosts } in
     subst (IsRegistry p) (sym (changed-openings p n s)) (record {
       clock = is.clock;
-      objects = kept-grown q p s (accounts-after n s) s.clock grows places is.objects;
+      objects = kept-grown q p s t.accounts s.clock grows places is.objects;
       lines = lines-domains q p s t grows (λ r. ap (λ (a : Account). a.lines) (same-account n r s)) is.lines.domains is.lines;
       messages = λ r. subst (λ (a : Account). All (HasCome s.clock) a.queue) (sym (same-account n r s)) (is.messages r);
       shapes = subst (λ (z : ZoneRules). HasShapes z t) zone of_q;
@@ -132,42 +130,40 @@ kept-opened p q s zone more is =
 abbrev without_registrars : PolicyRules → PolicyRules
 without_registrars p = record p { ids = [] }
 
-nothing-at : {K X : Type 0} (R : K → K → Ordering) (k : K) (x : X) → get (empty {X = X} {R = R}) k ≡ Some x → ⊥
-nothing-at R k x at = let never : None ≡ Some x = sym (get-empty R k) ∙ at in cc
+nothing-at : {K X A : Type 0} (R : K → K → Ordering) (k : K) (x : X) → get (empty {X = X} {R = R}) k ≡ Some x → A
+nothing-at R k x at = let never : None ≡ Some x = sym (get-empty R k) ∙ at in absurd cc
 
-nobody-there : (r : ℕ) → IsSome (get blank.accounts r) → ⊥
-nobody-there r there = let never : false ≡ true = sym (ap is_some (get-empty nat_cmp r)) ∙ there in cc
-
-no-objects : (p : PolicyRules) → HasObjects (without_registrars p) blank
-no-objects p = record {
-  identities = record {
-    accounts = λ r. (λ there. absurd (nobody-there r there), λ place. absurd (omega (arith, place.0, place.1)));
-    contact_roids = λ a b x y at-a at-b same. absurd (nothing-at (slice_cmp nat_cmp) a x at-a);
-    host_roids = λ a b x y at-a at-b same. absurd (nothing-at (slice_cmp nat_cmp) a x at-a);
-    domain_roids = λ a b x y at-a at-b same. absurd (nothing-at (slice_cmp nat_cmp) a x at-a);
-  };
-  contacts = λ name c at. absurd (nothing-at (slice_cmp nat_cmp) name c at);
-  hosts = λ name h at. absurd (nothing-at (slice_cmp nat_cmp) name h at);
-  domains = λ name d at. absurd (nothing-at (slice_cmp nat_cmp) name d at);
-}
-
--- no account, and so no line
-no-lines : (p : PolicyRules) → HasLines (without_registrars p) blank
-no-lines p = record {
-  each = λ r. subst (λ (o : Option Account). All (IsLineOf (without_registrars p) blank) (unwrap_or o empty_account).lines) (sym (get-empty nat_cmp r)) (All-nil (IsLineOf (without_registrars p) blank));
-  domains = λ name d at. absurd (nothing-at (slice_cmp nat_cmp) name d at);
-}
-
--- and no message
-no-messages : HasMessages blank
-no-messages r = subst (λ (o : Option Account). All (HasCome blank.clock) (unwrap_or o empty_account).queue) (sym (get-empty nat_cmp r)) (All-nil (HasCome blank.clock))
-
--- no object, and so no shape
-no-shapes : (zone : ZoneRules) → HasShapes zone blank
-no-shapes zone = record { domains = λ name d at. absurd (nothing-at (slice_cmp nat_cmp) name d at); hosts = λ name h at. absurd (nothing-at (slice_cmp nat_cmp) name h at) }
-
+-- no account, no object, and so no line, no message and no shape
 blank-is : (p : PolicyRules) → IsRegistry (without_registrars p) blank
-blank-is p = record { clock = omega arith; objects = no-objects p; lines = no-lines p; messages = no-messages; shapes = no-shapes p.zone }
+blank-is p = record {
+  clock = omega arith;
+  objects = record {
+    identities = record {
+      accounts = λ r. (λ there. absurd (nobody r there), λ place. absurd (omega (arith, place.0, place.1)));
+      contact_roids = λ a b x y at-a at-b same. nothing-at (slice_cmp nat_cmp) a x at-a;
+      host_roids = λ a b x y at-a at-b same. nothing-at (slice_cmp nat_cmp) a x at-a;
+      domain_roids = λ a b x y at-a at-b same. nothing-at (slice_cmp nat_cmp) a x at-a;
+    };
+    contacts = λ name c at. nothing-at (slice_cmp nat_cmp) name c at;
+    hosts = λ name h at. nothing-at (slice_cmp nat_cmp) name h at;
+    domains = λ name d at. nothing-at (slice_cmp nat_cmp) name d at;
+  };
+  lines = record {
+    each = λ r. of-account r (λ a. All (IsLineOf (without_registrars p) blank) a.lines) (All-nil (IsLineOf (without_registrars p) blank));
+    domains = λ name d at. nothing-at (slice_cmp nat_cmp) name d at;
+  };
+  messages = λ r. of-account r (λ a. All (HasCome blank.clock) a.queue) (All-nil (HasCome blank.clock));
+  shapes = record {
+    domains = λ name d at. nothing-at (slice_cmp nat_cmp) name d at;
+    hosts = λ name h at. nothing-at (slice_cmp nat_cmp) name h at;
+  };
+}
+  where
+    nobody : (r : ℕ) → IsSome (get blank.accounts r) → ⊥
+    nobody r there = let never : false ≡ true = sym (ap is_some (get-empty nat_cmp r)) ∙ there in cc
+
+    of-account : (r : ℕ) (P : Account → Type 0) → P empty_account → P (account_of r blank)
+    of-account r P is = subst (λ (o : Option Account). P (unwrap_or o empty_account)) (sym (get-empty nat_cmp r)) is
 
 -- ---- a book is opened
 

@@ -1,39 +1,34 @@
 -- Accounts are opened one after another, and a book once it is known to be ours.
-use Rattle.std.proofs.Common.{◌≡◌, ◌≢◌, ◌<◌, ◌⊎◌, ℕ, suc, ◌+◌, true, false, cond, Result, Ok, Err, [], ◌∷◌, ◌++◌, refl, sym, ap, subst, ◌∙◌, arith}
+use Rattle.std.proofs.Common.{◌≡◌, ◌≢◌, ℕ, suc, ◌+◌, true, false, cond, Result, Ok, Err, [], ◌∷◌, ◌++◌, refl, sym, ap, ◌∙◌, arith}
 use Rattle.policy.specs.Rules.{PolicyRules}
 use Rattle.registry.specs.declared.fault.OpenFault.{OpenFault}
 use Rattle.registry.specs.declared.fault.OpenFault.TheVariants as refusals
-use Rattle.registry.specs.Opening.{IsOthers, IsOurs, Opens, Refuses, RefusesOurs, goes_on, openings}
+use Rattle.registry.specs.Opening.{IsOthers, IsOurs, Opens, Refuses, RefusesOurs, goes_on, opened, openings}
 use Rattle.policy.specs.Terms.{terms_of}
-use Rattle.registry.specs.Opening.{opened}
 use Rattle.registry.specs.inner.Steps.{OpensAny, OpensOurs}
 use Rattle.registry.proofs.CallsKept.{begun, follows-on}
 use Rattle.registry.proofs.CrashLemmas.{refused_later}
-use Rattle.books.specs.Book.{BookFinds, BookReads, BookState, Follows, IsBack, home}
+use Rattle.registry.proofs.StepLemmas.{LeadsHome, back-later, gave-up-later}
+use Rattle.books.specs.Book.{BookFinds, BookReads, BookState, Follows}
+use Rattle.states.specs.declared.fault.BookFault.TheVariants.{Memory, Store}
 use Rattle.states.specs.declared.readiness.Ready.{Ready}
 use Rattle.states.specs.declared.readiness.Ready.TheVariants.{Other}
 use Rattle.decisions.specs.declared.change.Change.TheVariants.{OpenAccount}
 
-pub openings-zero : openings 0 ≡ []
+pub openings_zero : openings 0 ≡ []
 unfolding openings
-openings-zero = refl
+openings_zero = refl
 
-pub openings-next : (n : ℕ) → openings (n + 1) ≡ openings n ++ OpenAccount (n + 1) ∷ []
+pub openings_next : (n : ℕ) → openings (n + 1) ≡ openings n ++ OpenAccount (n + 1) ∷ []
 unfolding openings
-openings-next n = let next : n + 1 ≡ suc n = omega arith in rw next refl
+openings_next n = let next : n + 1 ≡ suc n = omega arith in rw next refl
 
 -- ---- a book that was only looked at
 
--- what it goes back to is what it was before
-home-same : (old mid : BookState) → BookReads old mid → mid.is_clean ≡ true → old.is_open ≡ false → home mid ≡ home old
-home-same old mid same clean closed =
+-- to go back leads where it led
+home-same : (old mid : BookState) → BookReads old mid → old.is_open ≡ false → LeadsHome old mid
+home-same old mid same closed clean =
     ap (λ b. cond b mid.before mid.content) (same.opened ∙ closed) ∙ same.content clean ∙ sym (ap (λ b. cond b old.before old.content) closed)
-
-back-later : (old mid new : BookState) → BookReads old mid → Follows mid new → old.is_open ≡ false → IsBack mid new → IsBack old new
-back-later old mid new same then closed back = record {
-  closed = back.closed;
-  content = λ clean. back.content clean ∙ home-same old mid same (then.clean clean) closed;
-}
 
 pub is_others : (old new : BookState) → BookReads old new → old.is_open ≡ false → (new.is_clean ≡ true → Other ≡ old.readiness) → IsOthers old new
 is_others old new same closed found = record {
@@ -55,13 +50,12 @@ refuses_later : (fault : OpenFault) (p : PolicyRules) (old mid new : BookState)
     → old.is_open ≡ false → BookReads old mid → Follows mid new → Refuses fault p mid new
     → fault ≢ refusals.Schema → Refuses fault p old new
 refuses_later refusals.Policy p old mid new closed same then refused other = record {
-  back = back-later old mid new same then closed refused.back;
+  back = back-later old mid new (home-same old mid same closed) then refused.back;
   differs = λ clean. sym (ap (goes_on (terms_of p)) (same.content (then.clean clean))) ∙ refused.differs clean;
 }
 refuses_later refusals.Schema p old mid new closed same then refused other = absurd (other refl)
-refuses_later refusals.Memory p old mid new closed same then refused other = (back-later old mid new same then closed refused.0, refused.1 ∙ same.counted)
-refuses_later refusals.Store p old mid new closed same then refused other =
-    (back-later old mid new same then closed refused.0, subst (λ n. (n < new.refused) ⊎ (new.refused ≡ 0xFFFF_FFFF_FFFF_FFFF)) same.counted refused.1)
+refuses_later refusals.Memory p old mid new closed same then refused other = gave-up-later Memory old mid new (home-same old mid same closed) same.counted refused then
+refuses_later refusals.Store p old mid new closed same then refused other = gave-up-later Store old mid new (home-same old mid same closed) same.counted refused then
 
 is_ours : (ready : Ready) (old mid new : BookState) → ready ≢ Other
     → (mid.is_clean ≡ true → ready ≡ old.readiness) → Follows mid new → IsOurs old new

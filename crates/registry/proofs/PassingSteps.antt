@@ -1,13 +1,12 @@
 -- Time passes in a transaction, with what somebody asks for.
-use Rattle.std.proofs.Common.{◌≡◌, ℕ, true, max, List, Option, Some, None, refl, sym, subst, ap, ◌∙◌, ℤ, arith}
-use Rattle.concerns.specs.declared.given.Names.{Names}
+use Rattle.std.proofs.Common.{◌≡◌, ℕ, true, max, List, Option, Some, None, Result, Ok, Err, refl, sym, subst, ap, ◌∙◌, ℤ, arith}
 use Rattle.concerns.specs.Concerns.{IsSettledIn, concerned}
 use Rattle.concerns.specs.ConcernLaws.{IsSettledFor}
 use Rattle.concerns.specs.Names.{named_by}
 use Rattle.concerns.proofs.CommandLemmas.{answer-now, effect-now}
 use Rattle.concerns.proofs.ConcernLemmas.{caught-up}
 use Rattle.concerns.proofs.OrderLemmas.{deposit-effect-now, nothing-due, status-answer-now, status-effect-now}
-use Rattle.model.specs.Lapse.{among, at, lapse, lapsed, now}
+use Rattle.model.specs.Lapse.{at, lapse, lapsed, now}
 use Rattle.facts.specs.Facts.{facts}
 use Rattle.model.specs.Registry.{Registry, account_of}
 use Rattle.model.proofs.LapseLaws.{lapses-on}
@@ -24,9 +23,8 @@ use Rattle.registry.specs.Execution.{IsGreetingStep, IsOrderStep, IsPrepared, Is
 use Rattle.registry.specs.Faces.{IsLookUp}
 use Rattle.registry.specs.Lapsing.{dues_lapsed, with_dues_lapsed}
 use Rattle.registry.specs.inner.Passing.{Extent, IsPassed, IsSettledAs, about_named, concerning, due_in, everything, lapsing, nothing, status_at}
-use Rattle.registry.specs.inner.Steps.{HasMoved, IsOrderCarriedOut, AreChangesMade, IsWithin}
-use Rattle.registry.proofs.LapseSteps.{same-lapse}
-use Rattle.registry.proofs.LapsingLemmas.{all-lapsed, each-as-some, has-concerned, objects_of, some-lapsed}
+use Rattle.registry.specs.inner.Steps.{HasMoved, IsOrderCarriedOut, AreChangesMade, IsWithin, Works}
+use Rattle.registry.proofs.LapsingLemmas.{all-lapsed, chosen, each-as-some, has-concerned, some-lapsed}
 use Rattle.registry.proofs.StepLemmas.{within-on, written}
 use Rattle.decisions.specs.Changes.{changed_all}
 use Rattle.decisions.specs.Decisions.{decided}
@@ -34,8 +32,8 @@ use Rattle.decisions.specs.Orders.{deposit_decision, order_answer, order_effect}
 use Rattle.decisions.specs.Steps.{answer, effect, reply_of}
 use Rattle.lifecycle.specs.declared.due_object.Due.{Due}
 use Rattle.books.specs.Book.{BookState, BookStays, BookWrites, Stored}
+use Rattle.states.specs.declared.fault.BookFault.{BookFault}
 use Rattle.concerns.specs.DueFor.{due_for}
-use Rattle.model.specs.DueBy.{due_by}
 
 -- ---- of a registry
 
@@ -59,49 +57,28 @@ module _ (p : PolicyRules) (moment : ℕ) (before : Registry) where
   abbrev u : ℕ
   u = max moment before.clock
 
-  -- what concerns the registrar and the names has lapsed
-  passed-for : (r : Option ℕ) (g : Names) → IsPassed p (concerning r g) moment before
-      (dues_lapsed p u (due_for p r g u (at u before)) (at u before)) u
-  passed-for r g =
-      let asked : List Due = due_for p r g u (at u before) in
-      record {
-        answer_is = refl;
-        clock = ap (λ (s : Registry). s.clock) (each-as-some p u asked (at u before));
-        settled = subst (λ (s : Registry). IsSettledIn p (concerned r g s) s)
-            (sym (each-as-some p u asked (at u before)))
-            (caught-up p r g u (among (objects_of asked)) (at u before)
-            (has-concerned p r g u (at u before)));
-        future = some-lapsed p u asked (at u before) refl ∙ same-lapse p u before;
-        waits = refl;
-      }
+  abbrev ahead : Registry
+  ahead = at u before
 
-  -- or all that is due has
-  passed-all : (after : Registry) → after ≡ lapsed p moment before
-      → after ≡ with_lapsed p (due_by p) moment before
-      → IsPassed p everything moment before after u
-  passed-all after is waits =
-      let future : now p after ≡ lapsed p moment before = ap (now p) is
-      ∙ now-lapsed p moment before in
-      record {
-        answer_is = refl;
-        clock = ap (λ (s : Registry). s.clock) is;
-        settled = future ∙ sym is;
-        future = future;
-        waits = waits;
-      }
+  -- nothing of what was to lapse is due afterwards
+  settles : (what : Extent) → IsSettledAs p what (dues_lapsed p u (due_in p what u ahead) ahead)
+  settles nothing = nothing-due p ahead
+  settles (concerning r g) =
+      let asked : List Due = due_for p r g u ahead in
+      subst (λ (s : Registry). IsSettledIn p (concerned r g s) s) (sym (each-as-some p u asked ahead))
+      (caught-up p r g u (chosen asked) ahead (has-concerned p r g u ahead))
+  settles everything =
+      let is = all-lapsed p u before in ap (now p) is ∙ now-lapsed p moment before ∙ sym is
 
   passed : (what : Extent) → IsPassed p what moment before
-      (dues_lapsed p u (due_in p what u (at u before)) (at u before)) u
-  passed nothing = record {
+      (dues_lapsed p u (due_in p what u ahead) ahead) u
+  passed what = record {
     answer_is = refl;
-    clock = refl;
-    settled = nothing-due p (at u before);
-    future = same-lapse p u before;
+    clock = ap (λ (s : Registry). s.clock) (each-as-some p u (due_in p what u ahead) ahead);
+    settled = settles what;
+    future = some-lapsed p u (due_in p what u ahead) before;
     waits = refl;
   }
-  passed (concerning r g) = passed-for r g
-  passed everything = passed-all (dues_lapsed p u (due_by p u (at u before)) (at u before))
-      (all-lapsed p u (at u before) refl ∙ same-lapse p u before) refl
 
 -- ---- of a book
 
@@ -131,12 +108,7 @@ passes p what moment clock old mid new moved lapses = (
         ap (λ (held : Stored). held.registry) (lapses.0.content clean)
         ∙ (λ i. dues_lapsed p (is.answer_is i) (due_in p what (is.answer_is i) (is.left i)) (is.left i))
         in
-        subst (λ (after : Registry). IsPassed p what moment s after clock) (sym left)
-        (subst (λ (date : ℕ). IsPassed p what moment s
-        (dues_lapsed p (max moment s.clock)
-        (due_in p what (max moment s.clock) (at (max moment s.clock) s))
-        (at (max moment s.clock) s)) date) (sym is.answer_is)
-        (passed p moment s what))
+        rw left (rw is.answer_is (passed p moment s what))
 
 -- ---- commands
 
@@ -183,17 +155,15 @@ ordered p o moment clock name before mid after code named is made =
     let settled : IsSettledFor p o.kind (name_ordered p.zone o) mid = subst
     (λ (n : Option (List ℕ)). IsSettledFor p o.kind n mid) named
     (settled-for p o.kind name mid is.settled) in
+    let left : after ≡ order_effect p (orders.Status o) mid =
+    made.left ∙ ap (λ (n : Option (List ℕ)). changed_all p (status_at o n mid).changes mid) named in
     record {
       answered = made.answer_is ∙ ap (λ (n : Option (List ℕ)). (status_at o n mid).code) named
           ∙ sym (status-answer-now p o mid settled)
           ∙ ap (order_answer p (orders.Status o)) is.future;
-      left = ap (now p) (made.left
-          ∙ ap (λ (n : Option (List ℕ)). changed_all p (status_at o n mid).changes mid) named)
-          ∙ status-effect-now p o mid settled
+      left = ap (now p) left ∙ status-effect-now p o mid settled
           ∙ ap (λ (u : Registry). now p (order_effect p (orders.Status o) u)) is.future;
-      waits = made.left
-          ∙ ap (λ (n : Option (List ℕ)). changed_all p (status_at o n mid).changes mid) named
-          ∙ ap (order_effect p (orders.Status o)) (is.waits
+      waits = left ∙ ap (order_effect p (orders.Status o)) (is.waits
           ∙ (λ i. with_lapsed p (λ t s. due-named p o.kind (named i) t s i) moment before));
     }
 
@@ -201,26 +171,25 @@ pub deposited : (p : PolicyRules) (id : List ℕ) (cents : ℤ) (moment clock : 
     (before mid after : Registry) (code : Code) → IsPassed p nothing moment before mid clock
     → IsOrderCarriedOut p (deposit_decision p clock id cents) mid after code
     → IsOrderStep p (orders.Deposit id cents) moment before after code
-deposited p id cents moment clock before mid after code is made = record {
-  answered = made.answer_is ∙ ap (λ (t : ℕ). (deposit_decision p t id cents).code) is.answer_is;
-  left = ap (now p) (made.left
-      ∙ ap (λ (t : ℕ). changed_all p (deposit_decision p t id cents).changes mid)
-      (is.answer_is ∙ sym is.clock)) ∙ deposit-effect-now p mid id cents
-      ∙ ap (λ (u : Registry). now p (order_effect p (orders.Deposit id cents) u)) is.future;
-  waits = made.left
-      ∙ ap (λ (t : ℕ). changed_all p (deposit_decision p t id cents).changes mid)
-      (is.answer_is ∙ sym is.clock) ∙ ap (order_effect p (orders.Deposit id cents)) is.waits;
-}
+deposited p id cents moment clock before mid after code is made =
+    let left : after ≡ order_effect p (orders.Deposit id cents) mid =
+    made.left ∙ ap (λ (t : ℕ). changed_all p (deposit_decision p t id cents).changes mid) (is.answer_is ∙ sym is.clock) in
+    record {
+      answered = made.answer_is ∙ ap (λ (t : ℕ). (deposit_decision p t id cents).code) is.answer_is;
+      left = ap (now p) left ∙ deposit-effect-now p mid id cents
+          ∙ ap (λ (u : Registry). now p (order_effect p (orders.Deposit id cents) u)) is.future;
+      waits = left ∙ ap (order_effect p (orders.Deposit id cents)) is.waits;
+    }
 
 -- ---- hello
 
-pub greets : (p : PolicyRules) (moment date : ℕ) (before after : Registry)
-    → IsPassed p nothing moment before after date → IsGreetingStep p moment before after date
-greets p moment date before after is = record {
-  dated = is.answer_is;
-  left = is.future ∙ sym (now-lapsed p moment before);
-  waits = is.waits;
-}
+pub greets : (p : PolicyRules) (moment : ℕ) (result : Result ℕ BookFault) (old new : BookState)
+    → Works result (IsPassed p nothing moment) old new → Works result (IsGreetingStep p moment) old new
+greets p moment (Ok date) old new works = (works.0, λ clean. by (works.1 clean))
+  where
+    by : IsPassed p nothing moment old.content.registry new.content.registry date → IsGreetingStep p moment old.content.registry new.content.registry date
+    by is = record { dated = is.answer_is; left = is.future ∙ sym (now-lapsed p moment old.content.registry); waits = is.waits }
+greets p moment (Err fault) old new works = works
 
 -- ---- look-ups
 

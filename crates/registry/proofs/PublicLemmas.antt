@@ -1,5 +1,5 @@
 -- What everybody may look up is read off the public part.
-use Rattle.std.proofs.Common.{◌≡◌, ℕ, Bool, not, ◌&&◌, ◌||◌, cond, List, [], ◌∷◌, map, Option, Some, None, option_and_then, option_map, refl, sym, ap, ◌∙◌}
+use Rattle.std.proofs.Common.{◌≡◌, ℕ, Bool, not, ◌&&◌, cond, List, [], ◌∷◌, map, Option, Some, None, option_and_then, option_map, refl, sym, ap, ◌∙◌}
 use Rattle.std.specs.Prelude.{unwrap_or}
 use Rattle.std.specs.Cmp.Lexicographic.{slice_cmp, nat_list_cmp_total}
 use Rattle.std.specs.FinMap.{entries, get, keys, values}
@@ -31,6 +31,7 @@ use Rattle.objects.specs.Links.{names_contact, names_host}
 use Rattle.objects.specs.Statuses.{has_status}
 use Rattle.objects.proofs.StatusLemmas.{has_status-filter}
 use Rattle.policy.specs.Rules.{PolicyRules}
+use Rattle.policy.proofs.TextLemmas.{list_any_of_map}
 use Rattle.registry.specs.Faces.{LookUpsArePublic}
 use Rattle.rules.specs.ResponseData.{with_shown_link}
 
@@ -68,19 +69,21 @@ module _ (p : PolicyRules) (s : Registry) where
   abbrev part : PublicPart
   part = public_part p s
 
-  entries-read : entries part.domains ≡ map (λ (e : List ℕ × Domain). (e.0, domain_face p s e.1)) (entries s.domains)
-  entries-read = entries-map_values (slice_cmp nat_cmp) (λ name. domain_face p s) nat_list_cmp_total names_apart s.domains
+  values-read : values part.domains ≡ map (domain_face p s) (values s.domains)
+  values-read =
+      ap (λ (es : List (List ℕ × DomainFace)). map (λ (e : List ℕ × DomainFace). e.1) es) (entries-map_values (slice_cmp nat_cmp) (λ name. domain_face p s) nat_list_cmp_total names_apart s.domains)
+      ∙ by (entries s.domains)
+    where
+      by : (es : List (List ℕ × Domain)) → map (λ (e : List ℕ × DomainFace). e.1) (map (λ (e : List ℕ × Domain). (e.0, domain_face p s e.1)) es)
+          ≡ map (domain_face p s) (map (λ (e : List ℕ × Domain). e.1) es)
+      by [] = refl
+      by (e ∷ es) = ap (λ (faces : List DomainFace). domain_face p s e.1 ∷ faces) (by es)
 
   domain-found : (name : List ℕ) → domain_face_at p s name ≡ get part.domains name
   domain-found name = sym (get-map_values (slice_cmp nat_cmp) nat_list_cmp_total names_apart (λ name. domain_face p s) s.domains name)
 
   linked-found : (test : Links → Bool) → list_any (λ d. test d.links) (values s.domains) ≡ is_linked test part
-  linked-found test = by (entries s.domains) ∙ sym (ap (λ (es : List (List ℕ × DomainFace)). list_any (λ face. test face.links) (map (λ (e : List ℕ × DomainFace). e.1) es)) entries-read)
-    where
-      by : (es : List (List ℕ × Domain)) → list_any (λ d. test d.links) (map (λ (e : List ℕ × Domain). e.1) es)
-          ≡ list_any (λ face. test face.links) (map (λ (e : List ℕ × DomainFace). e.1) (map (λ (e : List ℕ × Domain). (e.0, domain_face p s e.1)) es))
-      by [] = refl
-      by (e ∷ es) = ap (λ (b : Bool). test e.1.links || b) (by es)
+  linked-found test = sym (ap (list_any (λ (face : DomainFace). test face.links)) values-read ∙ list_any_of_map (λ face. test face.links) (domain_face p s) (values s.domains))
 
   contact-found : (name : List ℕ) → contact_face_at s name ≡ contact_read name part
   contact-found name =
@@ -105,12 +108,11 @@ module _ (p : PolicyRules) (s : Registry) where
   })
 
   delegations-found : delegations s ≡ delegations_read part
-  delegations-found = by (entries s.domains) ∙ sym (ap (λ (es : List (List ℕ × DomainFace)). map delegation_read (map (λ (e : List ℕ × DomainFace). e.1) es)) entries-read)
+  delegations-found = by (values s.domains) ∙ sym (ap (map delegation_read) values-read)
     where
-      by : (es : List (List ℕ × Domain)) → map delegation_of (map (λ (e : List ℕ × Domain). e.1) es)
-          ≡ map delegation_read (map (λ (e : List ℕ × DomainFace). e.1) (map (λ (e : List ℕ × Domain). (e.0, domain_face p s e.1)) es))
+      by : (ds : List Domain) → map delegation_of ds ≡ map delegation_read (map (domain_face p s) ds)
       by [] = refl
-      by (e ∷ es) = λ i. delegation-found e.1 i ∷ by es i
+      by (d ∷ ds) = λ i. delegation-found d i ∷ by ds i
 
   zone-found : (zone : ZoneRules) → zone_data zone s ≡ zone_read zone part
   zone-found zone = λ i. record {

@@ -1,8 +1,9 @@
 -- One step in a transaction after another.
-use Rattle.std.proofs.Common.{◌≡◌, ◌<◌, ◌⊎◌, true, cond, Result, Ok, Err, sym, subst, ap, ◌∙◌, arith}
+use Rattle.std.proofs.Common.{◌≡◌, ◌<◌, ◌⊎◌, true, cond, Result, Ok, Err, sym, subst, ap, ◌∙◌}
 use Rattle.model.specs.Registry.{Registry}
 use Rattle.registry.specs.inner.Steps.{IsWithin, Works}
-use Rattle.books.specs.Book.{BookFinds, BookReads, BookState, BookStays, BookWrites, Follows, GivesUp, IsBack, BookLeavesSame, Stored, WentBack}
+use Rattle.registry.proofs.CallsKept.{begun, follows-on}
+use Rattle.books.specs.Book.{BookFinds, BookReads, BookState, BookStays, BookWrites, Follows, GivesUp, IsBack, BookLeavesSame, NoRefusal, Stored, WentBack, home}
 use Rattle.states.specs.declared.fault.BookFault.{BookFault}
 use Rattle.states.specs.declared.fault.BookFault.TheVariants.{Memory, Store}
 
@@ -52,52 +53,39 @@ only-read old new is_open reads stays = record {
 
 -- ---- where a later step gives up, the book went back to where the transaction began
 
-home-of : (old mid new : BookState) → old.is_open ≡ true → IsWithin old mid → Follows mid new
-    → IsBack mid new → IsBack old new
-home-of old mid new was_open is then back = record {
+-- to go back leads from a later state where it led from the earlier one
+abbrev pub LeadsHome : BookState → BookState → Type 0
+LeadsHome old mid = mid.is_clean ≡ true → home mid ≡ home old
+
+pub back-later : (old mid new : BookState) → LeadsHome old mid → Follows mid new → IsBack mid new → IsBack old new
+back-later old mid new leads then back = record {
   closed = back.closed;
-  content = λ clean.
-      back.content clean ∙ ap (λ b. cond b mid.before mid.content) is.opened
-      ∙ is.before (then.clean clean)
-      ∙ sym (ap (λ b. cond b old.before old.content) was_open);
+  content = λ clean. back.content clean ∙ leads (then.clean clean);
 }
 
-gave-up-later : (fault : BookFault) (old mid new : BookState) → old.is_open ≡ true → IsWithin old mid
+pub gave-up-later : (fault : BookFault) (old mid new : BookState) → LeadsHome old mid → NoRefusal old mid
     → GivesUp fault mid new → Follows mid new → GivesUp fault old new
-gave-up-later Memory old mid new was_open is gave then =
-    (home-of old mid new was_open is then gave.0, gave.1 ∙ is.counted)
-gave-up-later Store old mid new was_open is gave then = (
-  home-of old mid new was_open is then gave.0,
-  subst (λ n. (n < new.refused) ⊎ (new.refused ≡ 0xFFFF_FFFF_FFFF_FFFF)) is.counted gave.1,
+gave-up-later Memory old mid new leads counted gave then =
+    (back-later old mid new leads then gave.0, gave.1 ∙ counted)
+gave-up-later Store old mid new leads counted gave then = (
+  back-later old mid new leads then gave.0,
+  subst (λ n. (n < new.refused) ⊎ (new.refused ≡ 0xFFFF_FFFF_FFFF_FFFF)) counted gave.1,
 )
 
 pub went-later : (fault : BookFault) (old mid new : BookState) → old.is_open ≡ true
     → IsWithin old mid → WentBack fault mid new → WentBack fault old new
-went-later fault old mid new was_open is went =
-    let then = went.1.0 in
-    let stays = is.stays in (
-      gave-up-later fault old mid new was_open is went.0 then,
-      (
-        record {
-          clean = λ clean. stays.clean (then.clean clean);
-          counted = omega (arith, is.counted, then.counted);
-        },
-        leaves-on old mid new stays.leaves went.1.1,
-      ),
-    )
+went-later fault old mid new was_open is went = (
+  gave-up-later fault old mid new
+      (λ clean.
+      ap (λ b. cond b mid.before mid.content) is.opened ∙ is.before clean
+      ∙ sym (ap (λ b. cond b old.before old.content) was_open))
+      is.counted went.0 went.1.0,
+  (follows-on old mid new (begun old mid is.counted is.stays) went.1.0, leaves-on old mid new is.stays.leaves went.1.1),
+)
 
 -- ---- what one step does after another
 
 module _ {A : Type 0} where
-  pub works-as : (result : Result A BookFault) (step whole : Registry → Registry → A → Type 0)
-      (old new : BookState)
-      → ((after : Registry) (it : A)
-      → step old.content.registry after it → whole old.content.registry after it)
-      → Works result step old new → Works result whole old new
-  works-as (Ok it) step whole old new is works =
-      (works.0, λ clean. is new.content.registry it (works.1 clean))
-  works-as (Err fault) step whole old new is works = works
-
   pub works-then : (result : Result A BookFault) (step whole : Registry → Registry → A → Type 0)
       (old mid new : BookState) → old.is_open ≡ true → IsWithin old mid
       → (mid.is_clean ≡ true → (after : Registry) (it : A)

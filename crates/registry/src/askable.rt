@@ -4,7 +4,7 @@ ghost use Rattle.std.specs.List.{slice_get};
 ghost use Rattle.std.specs.Option.{IfSome};
 ghost use Rattle.names.specs.Canonical.{IsCanonical};
 ghost use Rattle.protocol.specs.Requests.{asks_of, domains_asked, transfer_years};
-ghost use Rattle.decisions.specs.Askable.{CanBeAsked, IsAskable};
+ghost use Rattle.decisions.specs.Askable.{CanBeAsked};
 ghost use Rattle.rules.specs.Conditions.{host_name_after};
 
 use protocol::{Command, Request, TransferOp};
@@ -15,16 +15,12 @@ pub(crate) fn show_can_be_asked(command: &Command)
 {
     match command {
         Command::Bad { .. } => {}
-        Command::Asked { request, .. } => show_is_askable(request),
+        Command::Asked { request, .. } => {
+            show_ten_years(request);
+            show_canonical_domain(request);
+            show_canonical_host(request);
+        }
     }
-}
-
-fn show_is_askable(request: &Request)
-    ensures { IsAskable request.now }
-{
-    show_ten_years(request);
-    show_canonical_domain(request);
-    show_canonical_host(request);
 }
 
 fn show_ten_years(request: &Request)

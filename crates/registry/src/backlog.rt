@@ -1,12 +1,9 @@
 //! How much of what is due still waits: a look-up in which no time passes.
-ghost use Rattle.std.specs.Prelude.{◌≡◌, length};
 ghost use Rattle.registry.specs.Execution.{IsBacklog};
 
 use crate::work::Work;
-use basis::list::Seq;
 use books::{Book, BookFault};
 use calendar::Moment;
-use lifecycle::Due;
 use policy::Policy;
 use std::alloc::Global;
 
@@ -36,16 +33,9 @@ impl Work for BacklogWork {
     ) -> Result<Backlog, BookFault> {
         let clock = book.clock()?;
         let due = book.due(self.moment.later(clock), None, policy)?;
-        Ok(backlog_of(clock, &due))
-    }
-}
-
-fn backlog_of(clock: Moment, due: &Seq<Due>) -> Backlog
-    ensures clock { result.clock ≡ clock }
-    ensures due { result.due ≡ length due.now }
-{
-    Backlog {
-        clock,
-        due: due.as_slice().len(),
+        Ok(Backlog {
+            clock,
+            due: due.as_slice().len(),
+        })
     }
 }

@@ -1,5 +1,6 @@
 //! What can be looked up in a registry at a moment: what everyone may know, and a registrar's
 //! account.
+ghost use Rattle.std.proofs.Common.{ap};
 ghost use Rattle.std.specs.Prelude.{Some};
 ghost use Rattle.concerns.specs.Names.{named_by};
 ghost use Rattle.objects.specs.declared.roid.ObjectKind.TheVariants as kinds;
@@ -17,6 +18,7 @@ use basis::registrar::RegistrarNo;
 use basis::text::Text;
 use books::{Book, BookFault};
 use calendar::Moment;
+use names::{DomainName, HostName};
 use objects::{ContactFace, DomainFace, HostFace, ObjectKind, ZoneData};
 use policy::Policy;
 use std::alloc::Global;
@@ -26,7 +28,8 @@ pub(crate) trait LookUp {
     ghost use Rattle.std.specs.Prelude.{◌≡◌};
     ghost use Rattle.model.specs.Registry.{Registry};
     ghost use Rattle.policy.specs.Rules.{PolicyRules};
-    ghost use Rattle.registry.specs.inner.Passing.{Extent, IsAsNow, extent_of};
+    ghost use Rattle.model.specs.Lapse.{now};
+    ghost use Rattle.registry.specs.inner.Passing.{Extent, IsSettledAs, extent_of};
     ghost use Rattle.books.specs.Book.{BookFinds};
 
     /// What is found.
@@ -39,7 +42,8 @@ pub(crate) trait LookUp {
     ghost awaits: { Self → Extent };
 
     /// Once that has lapsed, it is what it is once all has that is due.
-    ghost is_as_now: { (it : Self) → IsAsNow (awaits it) (finds it) };
+    ghost is_as_now: { (it : Self) (p : PolicyRules) (s : Registry) → IsSettledAs p (awaits it) s
+        → finds it p (now p s) ≡ finds it p s };
 
     /// What lapses before.
     fn scope(&self) -> Scope<'_>
@@ -52,20 +56,17 @@ pub(crate) trait LookUp {
 }
 
 /// The domain under a name.
-#[derive(Clone, Copy, Drop)]
-pub(crate) struct DomainAt<'n>(pub &'n Text);
-
-impl LookUp for DomainAt<'_> {
+impl LookUp for DomainName {
     type Found = Option<DomainFace>;
 
-    ghost finds = { λ it p s. domain_face_at p s it.0.now };
+    ghost finds = { λ name p s. domain_face_at p s name };
 
-    ghost awaits = { λ it. about kinds.Domain it.0.now };
+    ghost awaits = { λ name. about kinds.Domain name };
 
-    ghost is_as_now = { λ it p s. laws.domain-face-now p it.0.now s };
+    ghost is_as_now = { λ name p s. laws.domain-face-now p name s };
 
     fn scope(&self) -> Scope<'_> {
-        Scope::Object(ObjectKind::Domain, self.0)
+        Scope::Object(ObjectKind::Domain, self.text())
     }
 
     fn look<B: Book>(
@@ -73,29 +74,26 @@ impl LookUp for DomainAt<'_> {
         book: &mut B,
         policy: &Policy,
     ) -> Result<Option<DomainFace>, BookFault> {
-        book.domain_face(self.0, policy)
+        book.domain_face(self.text(), policy)
     }
 }
 
 /// The host under a name.
-#[derive(Clone, Copy, Drop)]
-pub(crate) struct HostAt<'n>(pub &'n Text);
-
-impl LookUp for HostAt<'_> {
+impl LookUp for HostName {
     type Found = Option<HostFace>;
 
-    ghost finds = { λ it p s. host_face_at p s it.0.now };
+    ghost finds = { λ name p s. host_face_at p s name };
 
-    ghost awaits = { λ it. about kinds.Host it.0.now };
+    ghost awaits = { λ name. about kinds.Host name };
 
-    ghost is_as_now = { λ it p s. laws.host-face-now p it.0.now s };
+    ghost is_as_now = { λ name p s. laws.host-face-now p name s };
 
     fn scope(&self) -> Scope<'_> {
-        Scope::Object(ObjectKind::Host, self.0)
+        Scope::Object(ObjectKind::Host, self.text())
     }
 
     fn look<B: Book>(&self, book: &mut B, policy: &Policy) -> Result<Option<HostFace>, BookFault> {
-        book.host_face(self.0, policy)
+        book.host_face(self.text(), policy)
     }
 }
 
@@ -132,7 +130,7 @@ impl LookUp for Zoned {
 
     ghost awaits = { λ _. everything };
 
-    ghost is_as_now = { λ _ p s. laws.zone-now p s };
+    ghost is_as_now = { λ _ p s. ap (zone_data p.zone) };
 
     fn scope(&self) -> Scope<'_> {
         Scope::All

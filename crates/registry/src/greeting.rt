@@ -19,6 +19,7 @@ impl Work for GreetingWork {
 
     ghost step = { λ it p. IsGreetingStep p it.moment };
 
+    #[tactic(auto, using(crate::proofs::PassingSteps::greets))]
     fn work<B: Book>(
         &self,
         book: &mut B,

@@ -1,12 +1,12 @@
 //! How what is due lapses in an open transaction.
-ghost use Rattle.std.specs.Prelude.{◌≡◌, ◌++◌, ◌∷◌, [], true, map, IfOk};
+ghost use Rattle.std.specs.Prelude.{◌≡◌, ◌++◌, true, map, IfOk};
 ghost use Rattle.registry.specs.Lapsing as spec;
 ghost use Rattle.registry.specs.inner.Posting.{HasLapsed, lapse_changes, lapse_postings};
 ghost use Rattle.registry.specs.inner.Steps.{Does};
 ghost use Rattle.books.specs.Book.{BookMakes, BookMakesOf, with_changes};
 ghost use Rattle.decisions.specs.Changes.{posting_change};
 
-use crate::transaction::or_rollback;
+use crate::transaction::{one, or_rollback};
 use accounts::Posting;
 use basis::list::Seq;
 use basis::text::Text;
@@ -52,8 +52,7 @@ fn post<B: Book>(
     if postings.is_empty() {
         return Ok(());
     }
-    let posts = posts_of(alloc, postings);
-    let posts = or_rollback(book, posts)?;
+    let posts = or_rollback(book, posts_of(alloc, postings))?;
     book.apply(posts, policy)
 }
 
@@ -109,12 +108,6 @@ fn changes_of(
         }
         Some(Object::Host(_)) | None => Ok(Seq::new(alloc)),
     }
-}
-
-fn one(alloc: Global, change: Change) -> Result<Seq<Change>, AllocError>
-    ensures { IfOk result (λ changes. changes ≡ change ∷ []) }
-{
-    Ok(Seq::from_vec(vec![in alloc; change]?))
 }
 
 /// What is posted, as changes.

@@ -97,6 +97,7 @@ fn install<B: Book>(
 }
 
 /// An account for each of the first registrars.
+#[tactic(auto, using(crate::proofs::OpeningLemmas::openings_zero, crate::proofs::OpeningLemmas::openings_next))]
 fn openings(alloc: Global, count: u32) -> Result<Seq<Change>, AllocError>
     ensures { IfOk result (λ changes. changes ≡ spec.openings count) }
 {

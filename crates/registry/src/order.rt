@@ -41,8 +41,10 @@ impl Work for OrderWork<'_> {
     ) -> Result<Code, BookFault> {
         match self.order {
             Order::Status(order) => set_statuses_at(book, alloc, order, self.moment, policy),
+            // nothing lapses before
             Order::Deposit { registrar, cents } => {
-                deposit_at(book, alloc, registrar, *cents, self.moment, policy)
+                let now = pass(book, alloc, &Scope::Nothing, self.moment, policy)?;
+                deposit(book, alloc, registrar, *cents, now, policy)
             }
         }
     }
@@ -64,23 +66,6 @@ fn set_statuses_at<B: Book>(
     let scope = Scope::Named(order.kind, &name);
     pass(book, alloc, &scope, moment, policy)?;
     set_statuses(book, alloc, order, &name, policy)
-}
-
-/// Enters what a registrar paid, at a moment. Nothing lapses before.
-fn deposit_at<B: Book>(
-    book: &mut B,
-    alloc: Global,
-    registrar: &Text,
-    cents: i64,
-    moment: Moment,
-    policy: &Policy,
-) -> Result<Code, BookFault>
-    requires { (B.state book.old).is_open ≡ true }
-    ensures { Works result (IsOrderStep policy.now (orders.Deposit registrar.now cents) moment)
-        (B.state book.old) (B.state book.new) }
-{
-    let now = pass(book, alloc, &Scope::Nothing, moment, policy)?;
-    deposit(book, alloc, registrar, cents, now, policy)
 }
 
 /// Sets and takes away statuses of the object of this name in an open transaction.

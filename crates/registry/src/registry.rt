@@ -26,7 +26,7 @@ ghost use Rattle.books.specs.Faces.{contact_face_at, domain_face_at, host_face_a
 use crate::askable::show_can_be_asked;
 use crate::backlog::{Backlog, BacklogWork};
 use crate::command::CommandWork;
-use crate::faces::{ContactAt, DomainAt, HostAt, LinesOf, LookUp, LookUpWork, Zoned};
+use crate::faces::{ContactAt, LinesOf, LookUp, LookUpWork, Zoned};
 use crate::fault::{Fault, OpenFault};
 use crate::greeting::GreetingWork;
 use crate::opening::open_in;
@@ -151,7 +151,7 @@ impl<B: Book + Drop> Registry<B> {
     /// if there is no such registrar or object or the name doesn't read. It is `StatusProhibits` if
     /// the deletion or transfer that a status prohibits has begun, `ParameterPolicy` if a status is
     /// amiss, and else `Completed`.
-    #[tactic(auto, using(crate::proofs::CallsKept::kept_late))]
+    #[tactic(auto, using(crate::proofs::CallsKept::kept_late, crate::proofs::Answering::order_kept))]
     pub fn operator(&mut self, order: &Order, moment: Moment) -> Result<Code, Fault>
         ensures step { IfOk result (λ code. OrderSteps self.old.policy order.now moment code
             (B.state self.old.book) (B.state self.new.book)) }
@@ -171,7 +171,7 @@ impl<B: Book + Drop> Registry<B> {
     /// Answers hello at a moment with the server's date (RFC 5730, 2.4), which is the clock; a
     /// moment before the clock counts as the clock. Nobody's command is counted. A well formed
     /// registry stays well formed.
-    #[tactic(auto, using(crate::proofs::CallsKept::kept_late))]
+    #[tactic(auto, using(crate::proofs::CallsKept::kept_late, crate::proofs::Answering::greeting_kept))]
     pub fn greet(&mut self, moment: Moment) -> Result<Moment, Fault>
         ensures step { IfOk result (λ date. Greets self.old.policy moment date
             (B.state self.old.book) (B.state self.new.book)) }
@@ -191,7 +191,7 @@ impl<B: Book + Drop> Registry<B> {
     /// Lets the first so many objects lapse that are due by a moment: by due moment, contacts
     /// first, by name. It gives how many they were. A moment before the clock counts as the clock.
     /// No other call can tell later whether it was done.
-    #[tactic(auto, using(crate::proofs::CallsKept::kept_late))]
+    #[tactic(auto, using(crate::proofs::CallsKept::kept_late, crate::proofs::Answering::settlement_kept))]
     pub fn settle(&mut self, moment: Moment, at_most: u32) -> Result<u32, Fault>
         ensures step { IfOk result (λ done. Settles self.old.policy moment at_most done
             (B.state self.old.book) (B.state self.new.book)) }
@@ -240,7 +240,7 @@ impl<B: Book + Drop> Registry<B> {
             self.new.policy (B.state self.old.book) (B.state self.new.book) }
         ensures late { (result ≡ Err Fault.Moment) ↔ (last_call < moment) }
     {
-        self.look_up(&DomainAt(name.text()), moment)
+        self.look_up(name, moment)
     }
 
     /// The same of the host under a name.
@@ -257,7 +257,7 @@ impl<B: Book + Drop> Registry<B> {
             self.new.policy (B.state self.old.book) (B.state self.new.book) }
         ensures late { (result ≡ Err Fault.Moment) ↔ (last_call < moment) }
     {
-        self.look_up(&HostAt(name.text()), moment)
+        self.look_up(name, moment)
     }
 
     /// The same of the contact under a name, which shows whether it is linked.
@@ -317,7 +317,7 @@ impl<B: Book + Drop> Registry<B> {
     }
 
     /// Looks something up at a moment, in a transaction of its own.
-    #[tactic(auto, using(crate::proofs::CallsKept::kept_late))]
+    #[tactic(auto, using(crate::proofs::CallsKept::kept_late, crate::proofs::Answering::look_up_kept))]
     fn look_up<L: LookUp>(&mut self, what: &L, moment: Moment) -> Result<L::Found, Fault>
         ensures step { IfOk result (λ found. LooksUp self.old.policy
             (L.finds what.now self.old.policy) (lapsing self.old.policy (L.awaits what.now)) moment

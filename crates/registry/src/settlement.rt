@@ -1,14 +1,11 @@
 //! How some of what is due lapses: a settlement.
-ghost use Rattle.std.specs.Prelude.{◌≡◌, min, length};
 ghost use Rattle.registry.specs.Execution.{IsSettlement};
 
 use crate::lapse::lapse_each;
 use crate::transaction::move_clock;
 use crate::work::Work;
-use basis::list::Seq;
 use books::{Book, BookFault};
 use calendar::Moment;
-use lifecycle::Due;
 use policy::Policy;
 use std::alloc::Global;
 
@@ -34,15 +31,9 @@ impl Work for SettlementWork {
     ) -> Result<u32, BookFault> {
         let now = move_clock(book, alloc, self.moment, policy)?;
         let due = book.due(now, Some(self.at_most), policy)?;
-        let count = count_of(&due, self.at_most);
+        // a book may give more than it was asked for
+        let count = due.as_slice().len().min(self.at_most as usize) as u32;
         lapse_each(book, alloc, due, now, policy)?;
         Ok(count)
     }
-}
-
-/// How many of what is due lapse: so many at most, also where a book gave more than it was asked for.
-fn count_of(due: &Seq<Due>, at_most: u32) -> u32
-    ensures { result ≡ min at_most (length due.now) }
-{
-    due.as_slice().len().min(at_most as usize) as u32
 }

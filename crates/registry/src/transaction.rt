@@ -37,13 +37,14 @@ pub(crate) fn move_clock<B: Book>(
     requires { (B.state book.old).is_open ≡ true }
     ensures { Works result (HasMoved moment) (B.state book.old) (B.state book.new) }
 {
-    let passing = or_rollback(book, passing(alloc, moment))?;
+    let passing = or_rollback(book, one(alloc, Change::MoveClock(moment)))?;
     book.apply(passing, policy)?;
     book.clock()
 }
 
-fn passing(alloc: Global, moment: Moment) -> Result<Seq<Change>, AllocError>
-    ensures { IfOk result (λ changes. changes ≡ Change.MoveClock moment ∷ []) }
+/// A list of one change.
+pub(crate) fn one(alloc: Global, change: Change) -> Result<Seq<Change>, AllocError>
+    ensures { IfOk result (λ changes. changes ≡ change ∷ []) }
 {
-    Ok(Seq::from_vec(vec![in alloc; Change::MoveClock(moment)]?))
+    Ok(Seq::from_vec(vec![in alloc; change]?))
 }

@@ -6,7 +6,6 @@ use Rattle.facts.specs.Facts.{superordinate_of_domain}
 use Rattle.lifecycle.specs.Phases.{phase}
 use Rattle.model.specs.Lapse.{now}
 use Rattle.model.specs.Registry.{Registry, account_of}
-use Rattle.model.specs.Zone.{zone_data}
 use Rattle.names.specs.Zone.{last_two_of}
 use Rattle.objects.specs.declared.contact.Contact.{Contact}
 use Rattle.objects.specs.declared.domain.Domain.{Domain}
@@ -42,10 +41,6 @@ module _ (p : PolicyRules) (name : List ℕ) (u : Registry) where
       above : (o : Option (List ℕ)) → last_two_of name ≡ o → option_and_then (λ n. option_map superordinate_of_domain (get (now p u).domains n)) o ≡ option_and_then (λ n. option_map superordinate_of_domain (get u.domains n)) o
       above None e = refl
       above (Some n) e = ap (option_map superordinate_of_domain) (domain-at p None (named_of kinds.Host name) u is n (in-filter_map last_two_of n name (name ∷ []) (in-itself name []) e))
-
-pub zone-now : (p : PolicyRules) (u : Registry) → now p u ≡ u
-    → zone_data p.zone (now p u) ≡ zone_data p.zone u
-zone-now p u is = ap (zone_data p.zone) is
 
 pub lines-now : (p : PolicyRules) (r : ℕ) (u : Registry)
     → IsSettledIn p (concerned (Some r) (named_by balance_command) u) u

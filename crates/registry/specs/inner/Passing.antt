@@ -60,11 +60,6 @@ IsSettledAs p nothing s = IsSettledIn p (concerned None no_names s) s
 IsSettledAs p (concerning r g) s = IsSettledIn p (concerned r g s) s
 IsSettledAs p everything s = now p s ≡ s
 
--- once that has lapsed, this is what it is once all has that is due
-abbrev pub IsAsNow : {X : Type 0} → Extent → (PolicyRules → Registry → X) → Type 0
-IsAsNow what find =
-    (p : PolicyRules) (s : Registry) → IsSettledAs p what s → find p (now p s) ≡ find p s
-
 -- The clock is at the moment and is the answer, nothing of what lapses is due, and what the registry is
 -- now is its lapse.
 pub record IsPassed (p : PolicyRules) (what : Extent) (moment : ℕ) (before after : Registry)

@@ -1,6 +1,5 @@
-use Rattle.std.proofs.Common.{subst}
 use Rattle.registry.specs.Faces.{IsLookUp}
-use Rattle.registry.specs.inner.Passing.{Extent, IsPassed, lapsing}
+use Rattle.registry.specs.inner.Passing.{lapsing}
 use Rattle.registry.proofs.PassingSteps.{looked-up}
 use Rattle.registry.proofs.StepLemmas.{finds-then}
 use Rattle.registry.proofs.faces.LookUpWorkWork.work.Goals as goal
@@ -17,8 +16,7 @@ returns g c =
     finds-then c.look.result (find mid.content.registry) (IsLookUp p find (lapsing p what) moment)
     old mid (g.B.Book.state c.look.new.book) c.requires c.in_ok-pass.ensures.0
     (λ clean.
-    let is = subst (λ (what : Extent). IsPassed p what moment old.content.registry
-    mid.content.registry c.in_ok-pass.field-0) c.scope.ensures (c.in_ok-pass.ensures.1 clean) in
+    let is = rw c.scope.ensures at c.in_ok-pass.ensures.1 clean in
     looked-up p find what moment c.in_ok-pass.field-0 old.content.registry
     mid.content.registry is (g.L.LookUp.is_as_now it p mid.content.registry is.settled))
     c.look.ensures
