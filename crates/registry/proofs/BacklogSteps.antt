@@ -1,13 +1,7 @@
 -- A look at what waits, in an open transaction.
 use Rattle.std.proofs.Common.{◌≡◌, ℕ, true, max, length, List, ap, ◌∙◌}
-use Rattle.model.specs.DueBy.{due_by}
-use Rattle.model.specs.Registry.{Registry}
-use Rattle.policy.specs.Rules.{PolicyRules}
-use Rattle.registry.specs.Execution.{IsBacklog}
-use Rattle.registry.specs.inner.Steps.{IsWithin}
+use Rattle.registry.proofs.Words.{BookReads, BookState, BookStays, Due, due_by, IsBacklog, IsWithin, PolicyRules, Registry, Stored}
 use Rattle.registry.proofs.StepLemmas.{only-read, within-on}
-use Rattle.lifecycle.specs.declared.due_object.Due.{Due}
-use Rattle.books.specs.Book.{BookReads, BookState, BookStays, Stored}
 
 -- the clock was asked for, and then what is due by then
 pub shown : (p : PolicyRules) (moment clock t count : ℕ) (due : List Due) (old mid new : BookState) → old.is_open ≡ true

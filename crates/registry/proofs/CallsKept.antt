@@ -1,31 +1,21 @@
 -- What every call keeps follows from the question that it answers.
 use Rattle.std.proofs.Common.{◌≡◌, ℕ, ◌≤◌, max, true, Result, Ok, Err, IfOk, Some, refl, sym, ap, subst, ◌∙◌, arith}
-use Rattle.model.specs.Lapse.{lapsed, now}
+use Rattle.registry.proofs.Words.{BookFault, BookLeavesSame, BookStarts, BookState, BookStays, Fault, Follows, GivesUpTo, IsRegistrar, IsRegistry}
+use Rattle.registry.proofs.Words.{IsSound, KeepsStep, lapsed, lapsed-is-settled, last_clock, LeavesOldOrMade, Makes, Memory, NoRefusal, now}
+use Rattle.registry.proofs.Words.{order_effect, PolicyRules, Registry, Store, Stored, terms_of}
 use Rattle.model.specs.Money.{MoneyFollows}
-use Rattle.model.specs.Registry.{Registry}
-use Rattle.model.specs.WellFormed.{IsRegistry, last_clock}
-use Rattle.model.proofs.LapseLaws.{lapsed-is-settled}
-use Rattle.policy.specs.Rules.{PolicyRules, IsRegistrar, IsSound}
-use Rattle.policy.specs.Terms.{terms_of}
 use Rattle.isolation.specs.Runs.{Answer, IsCall, Question, command, date, inspection, look_up, order}
 use Rattle.isolation.proofs.RunLemmas.{calls-are-steps-of-two}
-use Rattle.registry.specs.declared.fault.Fault.{Fault}
 use Rattle.registry.specs.declared.fault.Fault.TheVariants as faults
 use Rattle.registry.specs.Calls.{CallKeeps, StepKeeps}
-use Rattle.registry.specs.Crashes.{GivesUpTo, Makes}
 use Rattle.registry.specs.Faults.{of_book}
-use Rattle.registry.specs.inner.Steps.{KeepsStep}
 use Rattle.registry.specs.Money.{CallKeepsMoney}
 use Rattle.registry.specs.WellFormed.{CallKeepsWellFormed}
 use Rattle.decisions.specs.Askable.{CanBeAsked}
-use Rattle.decisions.specs.Orders.{order_effect}
 use Rattle.decisions.specs.Steps.{effect}
 use Rattle.decisions.proofs.LapsedLemmas.{serial-lapsed}
 use Rattle.decisions.proofs.MoneyLaws.{money-effect-now, money-lapsed-now, money-order-now}
 use Rattle.decisions.proofs.RegistryLemmas.{registry-effect, registry-lapsed, registry-now, registry-order}
-use Rattle.books.specs.Book.{BookStarts, BookState, BookStays, Follows, LeavesOldOrMade, BookLeavesSame, NoRefusal, Stored}
-use Rattle.states.specs.declared.fault.BookFault.{BookFault}
-use Rattle.states.specs.declared.fault.BookFault.TheVariants.{Memory, Store}
 use Rattle.registry.proofs.CrashLemmas.{gave_up_by, later}
 
 -- ---- refusals stay counted

@@ -1,12 +1,10 @@
 -- What a crash leaves after one call and another.
 use Rattle.std.proofs.Common.{◌≡◌, inl, inr, ⊎_elim, true, Result, Ok, Err, OnOk, List, sym, ap, subst, ◌∙◌}
-use Rattle.policy.specs.Rules.{PolicyRules}
-use Rattle.registry.specs.declared.fault.Fault.{Fault}
+use Rattle.registry.proofs.Words.{BookLeavesSame, BookState, Fault, Follows, GivesUpTo, LeavesOldOrMade, OpensTo, PolicyRules, RefusedTo, Stored}
 use Rattle.registry.specs.declared.fault.Fault.TheVariants as faults
 use Rattle.registry.specs.declared.fault.OpenFault.{OpenFault}
 use Rattle.registry.specs.declared.fault.OpenFault.TheVariants as refusals
-use Rattle.registry.specs.Crashes.{GivesUpTo, OpensTo, RefusedTo}
-use Rattle.books.specs.Book.{BookState, BookKeeps, Follows, LeavesHeld, LeavesItself, LeavesOld, LeavesOldOrMade, BookLeavesSame, Stored, may_leave}
+use Rattle.books.specs.Book.{BookKeeps, LeavesHeld, LeavesItself, LeavesOld, may_leave}
 use Rattle.states.specs.States.{Has, Remains, holding}
 
 -- nothing was tried

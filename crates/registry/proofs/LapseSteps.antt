@@ -2,32 +2,20 @@
 use Rattle.std.proofs.Common.{◌≡◌, ℕ, true, max, min, length, take, map, List, [], ◌∷◌, ◌++◌, Option, Some, None, refl, sym, ap, ◌∙◌, arith}
 use Rattle.std.proofs.lemmas.List.{length-take}
 use Rattle.std.proofs.lemmas.List.Sums.{fold-append}
-use Rattle.std.specs.Prelude.{fold, option_map}
-use Rattle.std.specs.FinMap.{get}
+use Rattle.registry.proofs.Words.{at, BookReads, BookState, BookStays, BookWrites, changed_all, Contact, Domain, Due, due_by, dues_lapsed, fold, get}
+use Rattle.registry.proofs.Words.{HasMoved, IsSettlement, IsWithin, lapse_contact, lapse_domain, now, object_lapsed, ObjectKind, option_map}
+use Rattle.registry.proofs.Words.{PolicyRules, posting_change, Registry, Stored, with_changes, with_contact_lapsed, with_domain_lapsed}
+use Rattle.registry.proofs.Words.{with_dues_lapsed}
 use Rattle.accounts.specs.declared.entries.Posting.{Posting}
 use Rattle.accounts.specs.Entries.{posted}
-use Rattle.decisions.specs.Changes.{changed_all, posting_change}
-use Rattle.lifecycle.specs.Lapse.{lapse as lapse_domain, lapse_contact}
 use Rattle.model.specs.declared.object.Object.{Object}
 use Rattle.model.specs.declared.object.Object.TheVariants as objects
 use Rattle.model.specs.Objects.{object_at}
-use Rattle.model.specs.Lapse.{at, now, with_contact_lapsed, with_domain_lapsed}
-use Rattle.model.specs.Registry.{Registry}
-use Rattle.objects.specs.declared.contact.Contact.{Contact}
-use Rattle.objects.specs.declared.domain.Domain.{Domain}
 use Rattle.objects.specs.declared.host.Host.{Host}
-use Rattle.objects.specs.declared.roid.ObjectKind.{ObjectKind}
 use Rattle.objects.specs.declared.roid.ObjectKind.TheVariants as kinds
-use Rattle.policy.specs.Rules.{PolicyRules}
-use Rattle.registry.specs.Execution.{IsSettlement}
-use Rattle.registry.specs.Lapsing.{dues_lapsed, object_lapsed, with_dues_lapsed}
 use Rattle.registry.specs.inner.Posting.{HasLapsed, lapse_changes, lapse_postings}
-use Rattle.registry.specs.inner.Steps.{HasMoved, IsWithin}
 use Rattle.registry.proofs.LapsingLemmas.{some-lapsed}
 use Rattle.registry.proofs.StepLemmas.{only-read, within-on, written}
-use Rattle.lifecycle.specs.declared.due_object.Due.{Due}
-use Rattle.books.specs.Book.{BookReads, BookState, BookStays, BookWrites, Stored, with_changes}
-use Rattle.model.specs.DueBy.{due_by}
 
 -- ---- postings change accounts alone
 

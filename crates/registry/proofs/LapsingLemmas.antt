@@ -2,34 +2,25 @@
 use Rattle.std.proofs.Common.{◌≡◌, ◌<◌, ◌⊎◌, inl, inr, ℕ, Bool, true, false, cond, ◌||◌, true≢false, List, [], ◌∷◌, filter, Option, Some, None, option_and_then, refl, sym, ap, ◌∙◌, arith}
 use Rattle.std.proofs.lemmas.Bool.Decides.{nat_tests}
 use Rattle.std.specs.BTreeSet.{insert_key}
-use Rattle.std.specs.Cmp.Lexicographic.{nat_list_cmp_total, slice_cmp}
-use Rattle.std.specs.FinMap.{IsAntisymmetric, entries, find, get, get-entries, nat_cmp-IsAntisymmetric}
-use Rattle.std.specs.Ordering.{match_ordering, nat_cmp, ordering_then}
+use Rattle.std.specs.FinMap.{IsAntisymmetric, find, get-entries}
 use Rattle.std.specs.declared.cmp.Ordering.{Ordering}
 use Rattle.std.specs.declared.cmp.Ordering.TheVariants.{Less, Equal, Greater}
+use Rattle.registry.proofs.Words.{all-due-lapse-as-all, at, completes_at, Contact, Domain, Due, due_at, due_by, dues_lapsed, entries, get}
+use Rattle.registry.proofs.Words.{lapses-on-from-some, match_ordering, nat_cmp, nat_cmp-IsAntisymmetric, nat_list_cmp_total, now, object_lapsed}
+use Rattle.registry.proofs.Words.{ObjectKind, ordering_then, PolicyRules, Registry, slice_cmp, some-lapse-together, transfer_due_by}
 use Rattle.accounts.specs.declared.message.Subject.TheVariants as subjects
 use Rattle.basis.proofs.ApartLaws.{itself, tied}
 use Rattle.basis.proofs.MapLemmas.{names_apart}
-use Rattle.lifecycle.specs.Lapse.{completes_at, due_at, due_by as transfer_due_by}
 use Rattle.lifecycle.specs.Periods.{passed}
-use Rattle.model.specs.Lapse.{Choice, accounts_at, at, either, is_named, lapse, lapse_some, nothing, now, only}
-use Rattle.model.specs.Registry.{Registry}
-use Rattle.model.proofs.LapseLaws.{all-due-lapse-as-all, lapses-on-from-some, some-lapse-together}
+use Rattle.model.specs.Lapse.{Choice, accounts_at, either, is_named, lapse, lapse_some, nothing, only}
 use Rattle.model.proofs.OneByOneLemmas.{one-lapses}
 use Rattle.model.proofs.SweepLemmas.{swept-still}
-use Rattle.objects.specs.declared.contact.Contact.{Contact}
-use Rattle.objects.specs.declared.domain.Domain.{Domain}
-use Rattle.objects.specs.declared.roid.ObjectKind.{ObjectKind}
 use Rattle.objects.specs.declared.roid.ObjectKind.TheVariants as kinds
 use Rattle.objects.specs.declared.transfer.Transfer.{Transfer}
-use Rattle.policy.specs.Rules.{PolicyRules}
 use Rattle.concerns.specs.declared.given.Names.{Names}
 use Rattle.concerns.specs.Concerns.{HasConcerned, concerned}
 use Rattle.concerns.specs.DueFor as dues
-use Rattle.lifecycle.specs.declared.due_object.Due.{Due}
 use Rattle.lifecycle.specs.DueObjects.{contact_due, domain_due, due_cmp, due_then, found_due, kind_rank, with_due}
-use Rattle.model.specs.DueBy.{due_by}
-use Rattle.registry.specs.Lapsing.{dues_lapsed, object_lapsed}
 use Rattle.states.specs.States.{Has}
 
 -- ---- what is due lapses one after another as it does together

@@ -9,3 +9,4 @@ pub mod Answering
 pub mod CallsKept
 pub mod PassingSteps
 pub mod PublicLemmas
+pub mod Words

@@ -1,41 +1,35 @@
 -- What is opened is a registry of the policy.
 use Rattle.std.proofs.Common.{◌≡◌, ◌↔◌, ◌⊎◌, inl, inr, ⊎_elim, ℕ, zero, suc, ◌+◌, ◌≤◌, Bool, true, false, cond, List, [], ◌∷◌, ◌++◌, length, Option, Some, None, IsSome, is_some, refl, sym, ap, subst, ◌∙◌, arith, length-append}
-use Rattle.std.specs.Prelude.{fold, unwrap_or}
 use Rattle.std.specs.List.{All}
 use Rattle.std.proofs.lemmas.List.Elements.{All-nil}
 use Rattle.std.specs.declared.cmp.Ordering.{Ordering}
 use Rattle.std.specs.Cmp.{nat_cmp_total}
-use Rattle.std.specs.Cmp.Lexicographic.{slice_cmp}
-use Rattle.std.specs.FinMap.{FinMap, empty, get, get-empty, nat_cmp-IsAntisymmetric}
-use Rattle.std.specs.Ordering.{eq_by_cmp, nat_cmp}
+use Rattle.registry.proofs.Words.{account_of, blank, BookState, changed, changed_all, Continues, DaysContinue, empty, eq_by_cmp, FinMap, fold, get}
+use Rattle.registry.proofs.Words.{get-empty, HasCome, IsLineOf, IsRegistrar, IsRegistry, lapse_contact, length_of, nat_cmp, nat_cmp-IsAntisymmetric}
+use Rattle.registry.proofs.Words.{now, PolicyRules, Registry, slice_cmp, Stored, terms_of, unwrap_or}
 use Rattle.accounts.specs.declared.account.Account.{Account}
 use Rattle.accounts.specs.declared.entries.Posting.{Posting}
 use Rattle.accounts.specs.Account.{empty_account}
 use Rattle.accounts.specs.Entries.{entered, posted}
 use Rattle.basis.specs.Sweeps.{change_at}
 use Rattle.basis.proofs.ChangeLaws.{change_at-commutes}
-use Rattle.lifecycle.specs.Lapse.{lapse, lapse_contact}
-use Rattle.policy.specs.Rules.{PolicyRules, IsRegistrar, length_of}
-use Rattle.policy.specs.Terms.{Continues, DaysContinue, terms_of}
+use Rattle.lifecycle.specs.Lapse.{lapse}
 use Rattle.policy.proofs.ScheduleLemmas.{continues-itself, in-force-same}
 use Rattle.policy.proofs.TermsLemmas.{continues-Decides}
 use Rattle.registry.specs.Opening.{KeepsLengths, Opens, OpensAsItWas, continues_earlier, goes_on, opened, openings}
 use Rattle.registry.specs.WellFormed.{HoldsRegistry, OpensWellFormed}
 use Rattle.decisions.specs.declared.change.Change.{Change}
 use Rattle.decisions.specs.declared.change.Change.TheVariants.{OpenAccount}
-use Rattle.decisions.specs.Changes.{changed, changed_all, itself}
+use Rattle.decisions.specs.Changes.{itself}
 use Rattle.decisions.proofs.GrowthLemmas.{Grows}
 use Rattle.decisions.proofs.KeepingLemmas.{kept-grown, placed}
 use Rattle.decisions.proofs.LineKeepingLemmas.{lines-domains}
 use Rattle.decisions.proofs.RegistryLemmas.{registry-now}
 use Rattle.decisions.proofs.ViewLemmas.{account_of-with_account}
-use Rattle.books.specs.Book.{BookState, Stored}
 use Rattle.names.specs.Zone.{ZoneRules}
-use Rattle.model.specs.Lapse.{accounts_at, now, postings}
-use Rattle.model.specs.Registry.{Registry, account_of, blank}
+use Rattle.model.specs.Lapse.{accounts_at, postings}
 use Rattle.model.proofs.TermsLemmas.{AgreeUntil, same-lapse}
 use Rattle.model.specs.Shapes.{HasShapes}
-use Rattle.model.specs.WellFormed.{HasCome, IsLineOf, IsRegistry}
 
 -- ---- the accounts, once those of the first n registrars are open
 

@@ -1,16 +1,12 @@
 -- Accounts are opened one after another, and a book once it is known to be ours.
 use Rattle.std.proofs.Common.{◌≡◌, ◌≢◌, ℕ, suc, ◌+◌, true, false, cond, Result, Ok, Err, [], ◌∷◌, ◌++◌, refl, sym, ap, ◌∙◌, arith}
-use Rattle.policy.specs.Rules.{PolicyRules}
+use Rattle.registry.proofs.Words.{BookFinds, BookReads, BookState, Follows, Memory, OpensAny, OpensOurs, PolicyRules, Store, terms_of}
 use Rattle.registry.specs.declared.fault.OpenFault.{OpenFault}
 use Rattle.registry.specs.declared.fault.OpenFault.TheVariants as refusals
 use Rattle.registry.specs.Opening.{IsOthers, IsOurs, Opens, Refuses, RefusesOurs, goes_on, opened, openings}
-use Rattle.policy.specs.Terms.{terms_of}
-use Rattle.registry.specs.inner.Steps.{OpensAny, OpensOurs}
 use Rattle.registry.proofs.CallsKept.{begun, follows-on}
 use Rattle.registry.proofs.CrashLemmas.{refused_later}
 use Rattle.registry.proofs.StepLemmas.{LeadsHome, back-later, gave-up-later}
-use Rattle.books.specs.Book.{BookFinds, BookReads, BookState, Follows}
-use Rattle.states.specs.declared.fault.BookFault.TheVariants.{Memory, Store}
 use Rattle.states.specs.declared.readiness.Ready.{Ready}
 use Rattle.states.specs.declared.readiness.Ready.TheVariants.{Other}
 use Rattle.decisions.specs.declared.change.Change.TheVariants.{OpenAccount}

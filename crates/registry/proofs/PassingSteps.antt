@@ -1,17 +1,17 @@
 -- Time passes in a transaction, with what somebody asks for.
 use Rattle.std.proofs.Common.{◌≡◌, ℕ, true, max, List, Option, Some, None, Result, Ok, Err, refl, sym, subst, ap, ◌∙◌, ℤ, arith}
+use Rattle.registry.proofs.Words.{account_of, AreChangesMade, at, BookFault, BookState, BookStays, BookWrites, changed_all, deposit_decision, Due}
+use Rattle.registry.proofs.Words.{due_at_name, dues_lapsed, HasMoved, IsGreetingStep, IsLookUp, IsOrderCarriedOut, IsOrderStep, IsPrepared, IsStep}
+use Rattle.registry.proofs.Words.{IsWithin, lapsed, lapses-on, lapsing, now, ObjectKind, order_answer, order_effect, PolicyRules, Registry}
+use Rattle.registry.proofs.Words.{status_at, Stored, with_dues_lapsed, with_lapsed, Works}
 use Rattle.concerns.specs.Concerns.{IsSettledIn, concerned}
 use Rattle.concerns.specs.ConcernLaws.{IsSettledFor}
 use Rattle.concerns.specs.Names.{named_by}
 use Rattle.concerns.proofs.CommandLemmas.{answer-now, effect-now}
 use Rattle.concerns.proofs.ConcernLemmas.{caught-up}
 use Rattle.concerns.proofs.OrderLemmas.{deposit-effect-now, nothing-due, status-answer-now, status-effect-now}
-use Rattle.model.specs.Lapse.{at, lapse, lapsed, now}
+use Rattle.model.specs.Lapse.{lapse}
 use Rattle.facts.specs.Facts.{facts}
-use Rattle.model.specs.Registry.{Registry, account_of}
-use Rattle.model.proofs.LapseLaws.{lapses-on}
-use Rattle.objects.specs.declared.roid.ObjectKind.{ObjectKind}
-use Rattle.policy.specs.Rules.{PolicyRules}
 use Rattle.protocol.specs.declared.code.Code.{Code}
 use Rattle.protocol.specs.declared.command.Command.{Command}
 use Rattle.protocol.specs.declared.order.Order.TheVariants as orders
@@ -19,20 +19,11 @@ use Rattle.protocol.specs.declared.order.StatusOrder.{StatusOrder}
 use Rattle.protocol.specs.declared.reply.Reply.{Reply}
 use Rattle.protocol.specs.Orders.{name_ordered}
 use Rattle.registry.specs.declared.command.Prepared.{Prepared}
-use Rattle.registry.specs.Execution.{IsGreetingStep, IsOrderStep, IsPrepared, IsStep, due_at_name, with_lapsed}
-use Rattle.registry.specs.Faces.{IsLookUp}
-use Rattle.registry.specs.Lapsing.{dues_lapsed, with_dues_lapsed}
-use Rattle.registry.specs.inner.Passing.{Extent, IsPassed, IsSettledAs, about_named, concerning, due_in, everything, lapsing, nothing, status_at}
-use Rattle.registry.specs.inner.Steps.{HasMoved, IsOrderCarriedOut, AreChangesMade, IsWithin, Works}
+use Rattle.registry.specs.inner.Passing.{Extent, IsPassed, IsSettledAs, about_named, concerning, due_in, everything, nothing}
 use Rattle.registry.proofs.LapsingLemmas.{all-lapsed, chosen, each-as-some, has-concerned, some-lapsed}
 use Rattle.registry.proofs.StepLemmas.{within-on, written}
-use Rattle.decisions.specs.Changes.{changed_all}
 use Rattle.decisions.specs.Decisions.{decided}
-use Rattle.decisions.specs.Orders.{deposit_decision, order_answer, order_effect}
 use Rattle.decisions.specs.Steps.{answer, effect, reply_of}
-use Rattle.lifecycle.specs.declared.due_object.Due.{Due}
-use Rattle.books.specs.Book.{BookState, BookStays, BookWrites, Stored}
-use Rattle.states.specs.declared.fault.BookFault.{BookFault}
 use Rattle.concerns.specs.DueFor.{due_for}
 
 -- ---- of a registry

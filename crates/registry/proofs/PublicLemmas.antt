@@ -1,20 +1,15 @@
 -- What everybody may look up is read off the public part.
 use Rattle.std.proofs.Common.{◌≡◌, ℕ, Bool, not, ◌&&◌, cond, List, [], ◌∷◌, map, Option, Some, None, option_and_then, option_map, refl, sym, ap, ◌∙◌}
-use Rattle.std.specs.Prelude.{unwrap_or}
-use Rattle.std.specs.Cmp.Lexicographic.{slice_cmp, nat_list_cmp_total}
-use Rattle.std.specs.FinMap.{entries, get, keys, values}
 use Rattle.std.specs.List.{filter_map, list_any}
-use Rattle.std.specs.Ordering.{nat_cmp}
+use Rattle.registry.proofs.Words.{Contact, Domain, entries, get, keys, LookUpsArePublic, nat_cmp, nat_list_cmp_total, PolicyRules, Registry}
+use Rattle.registry.proofs.Words.{slice_cmp, unwrap_or, values}
 use Rattle.basis.proofs.MapLemmas.{entries-map_values, get-map_values, map-twice, names_apart}
 use Rattle.books.specs.Faces.{contact_face_at, domain_face, domain_face_at, host_face_at}
 use Rattle.facts.specs.Facts.{is_inside, superordinate_of_domain}
 use Rattle.isolation.specs.Public.{PublicPart, public_part}
-use Rattle.model.specs.Registry.{Registry}
 use Rattle.model.specs.Zone.{delegations, glue_at, own_hosts, zone_data}
 use Rattle.names.specs.Zone.{ZoneRules, last_two_of}
-use Rattle.objects.specs.declared.contact.Contact.{Contact}
 use Rattle.objects.specs.declared.contact.ContactFace.{ContactFace}
-use Rattle.objects.specs.declared.domain.Domain.{Domain}
 use Rattle.objects.specs.declared.domain.DomainFace.{DomainFace}
 use Rattle.objects.specs.declared.domain.Links.{Links}
 use Rattle.objects.specs.declared.host.Host.{Host}
@@ -30,9 +25,7 @@ use Rattle.objects.specs.Hosts.{host_face_of}
 use Rattle.objects.specs.Links.{names_contact, names_host}
 use Rattle.objects.specs.Statuses.{has_status}
 use Rattle.objects.proofs.StatusLemmas.{has_status-filter}
-use Rattle.policy.specs.Rules.{PolicyRules}
 use Rattle.policy.proofs.TextLemmas.{list_any_of_map}
-use Rattle.registry.specs.Faces.{LookUpsArePublic}
 use Rattle.rules.specs.ResponseData.{with_shown_link}
 
 -- ---- read off the public part

@@ -1,11 +1,8 @@
 -- One step in a transaction after another.
 use Rattle.std.proofs.Common.{◌≡◌, ◌<◌, ◌⊎◌, true, cond, Result, Ok, Err, sym, subst, ap, ◌∙◌}
-use Rattle.model.specs.Registry.{Registry}
-use Rattle.registry.specs.inner.Steps.{IsWithin, Works}
+use Rattle.registry.proofs.Words.{BookFault, BookFinds, BookLeavesSame, BookReads, BookState, BookStays, BookWrites, Follows, GivesUp, home, IsBack}
+use Rattle.registry.proofs.Words.{IsWithin, Memory, NoRefusal, Registry, Store, Stored, WentBack, Works}
 use Rattle.registry.proofs.CallsKept.{begun, follows-on}
-use Rattle.books.specs.Book.{BookFinds, BookReads, BookState, BookStays, BookWrites, Follows, GivesUp, IsBack, BookLeavesSame, NoRefusal, Stored, WentBack, home}
-use Rattle.states.specs.declared.fault.BookFault.{BookFault}
-use Rattle.states.specs.declared.fault.BookFault.TheVariants.{Memory, Store}
 
 leaves-on : (old mid new : BookState) → BookLeavesSame old mid → BookLeavesSame mid new → BookLeavesSame old new
 leaves-on old mid new first then = record {

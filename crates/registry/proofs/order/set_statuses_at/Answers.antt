@@ -1,7 +1,5 @@
+use Rattle.registry.proofs.Words.{IsOrderCarriedOut, IsOrderStep, status_at}
 use Rattle.protocol.specs.declared.order.Order.TheVariants as orders
-use Rattle.registry.specs.Execution.{IsOrderStep}
-use Rattle.registry.specs.inner.Passing.{status_at}
-use Rattle.registry.specs.inner.Steps.{IsOrderCarriedOut}
 use Rattle.registry.proofs.PassingSteps.{ordered}
 use Rattle.registry.proofs.StepLemmas.{works-then}
 use Rattle.registry.proofs.order.set_statuses_at.Goals as goal

@@ -1,9 +1,7 @@
 use Rattle.std.proofs.Common.{ap}
-use Rattle.registry.specs.Execution.{IsStep}
-use Rattle.registry.specs.inner.Steps.{AreChangesMade}
+use Rattle.registry.proofs.Words.{AreChangesMade, IsStep, Stored}
 use Rattle.registry.proofs.PassingSteps.{executed}
 use Rattle.registry.proofs.StepLemmas.{only-read, within-on, works-then}
-use Rattle.books.specs.Book.{Stored}
 use Rattle.registry.proofs.command.CommandWorkWork.work.Goals as goal
 
 pub returns : goal.returns

@@ -1,5 +1,4 @@
-use Rattle.registry.specs.Faces.{IsLookUp}
-use Rattle.registry.specs.inner.Passing.{lapsing}
+use Rattle.registry.proofs.Words.{IsLookUp, lapsing}
 use Rattle.registry.proofs.PassingSteps.{looked-up}
 use Rattle.registry.proofs.StepLemmas.{finds-then}
 use Rattle.registry.proofs.faces.LookUpWorkWork.work.Goals as goal

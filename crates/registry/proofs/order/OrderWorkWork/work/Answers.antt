@@ -1,10 +1,8 @@
 use Rattle.std.proofs.Common.{◌≡◌, arith, to_z, of_z}
 use Rattle.std.specs.Int.{w64}
 use Rattle.std.proofs.lemmas.Int.{ints}
-use Rattle.decisions.specs.Orders.{deposit_decision}
+use Rattle.registry.proofs.Words.{deposit_decision, IsOrderCarriedOut, IsOrderStep}
 use Rattle.protocol.specs.declared.order.Order.TheVariants as orders
-use Rattle.registry.specs.Execution.{IsOrderStep}
-use Rattle.registry.specs.inner.Steps.{IsOrderCarriedOut}
 use Rattle.registry.proofs.PassingSteps.{deposited}
 use Rattle.registry.proofs.StepLemmas.{works-then}
 use Rattle.registry.proofs.order.OrderWorkWork.work.Goals as goal
