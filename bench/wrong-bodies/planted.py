@@ -45,7 +45,7 @@ bug("a_host_of_nine_addresses_cuts_the_zone", "zonefile", "GlueRecorded::lines",
 bug("rdap_is_silent_on_thirteen_name_servers", "rdap", "domain::hosts_value", ("src/domain.rt", "    for host in hosts {", "    " + few("hosts.len() > 12") + " few.ok_or(AllocError)?; for host in hosts {"))
 bug("every_domain_is_always_looked_at", "sqlderived", "checking::due_of_domain", ("src/checking.rt", "        Some(moment) => moment,", "        Some(moment) => moment.min(domain.created),"))
 bug("look_ups_let_contacts_lapse_alone", "registry", "passing::due_in", ("src/passing.rt", "        Scope::Object(kind, name) => book.due_at(kind, name, moment, policy),", "        Scope::Object(_, name) => book.due_at(ObjectKind::Contact, name, moment, policy),"))
-bug("registrants_lead_to_no_domain", "sqlderived", "by_names::domains_to_contact", ("src/by_names.rt", "    Ok(joined(registered, linked)?)", "    drop(registered); Ok(linked)"))
+bug("registrants_lead_to_no_domain", "sqlderived", "by_names::ToContactWay::rows", ("src/by_names.rt", "    Ok(joined(registered, linked)?)", "    drop(registered); Ok(linked)"))
 bug("first_table_stays_in_force", "policy", "Schedule::in_force", ("src/schedule.rt", "                days = table.days;", "                return table.days;"))
 bug("report_is_awaited_by_the_length_of_the_deletion", "lifecycle", "deletion::purge_under", ("src/deletion.rt", "    let restored = end_in(schedule, Period::Restore, requested)?;", "    let restored = end_in(schedule, Period::Restore, deletion.deleted)?;"))
 bug("transfers_are_due_after_the_grace_of_a_transfer", "lifecycle", "transfer::requested", ("src/transfer.rt", "capped_end(policy, Period::Answer, moment)", "capped_end(policy, Period::Transfer, moment)"))

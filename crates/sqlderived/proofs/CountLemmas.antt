@@ -12,12 +12,6 @@ use Rattle.basis.proofs.ApartLaws.{given_apart, given_insert}
 use Rattle.sqlobjects.specs.inner.Changes.{with_named}
 use Rattle.sqlderived.specs.Held.{counts_one, counts_where}
 
-one_more : (c n : ℕ) → c + suc n ≡ suc c + n
-one_more c n = omega arith
-
-no_more : (n : ℕ) → n ≡ 0 + n
-no_more n = omega arith
-
 abbrev ticks : Bool → List Bool
 ticks b = cond b (true ∷ []) []
 
@@ -39,12 +33,12 @@ module _ {K X : Type 0} (p : X → Bool) where
   second es = map (λ (e : K × X). e.1) es
 
   ticked : (n : ℕ) (es : List (K × X)) → fold tick n (given_list each es) ≡ count p (second es) + n
-  ticked n [] = no_more n
+  ticked n [] = omega arith
   ticked n (e ∷ es) = go (p e.1) (λ m. ticked m es)
     where
       go : (b : Bool) → ((m : ℕ) → fold tick m (given_list each es) ≡ count p (second es) + m)
           → fold tick n (ticks b ++ given_list each es) ≡ length (cond b (e.1 ∷ filter p (second es)) (filter p (second es))) + n
-      go true later = later (suc n) ∙ one_more (count p (second es)) n
+      go true later = later (suc n) ∙ omega arith
       go false later = later n
 
   here : (k : K) (it : Option X) → fold tick 0 (option_map_or (each k) it []) ≡ counts_where p it
@@ -64,22 +58,13 @@ module _ {K X : Type 0} (p : X → Bool) where
         ∙ ticked (fold tick 0 (each k x)) (entries (remove m k)) ∙ ap (λ n. count p (values (remove m k)) + n) (one (p x))
 
     pub count-insert : (m : FinMap R X) (k : K) (x : X) → count p (values (insert m k x)) + counts_where p (get m k) ≡ count p (values m) + counts_one (p x)
-    count-insert m k x = sums _ _ _ _ _ (apart m k) (added m k x)
-      where
-        sums : (consistent new rest old more : ℕ) → consistent + 0 ≡ rest + old → new + 0 ≡ rest + more → new + old ≡ consistent + more
-        sums consistent new rest old more e f = omega arith
+    count-insert m k x = omega (arith, apart m k, added m k x)
 
     pub count-remove : (m : FinMap R X) (k : K) → count p (values (remove m k)) + counts_where p (get m k) ≡ count p (values m)
-    count-remove m k = sums _ _ _ (apart m k)
-      where
-        sums : (consistent rest old : ℕ) → consistent + 0 ≡ rest + old → rest + old ≡ consistent
-        sums consistent rest old e = omega arith
+    count-remove m k = omega (arith, apart m k)
 
 -- of what stands under names
 module _ {X : Type 0} (p : X → Bool) where
   pub count-put : (m : FinMap (slice_cmp nat_cmp) X) (name : List ℕ) (it : Option X) → count p (values (with_named m name it)) + counts_where p (get m name) ≡ count p (values m) + counts_where p it
   count-put m name (Some x) = count-insert p (slice_cmp nat_cmp) nat_list_cmp_total (slice_cmp-IsAntisymmetric nat_cmp-IsAntisymmetric) m name x
-  count-put m name None = count-remove p (slice_cmp nat_cmp) nat_list_cmp_total (slice_cmp-IsAntisymmetric nat_cmp-IsAntisymmetric) m name ∙ none (count p (values m))
-    where
-      none : (n : ℕ) → n ≡ n + 0
-      none n = omega arith
+  count-put m name None = count-remove p (slice_cmp nat_cmp) nat_list_cmp_total (slice_cmp-IsAntisymmetric nat_cmp-IsAntisymmetric) m name ∙ omega arith

@@ -1,15 +1,16 @@
 -- The rows found by their columns are those of all that is due.
-use Rattle.std.proofs.Common.{◌≡◌, ◌⊎◌, inl, inr, ℕ, ℤ, pos, ◌<◌, Bool, true, false, cond, ◌&&◌, int_eq, int_le, nat_lt, List, [], ◌∷◌, filter, Option, Some, None, option_and_then, option_map, refl, sym, ap, subst, ◌∙◌, true≢false, arith}
+use Rattle.std.proofs.Common.{◌≡◌, inl, inr, ℕ, ℤ, pos, negsuc, ◌<◌, Bool, true, false, cond, int_eq, int_le, nat_lt, List, [], ◌∷◌, filter, Option, Some, None, option_and_then, option_map, refl, sym, ap, ◌∙◌, true≢false, arith}
+use Rattle.std.proofs.lemmas.Bool.{and_from}
 use Rattle.std.proofs.lemmas.Bool.Decides.{nat_tests}
 use Rattle.std.proofs.lemmas.Int.{ints}
 use Rattle.std.specs.FinMap.{entries, get}
-use Rattle.std.specs.List.{list_all}
 use Rattle.std.specs.Option.{option_map_or}
 use Rattle.std.specs.Ordering.{is_gt}
 use Rattle.std.specs.declared.cmp.Ordering.{Ordering}
 use Rattle.calendar.specs.Moment.{capped}
 use Rattle.sqlite_keyed.specs.Lists.{insert_sorted, sort_by}
 use Rattle.sqlite_rules.specs.Lists.{Has}
+use Rattle.sqlite_rules.proofs.ListLemmas.{test_has}
 use Rattle.lifecycle.specs.Lapse.{completes_at, due_at, due_of}
 use Rattle.lifecycle.specs.Periods.{passed, rules_with}
 use Rattle.objects.specs.Transfers.{is_pending_state}
@@ -19,16 +20,19 @@ use Rattle.objects.specs.declared.roid.ObjectKind.{ObjectKind}
 use Rattle.objects.specs.declared.roid.ObjectKind.TheVariants as kinds
 use Rattle.objects.specs.declared.transfer.Transfer.{Transfer}
 use Rattle.sqlcolumns.specs.Contacts.{contact_of_columns, contact_registration_columns, contact_with}
+use Rattle.sqlcolumns.specs.Numbers.{maybe_moment_in, moment_in_column, registrar_column, registrar_in}
 use Rattle.sqlcolumns.specs.Registrations.{registration_in}
+use Rattle.sqlcolumns.specs.Roids.{roid_in}
 use Rattle.sqlcolumns.specs.Texts.{statuses_in, street_in}
 use Rattle.sqlcolumns.specs.Transfers.{is_same, maybe_due_column}
-use Rattle.sqlcolumns.proofs.ReadLemmas.{kept, step}
+use Rattle.sqlcolumns.proofs.NumberLemmas.{registrar_written}
+use Rattle.sqlcolumns.proofs.ReadLemmas.{kept, same_some, step}
 use Rattle.sqlcolumns.proofs.TransferLemmas.{same_is_equal}
 use Rattle.policy.specs.Rules.{PolicyRules}
-use Rattle.policy.specs.declared.schedule.Schedule.{Schedule}
 use Rattle.sqlrows.specs.inner.Layouts.{by_then_key}
 use Rattle.lifecycle.specs.declared.due_object.Due.{Due}
 use Rattle.lifecycle.specs.DueObjects.{contact_due, domain_due, due_then, found_due}
+use Rattle.model.specs.DueBy.{due_by}
 use Rattle.sqltables.specs.Contact as contact_table
 use Rattle.sqltables.specs.declared.contact.ContactRow.{ContactRow}
 use Rattle.sqltables.specs.Content.{Content}
@@ -41,52 +45,51 @@ use Rattle.sqlrows.specs.Read.{first_read, or_else}
 use Rattle.sqlobjects.specs.Objects.{contact_read, contacts_of, last_transfer}
 use Rattle.sqlobjects.proofs.NameLemmas.{contact-named}
 use Rattle.sqlobjects.proofs.PutLemmas.{bytes_is, filter-has, has-filter, only_named}
-use Rattle.sqlobjects.proofs.VerdictLemmas.{all-pass, each-passes}
 use Rattle.sqldomains.specs.Domains.{domain_read, domains_of}
 use Rattle.sqldomains.proofs.LinkedLemmas.{first-has}
 use Rattle.sqldomains.proofs.NameOrderLemmas.{name-read, row-under, stands-there}
 use Rattle.sqlterms.specs.Terms.{days_of_rows}
-use Rattle.sqlderived.specs.Dues.{dues_are_right, is_due_right}
+use Rattle.sqlderived.specs.Dues.{dues_are_right, has_right_due, is_due_right}
 use Rattle.sqlderived.specs.inner.Finding as spec
-use Rattle.sqlderived.proofs.FoundLemmas.{InOrder, found-of_rows, found-rises}
+use Rattle.sqlderived.proofs.FoundLemmas.{HasPicked, found-picked, rows-alike, same-picked}
 
 -- ---- sorted rows are the same rows
 
 module _ {X : Type 0} (cmp : X → X → Ordering) where
-  sorted-one : (new : X) (xs : List X) (x : X) → Has (insert_sorted cmp new xs) x → (x ≡ new) ⊎ Has xs x
-  sorted-one new [] x there = there
-  sorted-one new (y ∷ ys) x there = go (is_gt (cmp new y)) there (sorted-one new ys x)
+  inserted-has : (new : X) (xs : List X) (x : X) → Has (insert_sorted cmp new xs) x → Has (new ∷ xs) x
+  inserted-has new [] x there = there
+  inserted-has new (y ∷ ys) x there = go (is_gt (cmp new y)) there (inserted-has new ys x)
     where
-      behind : (x ≡ new) ⊎ Has ys x → (x ≡ new) ⊎ Has (y ∷ ys) x
-      behind (inl same) = inl same
-      behind (inr later) = inr (inr later)
-
-      go : (b : Bool) → Has (cond b (y ∷ insert_sorted cmp new ys) (new ∷ y ∷ ys)) x → (Has (insert_sorted cmp new ys) x → (x ≡ new) ⊎ Has ys x) → (x ≡ new) ⊎ Has (y ∷ ys) x
+      go : (b : Bool) → Has (cond b (y ∷ insert_sorted cmp new ys) (new ∷ y ∷ ys)) x → (Has (insert_sorted cmp new ys) x → Has (new ∷ ys) x) → Has (new ∷ y ∷ ys) x
       go true (inl same) more = inr (inl same)
-      go true (inr later) more = behind (more later)
-      go false there more = there
+      go true (inr later) more = elim (more later) [ inl same ↦ inl same | inr rest ↦ inr (inr rest) ]
+      go false has more = has
 
-  one-sorted : (new : X) (xs : List X) (x : X) → (x ≡ new) ⊎ Has xs x → Has (insert_sorted cmp new xs) x
-  one-sorted new [] x there = there
-  one-sorted new (y ∷ ys) x there = go (is_gt (cmp new y)) there (one-sorted new ys x)
+  has-inserted : (new : X) (xs : List X) (x : X) → Has (new ∷ xs) x → Has (insert_sorted cmp new xs) x
+  has-inserted new [] x there = there
+  has-inserted new (y ∷ ys) x there = go (is_gt (cmp new y)) there (has-inserted new ys x)
     where
-      go : (b : Bool) → (x ≡ new) ⊎ Has (y ∷ ys) x → ((x ≡ new) ⊎ Has ys x → Has (insert_sorted cmp new ys) x) → Has (cond b (y ∷ insert_sorted cmp new ys) (new ∷ y ∷ ys)) x
+      go : (b : Bool) → Has (new ∷ y ∷ ys) x → (Has (new ∷ ys) x → Has (insert_sorted cmp new ys) x) → Has (cond b (y ∷ insert_sorted cmp new ys) (new ∷ y ∷ ys)) x
       go true (inl same) more = inr (more (inl same))
       go true (inr (inl here)) more = inl here
       go true (inr (inr later)) more = inr (more (inr later))
-      go false there more = there
-
-  behind : (y : X) (xs ys : List X) (x : X) → (Has xs x → Has ys x) → (x ≡ y) ⊎ Has xs x → (x ≡ y) ⊎ Has ys x
-  behind y xs ys x more (inl same) = inl same
-  behind y xs ys x more (inr later) = inr (more later)
+      go false has more = has
 
   has-sorted : (xs : List X) (x : X) → Has (sort_by cmp xs) x → Has xs x
   has-sorted [] x there = there
-  has-sorted (y ∷ ys) x there = behind y (sort_by cmp ys) ys x (has-sorted ys x) (sorted-one y (sort_by cmp ys) x there)
+  has-sorted (y ∷ ys) x there = elim (inserted-has y (sort_by cmp ys) x there) [ inl same ↦ inl same | inr later ↦ inr (has-sorted ys x later) ]
 
   sorted-has : (xs : List X) (x : X) → Has xs x → Has (sort_by cmp xs) x
   sorted-has [] x there = there
-  sorted-has (y ∷ ys) x there = one-sorted y (sort_by cmp ys) x (behind y ys (sort_by cmp ys) x (sorted-has ys x) there)
+  sorted-has (y ∷ ys) x (inl same) = has-inserted y (sort_by cmp ys) x (inl same)
+  sorted-has (y ∷ ys) x (inr later) = has-inserted y (sort_by cmp ys) x (inr (sorted-has ys x later))
+
+  -- of all rows that may be due each is there
+  pub sorted-picked : {D : Type 0} (stored : List X) (may : X → Bool) (read : X → Option D) (test : X → D → Option Due) → HasPicked stored read may test (λ d. true) (sort_by cmp (filter may stored))
+  sorted-picked stored may read test = record {
+    some = λ row there. (has-filter may stored row (has-sorted (filter may stored) row there)).0;
+    all = λ row x d there reads is due picked. sorted-has (filter may stored) row (filter-has may stored row there is);
+  }
 
 -- ---- what is due by a moment is due no later
 
@@ -103,18 +106,27 @@ has-come t m u e = go (nat_lt t m) refl e
 
 -- ---- contacts
 
-pub record IsContactRow (row : ContactRow) (c : Contact) : Type 0 where
+pub record IsContactRow (xs : Content) (row : ContactRow) (c : Contact) : Type 0 where
   pub name : c.name ≡ row.name
+  pub sponsor : row.sponsor ≡ registrar_column c.sponsor
+  pub transfer : last_transfer (filter (transfer_with_contact row.id) xs.transfers) ≡ Some c.transfer
   pub due : maybe_due_column c.transfer ≡ row.due
 
-pub contact-row : (xs : Content) (row : ContactRow) (c : Contact) → contact_read xs row ≡ Some c → IsContactRow row c
+pub contact-row : (xs : Content) (row : ContactRow) (c : Contact) → contact_read xs row ≡ Some c → IsContactRow xs row c
 contact-row xs row c e =
     let transfer = step (last_transfer (filter (transfer_with_contact row.id) xs.transfers)) (contact_of_columns row) c e in
     let r = step (registration_in kinds.Contact (contact_registration_columns row)) _ c transfer.rest in
     let s = step (statuses_in row.statuses) _ c r.rest in
     let due = kept (contact_with row r.given s.given (street_in row.postal.street) transfer.given) c (is_same (maybe_due_column transfer.given) row.due) s.rest in
+    let roid = step (roid_in kinds.Contact row.creator row.serial) _ r.given r.is in
+    let sponsor = step (registrar_in row.sponsor) _ r.given roid.rest in
+    let created = step (moment_in_column row.created) _ r.given sponsor.rest in
+    let transferred = step (maybe_moment_in row.transferred) _ r.given created.rest in
+    let updated = step (maybe_moment_in row.updated) _ r.given transferred.rest in
     record {
       name = sym (ap (λ (x : Contact). x.name) due.1);
+      sponsor = sym (registrar_written row.sponsor c.sponsor (sponsor.is ∙ (λ i. Some (same_some _ r.given updated.rest i).sponsor) ∙ ap (λ (z : Contact). Some z.sponsor) due.1));
+      transfer = transfer.is ∙ ap (λ (z : Contact). Some z.transfer) due.1;
       due = ap (λ (x : Contact). maybe_due_column x.transfer) (sym due.1) ∙ same_is_equal (maybe_due_column transfer.given) row.due due.0;
     }
 
@@ -131,39 +143,20 @@ contact-under xs n c e =
 pub never-before : (m : ℕ) → int_le (pos 0) (pos m) ≡ true
 never-before m = grind (arith)
 
-both : (a b : Bool) → a ≡ true → b ≡ true → (a && b) ≡ true
-both true b e f = f
-both false b e f = cc
-
 column-within : (t u : ℕ) (transfer : Option Transfer) → option_and_then (passed t) (completes_at transfer) ≡ Some u → is_due_by (pos t) (maybe_due_column transfer) ≡ true
 column-within t u None e = cc
 column-within t u (Some x) e = go (is_pending_state x.state) e
   where
     go : (b : Bool) → option_and_then (passed t) (cond b (Some x.ac_date) None) ≡ Some u → is_due_by (pos t) (cond b (Some (pos x.ac_date)) None) ≡ true
-    go true f = both (int_le (pos 0) (pos x.ac_date)) (int_le (pos x.ac_date) (pos t)) (never-before x.ac_date) (has-come t x.ac_date u f)
+    go true f = and_from _ _ (never-before x.ac_date) (has-come t x.ac_date u f)
     go false f = cc
 
 -- a contact that is due has a row that may be
-pub contact-within : (xs : Content) (t : ℕ) (row : ContactRow) (c : Contact) (d : Due) → contact_read xs row ≡ Some c → contact_due t (row.name, c) ≡ Some d → contact_table.contact_within_due (pos t) row ≡ true
-contact-within xs t row c d reads due =
+contact-within : (xs : Content) (t : ℕ) (row : ContactRow) (c : Contact) (d : Due) → Has xs.contacts row → contact_read xs row ≡ Some c → contact_due t (row.name, c) ≡ Some d
+    → contact_table.contact_within_due (pos t) row ≡ true
+contact-within xs t row c d there reads due =
     let moment = some-due kinds.Contact row.name (option_and_then (passed t) (completes_at c.transfer)) d due in
     ap (is_due_by (pos t)) (sym (contact-row xs row c reads).due) ∙ column-within t moment.0 c.transfer moment.1
-
-contact-asked : (xs : Content) (t : ℕ) (row : ContactRow) (c : Contact) (d : Due) → Has xs.contacts row → contact_read xs row ≡ Some c → contact_due t (row.name, c) ≡ Some d
-    → Has (spec.contacts_until t xs) row
-contact-asked xs t row c d there reads due =
-    sorted-has (by_then_key contact_table.contacts contact_table.by_due) (filter (contact_table.contact_within_due (pos t)) xs.contacts) row
-    (filter-has (contact_table.contact_within_due (pos t)) xs.contacts row there (contact-within xs t row c d reads due))
-
-pub contacts-found : (xs : Content) (t : ℕ) (found : List Due) → IsConsistent xs → spec.with_rows (spec.contact_due_in_row t xs) [] (spec.contacts_until t xs) ≡ Some found → found ≡ found_due (contact_due t) [] (entries (contacts_of xs))
-contacts-found xs t found consistent e =
-    found-of_rows (λ (r : ContactRow). r.name) (λ (c : Contact). c.name) (contact_read xs) (contact_due t) xs.contacts (spec.contacts_until t xs) (contacts_of xs)
-    (λ row c reads. (contact-row xs row c reads).name)
-    (λ row c there reads. contact-stands xs row c consistent there reads)
-    (contact-under xs)
-    (λ row there. (has-filter (contact_table.contact_within_due (pos t)) xs.contacts row (has-sorted (by_then_key contact_table.contacts contact_table.by_due) (filter (contact_table.contact_within_due (pos t)) xs.contacts) row there)).0)
-    (contact-asked xs t)
-    [] found tt e
 
 -- ---- domains
 
@@ -180,14 +173,6 @@ no-later a b c e f = grind (arith, e, f)
 
 -- ---- a right column
 
--- under the days that were put down
-pub all-under : (days : Schedule) (xs : Content) → days_of_rows xs ≡ Some days → dues_are_right xs ≡ true → list_all (is_due_right days xs) xs.domains ≡ true
-all-under days xs are right = sym (λ i. list_all (λ row. option_map_or (λ ds. is_due_right ds xs row) (are i) true) xs.domains) ∙ right
-
--- those of some of the rows
-pub some-right : {X : Type 0} (test : X → Bool) (xs rows : List X) → ((row : X) → Has rows row → Has xs row) → list_all test xs ≡ true → list_all test rows ≡ true
-some-right test xs rows among all = all-pass test rows (λ row there. each-passes test xs all row (among row there))
-
 column-comes : (a : ℤ) (m : ℕ) → int_eq a (pos (capped m)) ≡ true → int_le a (pos m) ≡ true
 column-comes a m e = grind (arith, ints, e)
 
@@ -195,7 +180,7 @@ column-is : (n m : ℕ) → n < 7_258_118_399 → int_eq (pos n) (pos (capped m)
 column-is n m before e = grind (arith, ints, e)
 
 -- where it isn't the last moment it is when the domain is due
-pub due-by-column : (p : PolicyRules) (t : ℕ) (xs : Content) (row : DomainRow) (n : ℕ) → row.due ≡ pos n → n < 7_258_118_399 → is_due_right p.days xs row ≡ true
+due-by-column : (p : PolicyRules) (t : ℕ) (xs : Content) (row : DomainRow) (n : ℕ) → row.due ≡ pos n → n < 7_258_118_399 → is_due_right p.days xs row ≡ true
     → spec.domain_due_in_row p t xs row ≡ Some (due_then kinds.Domain row.name (passed t n))
 due-by-column p t xs row n column before right = go (domain_read xs row) refl
   where
@@ -207,39 +192,60 @@ due-by-column p t xs row n column before right = go (domain_read xs row) refl
         let due : due_at p d ≡ n = sym (same-due p d) ∙ column-is n (due_at (rules_with p.days) d) before is in
         λ i. Some (due_then kinds.Domain (name-read xs row d reads i) (passed t (due i)))
 
-pub until-there : (xs : Content) (t : ℕ) (row : DomainRow) → Has (spec.domains_until t xs) row → Has xs.domains row
-until-there xs t row there =
-    (has-filter (domain_table.domain_within_due (pos t)) xs.domains row (has-sorted (by_then_key domain_table.domains domain_table.by_due) (filter (domain_table.domain_within_due (pos t)) xs.domains) row there)).0
+-- a right column shows what is due of the domain
+shown-right : (p : PolicyRules) (t : ℕ) (xs : Content) (row : DomainRow) → is_due_right p.days xs row ≡ true → spec.domain_due_shown p t xs row ≡ spec.domain_due_in_row p t xs row
+shown-right p t xs row right = go row.due refl
+  where
+    at : (n : ℕ) → row.due ≡ pos n → (b : Bool) → nat_lt n 7_258_118_399 ≡ b
+        → cond b (Some (due_then kinds.Domain row.name (passed t n))) (spec.domain_due_in_row p t xs row) ≡ spec.domain_due_in_row p t xs row
+    at n column true before = sym (due-by-column p t xs row n column (grind (arith, nat_tests, before)) right)
+    at n column false late = refl
 
-module _ (xs : Content) (p : PolicyRules) (t : ℕ) (consistent : IsConsistent xs) (days : days_of_rows xs ≡ Some p.days) (right : dues_are_right xs ≡ true) where
+    go : (z : ℤ) → row.due ≡ z → spec.due_by_column p t xs row z ≡ spec.domain_due_in_row p t xs row
+    go (pos n) column = at n column (nat_lt n 7_258_118_399) refl
+    go (negsuc n) column = refl
+
+-- ---- what is due of rows, and of the objects that stand
+
+module _ (xs : Content) (p : PolicyRules) (t : ℕ) (pick : Due → Bool) (contacts : List ContactRow) (domains : List DomainRow)
+    (some_contacts : HasPicked xs.contacts (contact_read xs) (contact_table.contact_within_due (pos t)) (λ row c. contact_due t (row.name, c)) pick contacts)
+    (some_domains : HasPicked xs.domains (domain_read xs) (domain_table.domain_within_due (pos t)) (λ row d. domain_due p t (row.name, d)) pick domains)
+    (consistent : IsConsistent xs) (days : days_of_rows xs ≡ Some p.days) (right : dues_are_right xs ≡ true) where
   row-right : (row : DomainRow) → Has xs.domains row → is_due_right p.days xs row ≡ true
-  row-right row there = each-passes (is_due_right p.days xs) xs.domains (all-under p.days xs days right) row there
+  row-right row there = sym (ap (λ o. option_map_or (λ ds. is_due_right ds xs row) o true) days) ∙ test_has (has_right_due xs) xs.domains row right there
 
   -- a domain that is due has a row that may be
-  pub domain-within : (row : DomainRow) (d : Domain) (it : Due) → Has xs.domains row → domain_read xs row ≡ Some d → domain_due p t (row.name, d) ≡ Some it → domain_table.domain_within_due (pos t) row ≡ true
+  domain-within : (row : DomainRow) (d : Domain) (it : Due) → Has xs.domains row → domain_read xs row ≡ Some d → domain_due p t (row.name, d) ≡ Some it
+      → domain_table.domain_within_due (pos t) row ≡ true
   domain-within row d it there reads due =
       let moment = some-due kinds.Domain row.name (passed t (due_at p d)) it due in
       let column : int_le row.due (pos (due_at (rules_with p.days) d)) ≡ true = column-comes row.due (due_at (rules_with p.days) d) (sym (ap (λ o. option_map_or (λ x. int_eq row.due (pos (capped (due_at (rules_with p.days) x)))) o false) reads) ∙ row-right row there) in
       no-later row.due (pos (due_at p d)) (pos t) (ap (λ m. int_le row.due (pos m)) (sym (same-due p d)) ∙ column) (has-come t (due_at p d) moment.0 moment.1)
 
-  domain-asked : (row : DomainRow) (d : Domain) (it : Due) → Has xs.domains row → domain_read xs row ≡ Some d → domain_due p t (row.name, d) ≡ Some it → Has (spec.domains_until t xs) row
-  domain-asked row d it there reads due =
-      sorted-has (by_then_key domain_table.domains domain_table.by_due) (filter (domain_table.domain_within_due (pos t)) xs.domains) row
-      (filter-has (domain_table.domain_within_due (pos t)) xs.domains row there (domain-within row d it there reads due))
+  pub due-picked : (due : List Due) → spec.AreDue p t xs contacts domains due → filter pick due ≡ filter pick (due_by p t (spec.objects_in xs))
+  due-picked due it =
+      let second = sym (rows-alike (spec.domain_due_shown p t xs) (spec.domain_due_in_row p t xs) domains it.found
+      (λ row there. shown-right p t xs row (row-right row (some_domains.some row there)))) ∙ it.second in
+      let first = found-picked (λ (r : ContactRow). r.name) (λ (c : Contact). c.name) (contact_read xs) (contact_table.contact_within_due (pos t)) (contact_due t)
+      xs.contacts contacts (contacts_of xs) pick
+      (λ row c reads. (contact-row xs row c reads).name) (λ row c there reads. contact-stands xs row c consistent there reads) (contact-under xs) (contact-within xs t) some_contacts
+      [] [] it.found (record { rises = (tt, tt); forth = λ d none. none; back = λ d picked none. none }) it.first in
+      same-picked pick due (due_by p t (spec.objects_in xs))
+      (found-picked (λ (r : DomainRow). r.name) (λ (d : Domain). d.name) (domain_read xs) (domain_table.domain_within_due (pos t)) (domain_due p t) xs.domains domains (domains_of xs) pick
+      (name-read xs) (λ row d there reads. stands-there xs row d consistent there reads) (row-under xs) domain-within some_domains
+      it.found (found_due (contact_due t) [] (entries (contacts_of xs))) due first second)
 
-  domains-found : (found all : List Due) → InOrder found → spec.with_rows (spec.domain_due_in_row p t xs) found (spec.domains_until t xs) ≡ Some all → all ≡ found_due (domain_due p t) found (entries (domains_of xs))
-  domains-found found all rise e =
-      found-of_rows (λ (r : DomainRow). r.name) (λ (d : Domain). d.name) (domain_read xs) (domain_due p t) xs.domains (spec.domains_until t xs) (domains_of xs)
-      (name-read xs)
-      (λ row d there reads. stands-there xs row d consistent there reads)
-      (row-under xs)
-      (until-there xs t)
-      domain-asked
-      found all rise e
+-- ---- all that is due
 
-  pub all-found : (contacts all : List Due) → spec.with_rows (spec.contact_due_in_row t xs) [] (spec.contacts_until t xs) ≡ Some contacts
-      → spec.with_rows (spec.domain_due_in_row p t xs) contacts (spec.domains_until t xs) ≡ Some all → all ≡ found_due (domain_due p t) (found_due (contact_due t) [] (entries (contacts_of xs))) (entries (domains_of xs))
-  all-found contacts all first second =
-      let are = contacts-found xs t contacts consistent first in
-      domains-found contacts all (subst InOrder (sym are) (found-rises (contact_due t) [] (entries (contacts_of xs)) tt)) second
-      ∙ ap (λ found. found_due (domain_due p t) found (entries (domains_of xs))) are
+whole : (ds : List Due) → filter (λ d. true) ds ≡ ds
+whole [] = refl
+whole (d ∷ ds) = ap (λ rest. d ∷ rest) (whole ds)
+
+pub all-due : (xs : Content) (p : PolicyRules) (t : ℕ) (due : List Due) → IsConsistent xs → days_of_rows xs ≡ Some p.days → dues_are_right xs ≡ true
+    → spec.AreDue p t xs (spec.contacts_until t xs) (spec.domains_until t xs) due → due ≡ due_by p t (spec.objects_in xs)
+all-due xs p t due consistent days right are =
+    sym (whole due) ∙ due-picked xs p t (λ d. true) (spec.contacts_until t xs) (spec.domains_until t xs)
+    (sorted-picked (by_then_key contact_table.contacts contact_table.by_due) xs.contacts (contact_table.contact_within_due (pos t)) (contact_read xs) (λ row c. contact_due t (row.name, c)))
+    (sorted-picked (by_then_key domain_table.domains domain_table.by_due) xs.domains (domain_table.domain_within_due (pos t)) (domain_read xs) (λ row d. domain_due p t (row.name, d)))
+    consistent days right due are
+    ∙ whole (due_by p t (spec.objects_in xs))

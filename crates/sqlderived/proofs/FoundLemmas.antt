@@ -1,5 +1,5 @@
 -- What is found due of rows is what is due of the objects that stand.
-use Rattle.std.proofs.Common.{◌≡◌, ◌⊎◌, inl, inr, ℕ, Bool, true, false, cond, List, [], ◌∷◌, filter, Option, Some, None, option_map, refl, sym, ap, subst, ◌∙◌}
+use Rattle.std.proofs.Common.{◌≡◌, ◌⊎◌, ⊎_elim, inl, inr, ℕ, Bool, true, false, cond, List, [], ◌∷◌, filter, Option, Some, None, option_map, refl, sym, ap, subst, ◌∙◌, arith}
 use Rattle.std.specs.Cmp.Lexicographic.{nat_list_cmp_total, slice_cmp}
 use Rattle.std.specs.FinMap.{FinMap, IsAntisymmetric, entries, find, get, get-entries, nat_cmp-IsAntisymmetric, slice_cmp-IsAntisymmetric}
 use Rattle.std.specs.Ordering.{eq_by_cmp, nat_cmp, ordering_then}
@@ -9,11 +9,11 @@ use Rattle.sqlite_rules.specs.Lists.{Has}
 use Rattle.basis.proofs.EntryLaws.{Each, each_entry}
 use Rattle.sqlobjects.proofs.PutLemmas.{bytes_is, filter-has, has-filter}
 use Rattle.objects.specs.declared.roid.ObjectKind.{ObjectKind}
-use Rattle.objects.specs.declared.roid.ObjectKind.TheVariants as kinds
 use Rattle.sqlcolumns.proofs.ReadLemmas.{same_some, step}
 use Rattle.lifecycle.specs.declared.due_object.Due.{Due}
 use Rattle.lifecycle.specs.DueObjects.{due_cmp, found_due, kind_rank, with_due}
 use Rattle.lifecycle.specs.DueOrder.{due_cmp_total}
+use Rattle.sqlcolumns.specs.Steps.{◌>>=◌}
 use Rattle.sqlderived.specs.inner.Finding.{with_row, with_rows}
 use Rattle.sqlderived.proofs.OrderLemmas.{Rises, has-insert, insert-from, insert-keeps, insert-rises, same-list}
 
@@ -25,15 +25,7 @@ both-equal Equal b e = (refl, e)
 both-equal Greater b e = cc
 
 same-kind : (k l : ObjectKind) → kind_rank k ≡ kind_rank l → k ≡ l
-same-kind kinds.Contact kinds.Contact e = refl
-same-kind kinds.Contact kinds.Domain e = cc
-same-kind kinds.Contact kinds.Host e = cc
-same-kind kinds.Domain kinds.Contact e = cc
-same-kind kinds.Domain kinds.Domain e = refl
-same-kind kinds.Domain kinds.Host e = cc
-same-kind kinds.Host kinds.Contact e = cc
-same-kind kinds.Host kinds.Domain e = cc
-same-kind kinds.Host kinds.Host e = refl
+same-kind k l e = grind arith
 
 pub due_same : IsAntisymmetric due_cmp
 due_same a b e =
@@ -95,23 +87,6 @@ module _ {X : Type 0} (test : X → Option Due) where
   found-rises found [] rise = rise
   found-rises found (x ∷ xs) rise = found-rises (with_due (test x) found) xs (one-rises (test x) found rise)
 
-module _ {X Y : Type 0} (test : X → Option Due) (other : Y → Option Due) (found : List Due) (xs : List X) (ys : List Y) where
-  -- what is found in one list is found in the other
-  one-way : ((x : X) (d : Due) → Has xs x → test x ≡ Some d → (y : Y) × Has ys y × (other y ≡ Some d)) → (d : Due) → Has (found_due test found xs) d → Has (found_due other found ys) d
-  one-way there d has = go (found-from test found xs d has)
-    where
-      go : Has found d ⊎ ((x : X) × Has xs x × (test x ≡ Some d)) → Has (found_due other found ys) d
-      go (inl before) = found-keeps other found ys d before
-      go (inr it) = let that = there it.0 d it.1 it.2 in found-has other found ys that.0 d that.1 that.2
-
-pub same-found : {X Y : Type 0} (test : X → Option Due) (other : Y → Option Due) (found : List Due) (xs : List X) (ys : List Y) → InOrder found
-    → ((x : X) (d : Due) → Has xs x → test x ≡ Some d → (y : Y) × Has ys y × (other y ≡ Some d))
-    → ((y : Y) (d : Due) → Has ys y → other y ≡ Some d → (x : X) × Has xs x × (test x ≡ Some d))
-    → found_due test found xs ≡ found_due other found ys
-same-found test other found xs ys rise there back =
-    same-list due_cmp due_cmp_total due_same (found_due test found xs) (found_due other found ys) (found-rises test found xs rise) (found-rises other found ys rise)
-    (one-way test other found xs ys there) (one-way other test found ys xs back)
-
 -- ---- rows that read
 
 -- what a row shows to be due
@@ -130,14 +105,19 @@ rows-read read found all (row ∷ rows) e =
     rows-read read first.given all rows first.rest
     ∙ ap (λ more. found_due (λ r. shown (read r)) more rows) (sym (one-row found first.given (read row) first.is))
 
+-- rows that show the same
+pub rows-alike : {R : Type 0} (f g : R → Option (Option Due)) (rows : List R) (found : List Due) → ((row : R) → Has rows row → f row ≡ g row) → with_rows f found rows ≡ with_rows g found rows
+rows-alike f g [] found same = refl
+rows-alike f g (row ∷ rows) found same = λ i. with_row found (same row (inl refl) i) >>= (λ more. rows-alike f g rows more (λ r there. same r (inr there)) i)
+
 -- ---- entries
 
-pub entry-is : {X : Type 0} (m : FinMap (slice_cmp nat_cmp) X) (es : List (List ℕ × X)) → Each (λ n x. get m n ≡ Some x) es → (e : List ℕ × X) → Has es e → get m e.0 ≡ Some e.1
+entry-is : {X : Type 0} (m : FinMap (slice_cmp nat_cmp) X) (es : List (List ℕ × X)) → Each (λ n x. get m n ≡ Some x) es → (e : List ℕ × X) → Has es e → get m e.0 ≡ Some e.1
 entry-is m [] each e there = absurd there
 entry-is m (f ∷ fs) each e (inl same) = (λ i. get m ((same i).0)) ∙ each.0 ∙ ap (λ (g : _). Some g.1) (sym same)
 entry-is m (f ∷ fs) each e (inr later) = entry-is m fs each.1 e later
 
-pub has-found : {X : Type 0} (es : List (List ℕ × X)) (n : List ℕ) (x : X) → find (slice_cmp nat_cmp) n es ≡ Some x → Has es (n, x)
+has-found : {X : Type 0} (es : List (List ℕ × X)) (n : List ℕ) (x : X) → find (slice_cmp nat_cmp) n es ≡ Some x → Has es (n, x)
 has-found [] n x e = cc
 has-found {X} (f ∷ fs) n x e = go (eq_by_cmp (slice_cmp nat_cmp) n f.0) refl e (has-found fs n x)
   where
@@ -145,14 +125,58 @@ has-found {X} (f ∷ fs) n x e = go (eq_by_cmp (slice_cmp nat_cmp) n f.0) refl e
     go true is e more = inl (λ i. (bytes_is n f.0 is i, sym (same_some f.1 x e) i))
     go false is e more = inr (more e)
 
-module _ {R X : Type 0} (name : R → List ℕ) (its : X → List ℕ) (read : R → Option X) (test : List ℕ × X → Option Due) (rows asked : List R) (m : FinMap (slice_cmp nat_cmp) X)
+-- ---- what is picked of it
+
+-- what passes a test of a list in order is in order
+pub picked-rises : (pick : Due → Bool) (ds : List Due) → InOrder ds → InOrder (filter pick ds)
+picked-rises pick [] rise = tt
+picked-rises pick (d ∷ ds) rise = go (pick d) (picked-rises pick ds rise.1)
+  where
+    go : (b : Bool) → InOrder (filter pick ds) → InOrder (cond b (d ∷ filter pick ds) (filter pick ds))
+    go true more = (λ q there. rise.0 q (has-filter pick ds q there).0, more)
+    go false more = more
+
+-- what the first has the second has, and of that the first has all that passes
+pub record ArePicked (pick : Due → Bool) (ds es : List Due) : Type 0 where
+  pub rises : InOrder ds × InOrder es
+  pub forth : (d : Due) → Has ds d → Has es d
+  pub back : (d : Due) → pick d ≡ true → Has es d → Has ds d
+
+pub same-picked : (pick : Due → Bool) (ds es : List Due) → ArePicked pick ds es → filter pick ds ≡ filter pick es
+same-picked pick ds es are =
+    same-list due_cmp due_cmp_total due_same (filter pick ds) (filter pick es) (picked-rises pick ds are.rises.0) (picked-rises pick es are.rises.1)
+    (λ d has. let it = has-filter pick ds d has in filter-has pick es d (are.forth d it.0) it.1)
+    (λ d has. let it = has-filter pick es d has in filter-has pick ds d (are.back d it.1 it.0) it.1)
+
+-- by two tests, where what passes one passes the other
+pub tests-picked : {X Y : Type 0} (pick : Due → Bool) (test : X → Option Due) (other : Y → Option Due) (found more : List Due) (xs : List X) (ys : List Y) → ArePicked pick found more
+    → ((x : X) (d : Due) → Has xs x → test x ≡ Some d → (y : Y) × Has ys y × (other y ≡ Some d))
+    → ((y : Y) (d : Due) → pick d ≡ true → Has ys y → other y ≡ Some d → (x : X) × Has xs x × (test x ≡ Some d))
+    → ArePicked pick (found_due test found xs) (found_due other more ys)
+tests-picked pick test other found more xs ys before there back = record {
+  rises = (found-rises test found xs before.rises.0, found-rises other more ys before.rises.1);
+  forth = λ d has. ⊎_elim (λ was. found-keeps other more ys d (before.forth d was))
+      (λ it. let that = there it.0 d it.1 it.2 in found-has other more ys that.0 d that.1 that.2) (found-from test found xs d has);
+  back = λ d picked has. ⊎_elim (λ was. found-keeps test found xs d (before.back d picked was))
+      (λ it. let that = back it.0 d picked it.1 it.2 in found-has test found xs that.0 d that.1 that.2) (found-from other more ys d has);
+}
+
+-- ---- what is found of rows, and of the objects that stand
+
+-- among these rows are all that may be due and show something that is picked
+pub record HasPicked {R X : Type 0} (stored : List R) (read : R → Option X) (may : R → Bool) (test : R → X → Option Due) (pick : Due → Bool) (rows : List R) : Type 0 where
+  pub some : (row : R) → Has rows row → Has stored row
+  pub all : (row : R) (x : X) (d : Due) → Has stored row → read row ≡ Some x → may row ≡ true → test row x ≡ Some d → pick d ≡ true → Has rows row
+
+module _ {R X : Type 0} (name : R → List ℕ) (its : X → List ℕ) (read : R → Option X) (may : R → Bool) (test : List ℕ × X → Option Due)
+    (stored rows : List R) (m : FinMap (slice_cmp nat_cmp) X) (pick : Due → Bool)
     (named : (row : R) (x : X) → read row ≡ Some x → its x ≡ name row)
-    (stands : (row : R) (x : X) → Has rows row → read row ≡ Some x → get m (name row) ≡ Some x)
-    (under : (n : List ℕ) (x : X) → get m n ≡ Some x → (row : R) × Has rows row × (read row ≡ Some x) × (name row ≡ n))
-    (sound : (row : R) → Has asked row → Has rows row)
-    (complete : (row : R) (x : X) (d : Due) → Has rows row → read row ≡ Some x → test (name row, x) ≡ Some d → Has asked row) where
-  abbrev due_in : R → Option (Option Due)
-  due_in row = option_map (λ x. test (its x, x)) (read row)
+    (stands : (row : R) (x : X) → Has stored row → read row ≡ Some x → get m (name row) ≡ Some x)
+    (under : (n : List ℕ) (x : X) → get m n ≡ Some x → (row : R) × Has stored row × (read row ≡ Some x) × (name row ≡ n))
+    (within : (row : R) (x : X) (d : Due) → Has stored row → read row ≡ Some x → test (name row, x) ≡ Some d → may row ≡ true)
+    (has : HasPicked stored read may (λ row x. test (name row, x)) pick rows) where
+  abbrev due_of : R → Option Due
+  due_of row = shown (option_map (λ x. test (its x, x)) (read row))
 
   given-row : (row : R) (d : Due) (o : Option X) → read row ≡ o → shown (option_map (λ x. test (its x, x)) o) ≡ Some d → (x : X) × (read row ≡ Some x) × (test (its x, x) ≡ Some d)
   given-row row d None is e = cc
@@ -161,71 +185,18 @@ module _ {R X : Type 0} (name : R → List ℕ) (its : X → List ℕ) (read : R
   entry-there : (e : List ℕ × X) → Has (entries m) e → get m e.0 ≡ Some e.1
   entry-there = entry-is m (entries m) (each_entry (slice_cmp nat_cmp) nat_list_cmp_total (slice_cmp-IsAntisymmetric nat_cmp-IsAntisymmetric) (λ n x. get m n ≡ Some x) m (λ n x there. there))
 
-  pub found-of_rows : (found all : List Due) → InOrder found → with_rows due_in found asked ≡ Some all → all ≡ found_due test found (entries m)
-  found-of_rows found all rise e =
-      rows-read due_in found all asked e
-      ∙ same-found (λ r. shown (due_in r)) test found asked (entries m) rise
+  pub found-picked : (found other all : List Due) → ArePicked pick found other → with_rows (λ row. option_map (λ x. test (its x, x)) (read row)) found rows ≡ Some all
+      → ArePicked pick all (found_due test other (entries m))
+  found-picked found other all before e =
+      subst (λ l. ArePicked pick l (found_due test other (entries m))) (sym (rows-read (λ row. option_map (λ x. test (its x, x)) (read row)) found all rows e))
+      (tests-picked pick due_of test found other rows (entries m) before
       (λ row d there is.
       let it = given-row row d (read row) refl is in
-      ((name row, it.0), has-found (entries m) (name row) it.0 (sym (get-entries m (name row)) ∙ stands row it.0 (sound row there) it.1), (λ i. test (sym (named row it.0 it.1) i, it.0)) ∙ it.2))
-      (λ e d there is.
+      ((name row, it.0), has-found (entries m) (name row) it.0 (sym (get-entries m (name row)) ∙ stands row it.0 (has.some row there) it.1), (λ i. test (sym (named row it.0 it.1) i, it.0)) ∙ it.2))
+      (λ e d picked there is.
       let row = under e.0 e.1 (entry-there e there) in
-      let passes : test (name row.0, e.1) ≡ Some d = (λ i. test (row.3 i, e.1)) ∙ is in
-      (row.0, complete row.0 e.1 d row.1 row.2 passes, (λ i. shown (option_map (λ x. test (its x, x)) (row.2 i))) ∙ (λ i. test (named row.0 e.1 row.2 i, e.1)) ∙ passes))
-
--- ---- what is picked of it
-
--- what passes a test of a list in order is in order
-module _ (pick : Due → Bool) where
-  pub picked-rises : (ds : List Due) → InOrder ds → InOrder (filter pick ds)
-  picked-rises [] rise = tt
-  picked-rises (d ∷ ds) rise = go (pick d) (picked-rises ds rise.1)
-    where
-      go : (b : Bool) → InOrder (filter pick ds) → InOrder (cond b (d ∷ filter pick ds) (filter pick ds))
-      go true more = (λ q there. rise.0 q (has-filter pick ds q there).0, more)
-      go false more = more
-
-  -- lists in order that have the same of what passes
-  pub same-picked : (ds es : List Due) → InOrder ds → InOrder es → ((d : Due) → pick d ≡ true → Has ds d → Has es d) → ((d : Due) → pick d ≡ true → Has es d → Has ds d) → filter pick ds ≡ filter pick es
-  same-picked ds es rise other there back =
-      same-list due_cmp due_cmp_total due_same (filter pick ds) (filter pick es) (picked-rises ds rise) (picked-rises es other)
-      (λ d has. let it = has-filter pick ds d has in filter-has pick es d (there d it.1 it.0) it.1)
-      (λ d has. let it = has-filter pick es d has in filter-has pick ds d (back d it.1 it.0) it.1)
-
-module _ {R X : Type 0} (name : R → List ℕ) (its : X → List ℕ) (read : R → Option X) (test : List ℕ × X → Option Due) (rows asked : List R) (m : FinMap (slice_cmp nat_cmp) X) where
-  abbrev due_of_row : R → Option (Option Due)
-  due_of_row row = option_map (λ x. test (its x, x)) (read row)
-
-  given_row : (row : R) (d : Due) (o : Option X) → read row ≡ o → shown (option_map (λ x. test (its x, x)) o) ≡ Some d → (x : X) × (read row ≡ Some x) × (test (its x, x) ≡ Some d)
-  given_row row d None is e = cc
-  given_row row d (Some x) is e = (x, is, e)
-
-  -- what is found of rows that stand is found of the objects
-  pub objects-found : ((row : R) (x : X) → read row ≡ Some x → its x ≡ name row) → ((row : R) (x : X) → Has rows row → read row ≡ Some x → get m (name row) ≡ Some x) → ((row : R) → Has asked row → Has rows row)
-      → (found other : List Due) → ((d : Due) → Has found d → Has other d) → (d : Due) → Has (found_due (λ r. shown (due_of_row r)) found asked) d → Has (found_due test other (entries m)) d
-  objects-found named stands sound found other before d has = go (found-from (λ r. shown (due_of_row r)) found asked d has)
-    where
-      go : Has found d ⊎ ((row : R) × Has asked row × (shown (due_of_row row) ≡ Some d)) → Has (found_due test other (entries m)) d
-      go (inl there) = found-keeps test other (entries m) d (before d there)
-      go (inr it) =
-          let row = it.0 in
-          let given = given_row row d (read row) refl it.2 in
-          found-has test other (entries m) (name row, given.0) d
-          (has-found (entries m) (name row) given.0 (sym (get-entries m (name row)) ∙ stands row given.0 (sound row it.1) given.1))
-          ((λ i. test (sym (named row given.0 given.1) i, given.0)) ∙ given.2)
-
-  -- what is found of the objects and picked is found of rows among which are all that are picked
-  pub rows-found : (pick : Due → Bool) → ((row : R) (x : X) → read row ≡ Some x → its x ≡ name row) → ((n : List ℕ) (x : X) → get m n ≡ Some x → (row : R) × Has rows row × (read row ≡ Some x) × (name row ≡ n))
-      → ((row : R) (x : X) (d : Due) → Has rows row → read row ≡ Some x → test (name row, x) ≡ Some d → pick d ≡ true → Has asked row)
-      → (found other : List Due) → ((d : Due) → pick d ≡ true → Has other d → Has found d) → (d : Due) → pick d ≡ true → Has (found_due test other (entries m)) d → Has (found_due (λ r. shown (due_of_row r)) found asked) d
-  rows-found pick named under complete found other before d picked has = go (found-from test other (entries m) d has)
-    where
-      go : Has other d ⊎ ((e : List ℕ × X) × Has (entries m) e × (test e ≡ Some d)) → Has (found_due (λ r. shown (due_of_row r)) found asked) d
-      go (inl there) = found-keeps (λ r. shown (due_of_row r)) found asked d (before d picked there)
-      go (inr it) =
-          let e = it.0 in
-          let there : get m e.0 ≡ Some e.1 = entry-is m (entries m) (each_entry (slice_cmp nat_cmp) nat_list_cmp_total (slice_cmp-IsAntisymmetric nat_cmp-IsAntisymmetric) (λ n x. get m n ≡ Some x) m (λ n x same. same)) e it.1 in
-          let row = under e.0 e.1 there in
-          let passes : test (name row.0, e.1) ≡ Some d = (λ i. test (row.3 i, e.1)) ∙ it.2 in
-          found-has (λ r. shown (due_of_row r)) found asked row.0 d (complete row.0 e.1 d row.1 row.2 passes picked)
-          ((λ i. shown (option_map (λ x. test (its x, x)) (row.2 i))) ∙ (λ i. test (named row.0 e.1 row.2 i, e.1)) ∙ passes)
+      let passes : test (name row.0, e.1) ≡ Some d = (λ i. test (row.3 i, e.1)) ∙ is in (
+        row.0,
+        has.all row.0 e.1 d row.1 row.2 (within row.0 e.1 d row.1 row.2 passes) passes picked,
+        (λ i. shown (option_map (λ x. test (its x, x)) (row.2 i))) ∙ (λ i. test (named row.0 e.1 row.2 i, e.1)) ∙ passes,
+      )))

@@ -1,12 +1,13 @@
 -- The columns are as right after a change as before.
-use Rattle.std.proofs.Common.{◌≡◌, ℕ, ℤ, pos, negsuc, ◌+◌, ◌+ℤ◌, Bool, true, false, cond, ◌&&◌, List, [], ◌∷◌, Option, Some, None, refl, sym, ap, subst, ◌∙◌, arith, int_eq}
+use Rattle.std.proofs.Common.{◌≡◌, ℕ, ℤ, pos, negsuc, ◌+◌, ◌+ℤ◌, Bool, true, false, cond, List, Option, Some, None, refl, sym, ap, subst, ◌∙◌, arith, int_eq}
 use Rattle.std.proofs.lemmas.Bool.{and_parts}
 use Rattle.std.proofs.lemmas.Int.{ints}
+use Rattle.std.specs.Cmp.{both_ways}
 use Rattle.std.specs.FinMap.{get, values}
-use Rattle.std.specs.List.{list_all}
 use Rattle.std.specs.Option.{option_map, option_map_or, unwrap_or}
 use Rattle.sqlite_keyed.specs.Keyed.{get_by}
 use Rattle.sqlite_keyed.proofs.KeyedLemmas.{key-get_by, same_int}
+use Rattle.sqlite_rules.proofs.ListLemmas.{test_from}
 use Rattle.objects.specs.declared.domain.Domain.{Domain}
 use Rattle.sqlcolumns.specs.Numbers.{is_place, registrar_in}
 use Rattle.sqlrows.proofs.RowLemmas.{all_with}
@@ -18,7 +19,7 @@ use Rattle.sqlaccounts.proofs.FindingLemmas.{equal}
 use Rattle.sqldomains.specs.Domains.{domains_of}
 use Rattle.sqlobjects.specs.inner.Changes.{with_named}
 use Rattle.sqlderived.specs.Held.{counts_where, has_right_held, held_of, helds_are_right, is_held_by, is_held_right}
-use Rattle.sqlderived.specs.inner.Recounts.{AreAlike, AreCounted, IsRecounted}
+use Rattle.sqlderived.specs.inner.Recounts.{AreAlike, AreBoth, AreCounted, IsAlikeButHeld, IsHeldCounted, IsRecounted}
 use Rattle.sqlderived.proofs.CountLemmas.{count, count-put}
 use Rattle.sqltables.specs.Account as table
 use Rattle.sqltables.specs.declared.account.AccountRow.{AccountRow}
@@ -31,10 +32,6 @@ key = table.accounts.key
 
 -- ---- all are right where that of each number is
 
-all-true : (test : ℤ → Bool) (rows : List AccountRow) → ((id : ℤ) → test id ≡ true) → list_all (λ (row : AccountRow). test row.id) rows ≡ true
-all-true test [] each = refl
-all-true test (row ∷ rows) each = ap (λ b. b && list_all (λ (x : AccountRow). test x.id) rows) (each row.id) ∙ all-true test rows each
-
 each-right : (xs : Content) → helds_are_right xs ≡ true → (id : ℤ) → has_right_held xs id ≡ true
 each-right xs right id = go (row_of xs id) refl
   where
@@ -42,31 +39,19 @@ each-right xs right id = go (row_of xs id) refl
     go None e = ap (λ o. option_map_or (is_held_right xs) o true) e
     go (Some row) e = (and_parts _ _ (all_with key (has_right_held xs) xs.accounts id row e ∙ right)).0
 
-both-ways : (a b : Bool) → (a ≡ true → b ≡ true) → (b ≡ true → a ≡ true) → a ≡ b
-both-ways true true f g = refl
-both-ways true false f g = sym (f refl)
-both-ways false true f g = g refl
-both-ways false false f g = refl
-
 pub right-alike : (xs ys : Content) → ((id : ℤ) → has_right_held ys id ≡ has_right_held xs id) → helds_are_right ys ≡ helds_are_right xs
 right-alike xs ys same =
-    both-ways (helds_are_right ys) (helds_are_right xs)
-    (λ right. all-true (has_right_held xs) xs.accounts (λ id. sym (same id) ∙ each-right ys right id))
-    (λ right. all-true (has_right_held ys) ys.accounts (λ id. same id ∙ each-right xs right id))
+    both_ways (helds_are_right ys) (helds_are_right xs)
+    (λ right. test_from (λ (row : AccountRow). has_right_held xs row.id) xs.accounts (λ row there. sym (same row.id) ∙ each-right ys right row.id))
+    (λ right. test_from (λ (row : AccountRow). has_right_held ys row.id) ys.accounts (λ row there. same row.id ∙ each-right xs right row.id))
 
 -- ---- the column and the count change by the same
 
-there : (a b : ℤ) (x y l m : ℕ) → b +ℤ pos l ≡ a +ℤ pos m → y + l ≡ x + m → a ≡ pos x → b ≡ pos y
-there a b x y l m e f g = omega (arith, ints, e, f, g)
-
-back : (a b : ℤ) (x y l m : ℕ) → b +ℤ pos l ≡ a +ℤ pos m → y + l ≡ x + m → b ≡ pos y → a ≡ pos x
-back a b x y l m e f g = omega (arith, ints, e, f, g)
-
 same-right : (a b : ℤ) (x y l m : ℕ) → b +ℤ pos l ≡ a +ℤ pos m → y + l ≡ x + m → int_eq b (pos y) ≡ int_eq a (pos x)
 same-right a b x y l m e f =
-    both-ways (int_eq b (pos y)) (int_eq a (pos x))
-    (λ is. equal a (pos x) (back a b x y l m e f (same_int b (pos y) is)))
-    (λ is. equal b (pos y) (there a b x y l m e f (same_int a (pos x) is)))
+    both_ways (int_eq b (pos y)) (int_eq a (pos x))
+    (λ is. equal a (pos x) (omega (arith, ints, e, f, same_int b (pos y) is)))
+    (λ is. equal b (pos y) (omega (arith, ints, e, f, same_int a (pos x) is)))
 
 -- a row's column, by its number
 right-at : (xs : Content) (id : ℤ) (row : AccountRow) → row_of xs id ≡ Some row → is_held_right xs row ≡ option_map_or (λ r. int_eq row.held (pos (held_of xs r))) (registrar_in id) true
@@ -78,26 +63,20 @@ module _ (xs ys : Content) (l m : ℕ → ℕ) (domains : (r : ℕ) → held_of 
   at-place r a b true e = same-right a.held b.held (held_of xs r) (held_of ys r) (l r) (m r) e (domains r)
   at-place r a b false e = refl
 
-  place-right : (r : ℕ) (o n : Option AccountRow) → row_of xs (pos r) ≡ o → row_of ys (pos r) ≡ n → AreCounted (l r) (m r) o n
-      → option_map_or (is_held_right ys) n true ≡ option_map_or (is_held_right xs) o true
-  place-right r None None e f it = refl
-  place-right r None (Some b) e f it = absurd it
-  place-right r (Some a) None e f it = absurd it
-  place-right r (Some a) (Some b) e f it = right-at ys (pos r) b f ∙ at-place r a b (is_place r) it.held ∙ sym (right-at xs (pos r) a e)
-
-  other-right : (n : ℕ) (o p : Option AccountRow) → row_of xs (negsuc n) ≡ o → row_of ys (negsuc n) ≡ p → AreAlike o p
-      → option_map_or (is_held_right ys) p true ≡ option_map_or (is_held_right xs) o true
-  other-right n None None e f it = refl
-  other-right n None (Some b) e f it = absurd it
-  other-right n (Some a) None e f it = absurd it
-  other-right n (Some a) (Some b) e f it = right-at ys (negsuc n) b f ∙ sym (right-at xs (negsuc n) a e)
+  both-right : (so : AccountRow → AccountRow → Type 0) (id : ℤ) → ((a b : AccountRow) → so a b
+      → option_map_or (λ q. int_eq b.held (pos (held_of ys q))) (registrar_in id) true ≡ option_map_or (λ q. int_eq a.held (pos (held_of xs q))) (registrar_in id) true)
+      → (o n : Option AccountRow) → row_of xs id ≡ o → row_of ys id ≡ n → AreBoth so o n → option_map_or (is_held_right ys) n true ≡ option_map_or (is_held_right xs) o true
+  both-right so id each None None e f it = refl
+  both-right so id each None (Some b) e f it = absurd it
+  both-right so id each (Some a) None e f it = absurd it
+  both-right so id each (Some a) (Some b) e f it = right-at ys id b f ∙ each a b it ∙ sym (right-at xs id a e)
 
   counted-right : ((id : ℤ) → AreAlike (row_of xs id) (row_of ys id)) → ((r : ℕ) → AreCounted (l r) (m r) (row_of xs (pos r)) (row_of ys (pos r))) → helds_are_right ys ≡ helds_are_right xs
   counted-right rows helds = right-alike xs ys each
     where
       each : (id : ℤ) → has_right_held ys id ≡ has_right_held xs id
-      each (pos r) = place-right r (row_of xs (pos r)) (row_of ys (pos r)) refl refl (helds r)
-      each (negsuc n) = other-right n (row_of xs (negsuc n)) (row_of ys (negsuc n)) refl refl (rows (negsuc n))
+      each (pos r) = both-right (IsHeldCounted (l r) (m r)) (pos r) (λ a b it. at-place r a b (is_place r) it.held) (row_of xs (pos r)) (row_of ys (pos r)) refl refl (helds r)
+      each (negsuc n) = both-right IsAlikeButHeld (negsuc n) (λ a b it. refl) (row_of xs (negsuc n)) (row_of ys (negsuc n)) refl refl (rows (negsuc n))
 
 -- ---- a domain in the place of another, or of none
 

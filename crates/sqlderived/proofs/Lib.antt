@@ -1,9 +1,7 @@
-pub mod CheckedDomainLemmas
 pub mod OrderLemmas
 pub mod FoundLemmas
 pub mod DueLemmas
 pub mod AnswerLemmas
-mod JoiningLemmas
 pub mod NearLemmas
 pub mod RedateLemmas
 pub mod CountLemmas

@@ -1,5 +1,5 @@
 -- What is due first is due by an earlier moment, if so much is.
-use Rattle.std.proofs.Common.{◌≡◌, ◌⊎◌, inl, inr, ℕ, zero, suc, ◌<◌, ◌≤◌, Bool, true, false, cond, nat_le, nat_lt, length, take, List, [], ◌∷◌, filter, Option, Some, None, option_and_then, Result, Ok, Err, refl, sym, ap, ◌∙◌, arith, true≢false}
+use Rattle.std.proofs.Common.{◌≡◌, ⊎_elim, ℕ, zero, suc, ◌<◌, ◌≤◌, Bool, true, false, cond, nat_le, nat_lt, length, take, List, [], ◌∷◌, filter, Option, Some, None, option_and_then, Result, Ok, Err, refl, sym, ap, ◌∙◌, arith}
 use Rattle.std.proofs.lemmas.Bool.Decides.{nat_tests}
 use Rattle.std.proofs.lemmas.Cmp.{ranked}
 use Rattle.std.specs.FinMap.{entries}
@@ -7,12 +7,13 @@ use Rattle.std.specs.Ordering.{nat_cmp, ordering_then}
 use Rattle.std.specs.Cmp.Lexicographic.{slice_cmp}
 use Rattle.std.specs.declared.cmp.Ordering.{Ordering}
 use Rattle.std.specs.declared.cmp.Ordering.TheVariants.{Less, Equal, Greater}
+use Rattle.sqlite_keyed.proofs.ListLemmas.{filter_all, filter_none}
 use Rattle.sqlite_rules.specs.Lists.{Has}
+use Rattle.sqlite_rules.proofs.ListLemmas.{all_from}
 use Rattle.lifecycle.specs.Lapse.{completes_at, due_at}
 use Rattle.lifecycle.specs.Periods.{passed}
 use Rattle.lifecycle.specs.declared.due_object.Due.{Due}
 use Rattle.lifecycle.specs.DueObjects.{contact_due, domain_due, due_cmp, due_then, found_due, kind_rank}
-use Rattle.lifecycle.specs.DueOrder.{due_cmp_total}
 use Rattle.model.specs.DueBy.{due_by}
 use Rattle.model.specs.Registry.{Registry}
 use Rattle.objects.specs.declared.roid.ObjectKind.{ObjectKind}
@@ -23,9 +24,7 @@ use Rattle.sqlrows.specs.Meanings.{FindsIfRight}
 use Rattle.sqlrows.proofs.StateLemmas.{reads-on, stays-on}
 use Rattle.sqltables.specs.Content.{Content}
 use Rattle.sqlcolumns.proofs.ReadLemmas.{same_some}
-use Rattle.sqlobjects.proofs.PutLemmas.{filter-has, has-filter}
-use Rattle.sqlderived.proofs.FoundLemmas.{InOrder, due_same, found-from, found-has, found-keeps, found-rises, picked-rises}
-use Rattle.sqlderived.proofs.OrderLemmas.{same-list}
+use Rattle.sqlderived.proofs.FoundLemmas.{ArePicked, InOrder, found-from, same-picked, tests-picked}
 
 -- ---- an order by moments
 
@@ -45,14 +44,6 @@ module _ (u : ℕ) where
   abbrev pub by : Due → Bool
   by d = nat_le d.due u
 
-  none-kept : (ds : List Due) → ((d : Due) → Has ds d → by d ≡ false) → filter by ds ≡ []
-  none-kept [] later = refl
-  none-kept (d ∷ ds) later = go (by d) (later d (inl refl)) (none-kept ds (λ q there. later q (inr there)))
-    where
-      go : (b : Bool) → b ≡ false → filter by ds ≡ [] → cond b (d ∷ filter by ds) (filter by ds) ≡ []
-      go true e rest = absurd (true≢false e)
-      go false e rest = rest
-
   later-too : (d q : Due) → by d ≡ false → d.due ≤ q.due → by q ≡ false
   later-too d q is after = grind (arith, nat_tests, is, after)
 
@@ -66,15 +57,17 @@ module _ (u : ℕ) where
       go true e zero le more = refl
       go true e (suc m) le more = ap (λ rest. d ∷ rest) (more m (omega (arith, le)))
       go false e n le more =
-          let empty : filter by ds ≡ [] = none-kept ds (λ q there. later-too d q e (less-due d q (rise.0 q there))) in
+          let empty : filter by ds ≡ [] = filter_none by ds (all_from (λ q. by q ≡ false) ds (λ q there. later-too d q e (less-due d q (rise.0 q there)))) in
           let none : n ≡ zero = omega (arith, le, ap length empty) in
           (λ i. take (none i) (filter by ds)) ∙ sym (ap (λ k. take k (d ∷ ds)) none)
 
 -- ---- what is due by either of two moments
 
 module _ (t u : ℕ) (earlier : u ≤ t) where
-  passed-down : (kind : ObjectKind) (name : List ℕ) (m : ℕ) (d : Due) → due_then kind name (passed t m) ≡ Some d → by u d ≡ true → due_then kind name (passed u m) ≡ Some d
-  passed-down kind name m d e is = go (nat_lt t m) refl e
+  down : (kind : ObjectKind) (name : List ℕ) (o : Option ℕ) (d : Due) → due_then kind name (option_and_then (passed t) o) ≡ Some d → by u d ≡ true
+      → due_then kind name (option_and_then (passed u) o) ≡ Some d
+  down kind name None d e is = e
+  down kind name (Some m) d e is = go (nat_lt t m) refl e
     where
       go : (b : Bool) → nat_lt t m ≡ b → due_then kind name (cond b None (Some m)) ≡ Some d → due_then kind name (passed u m) ≡ Some d
       go true past f = cc
@@ -83,8 +76,10 @@ module _ (t u : ℕ) (earlier : u ≤ t) where
           let come : nat_lt u m ≡ false = grind (arith, nat_tests, is, due) in
           ap (λ b. due_then kind name (cond b None (Some m))) come ∙ f
 
-  passed-up : (kind : ObjectKind) (name : List ℕ) (m : ℕ) (d : Due) → due_then kind name (passed u m) ≡ Some d → (due_then kind name (passed t m) ≡ Some d) × (by u d ≡ true)
-  passed-up kind name m d e = go (nat_lt u m) refl e
+  up : (kind : ObjectKind) (name : List ℕ) (o : Option ℕ) (d : Due) → due_then kind name (option_and_then (passed u) o) ≡ Some d
+      → (due_then kind name (option_and_then (passed t) o) ≡ Some d) × (by u d ≡ true)
+  up kind name None d e = cc
+  up kind name (Some m) d e = go (nat_lt u m) refl e
     where
       go : (b : Bool) → nat_lt u m ≡ b → due_then kind name (cond b None (Some m)) ≡ Some d → (due_then kind name (passed t m) ≡ Some d) × (by u d ≡ true)
       go true past f = cc
@@ -94,61 +89,32 @@ module _ (t u : ℕ) (earlier : u ≤ t) where
           let is : by u d ≡ true = grind (arith, nat_tests, past, due) in
           (ap (λ b. due_then kind name (cond b None (Some m))) come ∙ f, is)
 
-  maybe-down : (kind : ObjectKind) (name : List ℕ) (o : Option ℕ) (d : Due) → due_then kind name (option_and_then (passed t) o) ≡ Some d → by u d ≡ true → due_then kind name (option_and_then (passed u) o) ≡ Some d
-  maybe-down kind name None d e is = e
-  maybe-down kind name (Some m) d e is = passed-down kind name m d e is
-
-  maybe-up : (kind : ObjectKind) (name : List ℕ) (o : Option ℕ) (d : Due) → due_then kind name (option_and_then (passed u) o) ≡ Some d → (due_then kind name (option_and_then (passed t) o) ≡ Some d) × (by u d ≡ true)
-  maybe-up kind name None d e = cc
-  maybe-up kind name (Some m) d e = passed-up kind name m d e
-
-  -- ---- found in one way, and in another
-
-  module _ {X : Type 0} (late early : X → Option Due) (down : (x : X) (d : Due) → late x ≡ Some d → by u d ≡ true → early x ≡ Some d) (up : (x : X) (d : Due) → early x ≡ Some d → (late x ≡ Some d) × (by u d ≡ true))
-      (found less : List Due) (below : (d : Due) → Has found d → by u d ≡ true → Has less d) (above : (d : Due) → Has less d → Has found d × (by u d ≡ true)) (xs : List X) where
-    pub less-down : (d : Due) → Has (found_due late found xs) d → by u d ≡ true → Has (found_due early less xs) d
-    less-down d has is = go (found-from late found xs d has)
-      where
-        go : Has found d ⊎ ((x : X) × Has xs x × (late x ≡ Some d)) → Has (found_due early less xs) d
-        go (inl before) = found-keeps early less xs d (below d before is)
-        go (inr it) = found-has early less xs it.0 d it.1 (down it.0 d it.2 is)
-
-    pub less-up : (d : Due) → Has (found_due early less xs) d → Has (found_due late found xs) d × (by u d ≡ true)
-    less-up d has = go (found-from early less xs d has)
-      where
-        go : Has less d ⊎ ((x : X) × Has xs x × (early x ≡ Some d)) → Has (found_due late found xs) d × (by u d ≡ true)
-        go (inl before) = let it = above d before in (found-keeps late found xs d it.0, it.1)
-        go (inr it) = let that = up it.0 d it.2 in (found-has late found xs it.0 d it.1 that.0, that.1)
-
   module _ (p : PolicyRules) (s : Registry) where
     abbrev contacts : ℕ → List Due
     contacts m = found_due (contact_due m) [] (entries s.contacts)
 
-    contacts-down : (d : Due) → Has (contacts t) d → by u d ≡ true → Has (contacts u) d
-    contacts-down = less-down (contact_due t) (contact_due u) (λ e d. maybe-down _ e.0 (completes_at e.1.transfer) d) (λ e d. maybe-up _ e.0 (completes_at e.1.transfer) d) [] [] (λ d none is. none) (λ d none. absurd none) (entries s.contacts)
+    contacts-alike : ArePicked (by u) (contacts u) (contacts t)
+    contacts-alike =
+        tests-picked (by u) (contact_due u) (contact_due t) [] [] (entries s.contacts) (entries s.contacts) (record { rises = (tt, tt); forth = λ d none. none; back = λ d is none. none })
+        (λ e d there is. (e, there, (up _ e.0 (completes_at e.1.transfer) d is).0)) (λ e d early there is. (e, there, down _ e.0 (completes_at e.1.transfer) d is early))
 
-    contacts-up : (d : Due) → Has (contacts u) d → Has (contacts t) d × (by u d ≡ true)
-    contacts-up = less-up (contact_due t) (contact_due u) (λ e d. maybe-down _ e.0 (completes_at e.1.transfer) d) (λ e d. maybe-up _ e.0 (completes_at e.1.transfer) d) [] [] (λ d none is. none) (λ d none. absurd none) (entries s.contacts)
+    all-alike : ArePicked (by u) (due_by p u s) (due_by p t s)
+    all-alike =
+        tests-picked (by u) (domain_due p u) (domain_due p t) (contacts u) (contacts t) (entries s.domains) (entries s.domains) contacts-alike
+        (λ e d there is. (e, there, (up _ e.0 (Some (due_at p e.1)) d is).0)) (λ e d early there is. (e, there, down _ e.0 (Some (due_at p e.1)) d is early))
 
-    rises : (m : ℕ) → InOrder (due_by p m s)
-    rises m = found-rises (domain_due p m) (contacts m) (entries s.domains) (found-rises (contact_due m) [] (entries s.contacts) tt)
+    early : (d : Due) → Has (due_by p u s) d → by u d ≡ true
+    early d has =
+        ⊎_elim (λ contact. ⊎_elim (λ none. absurd none) (λ it. (up _ it.0.0 (completes_at it.0.1.transfer) d it.2).1) (found-from (contact_due u) [] (entries s.contacts) d contact))
+        (λ it. (up _ it.0.0 (Some (due_at p it.0.1)) d it.2).1) (found-from (domain_due p u) (contacts u) (entries s.domains) d has)
 
     -- what is due by the earlier moment is, of what is due by the later one, what is due by then
     due-earlier : due_by p u s ≡ filter (by u) (due_by p t s)
-    due-earlier =
-        same-list due_cmp due_cmp_total due_same (due_by p u s) (filter (by u) (due_by p t s)) (rises u) (picked-rises (by u) (due_by p t s) (rises t))
-        (λ d has. let it = all-up d has in filter-has (by u) (due_by p t s) d it.0 it.1)
-        (λ d has. let it = has-filter (by u) (due_by p t s) d has in all-down d it.0 it.1)
-      where
-        all-up : (d : Due) → Has (due_by p u s) d → Has (due_by p t s) d × (by u d ≡ true)
-        all-up = less-up (domain_due p t) (domain_due p u) (λ e d. passed-down _ e.0 (due_at p e.1) d) (λ e d. passed-up _ e.0 (due_at p e.1) d) (contacts t) (contacts u) contacts-down contacts-up (entries s.domains)
-
-        all-down : (d : Due) → Has (due_by p t s) d → by u d ≡ true → Has (due_by p u s) d
-        all-down = less-down (domain_due p t) (domain_due p u) (λ e d. passed-down _ e.0 (due_at p e.1) d) (λ e d. passed-up _ e.0 (due_at p e.1) d) (contacts t) (contacts u) contacts-down contacts-up (entries s.domains)
+    due-earlier = sym (filter_all (by u) (due_by p u s) (all_from (λ d. by u d ≡ true) (due_by p u s) early)) ∙ same-picked (by u) (due_by p u s) (due_by p t s) all-alike
 
     pub first-due : (n : ℕ) → n ≤ length (due_by p u s) → take n (due_by p u s) ≡ take n (due_by p t s)
     first-due n enough =
-        ap (take n) due-earlier ∙ first-kept u (due_by p t s) n (rises t) (omega (arith, enough, ap length due-earlier))
+        ap (take n) due-earlier ∙ first-kept u (due_by p t s) n all-alike.rises.1 (omega (arith, enough, ap length due-earlier))
 
 -- ---- one call after another
 

@@ -1,6 +1,5 @@
 -- Columns of deleted domains, and what no length bears on.
-use Rattle.std.proofs.Common.{◌≡◌, ◌&&◌, ◌||◌, ◌==◌, ℕ, ℤ, pos, negsuc, Bool, true, false, cond, int_eq, is_some, List, [], ◌∷◌, filter, Option, Some, None, refl, sym, ap, ◌∙◌, true≢false, arith}
-use Rattle.std.proofs.lemmas.Bool.{and_parts}
+use Rattle.std.proofs.Common.{◌≡◌, ◌||◌, ◌==◌, ℕ, ℤ, pos, negsuc, Bool, true, false, cond, int_eq, is_some, List, filter, Option, Some, None, refl, sym, ap, ◌∙◌, true≢false, arith}
 use Rattle.std.proofs.lemmas.Bool.Decides.{nat_tests}
 use Rattle.std.proofs.lemmas.Int.{ints}
 use Rattle.std.specs.List.{list_all}
@@ -21,6 +20,7 @@ use Rattle.sqltables.specs.Content.{Content}
 use Rattle.sqltables.specs.declared.domain.DomainRow.{DomainRow}
 use Rattle.sqltables.specs.Transfer.{transfer_with_domain}
 use Rattle.sqlobjects.specs.Objects.{last_transfer}
+use Rattle.sqlobjects.proofs.VerdictLemmas.{all-alike, all-pass, each-passes}
 use Rattle.sqldomains.specs.Domains.{domain_read, links_of}
 use Rattle.sqlterms.specs.Terms.{days_of_rows}
 use Rattle.sqlderived.specs.Dues.{dues_are_right, is_due_right}
@@ -55,17 +55,10 @@ module _ (days : Schedule) (xs : Content) where
       go None reads = refl
       go (Some d) reads = one-due row d is d.deletion (deletion-read xs row d reads)
 
-  all-live : (rows : List DomainRow) → list_all (is_end days) rows ≡ true → list_all (is_due_right days xs) rows ≡ list_all (is_live_right xs) rows
-  all-live [] are = refl
-  all-live (row ∷ rows) are =
-      let parts = and_parts (is_end days row) (list_all (is_end days) rows) are in
-      let here = one-live row parts.0 in
-      let rest = all-live rows parts.1 in
-      λ i. here i && rest i
-
   -- where each deleted domain's column is the end of its deletion, columns are right if those of the others are
   pub dues-live : ends_are days xs ≡ true → days_of_rows xs ≡ Some days → dues_are_right xs ≡ lives_are_right xs
-  dues-live are put_down = (λ i. list_all (λ row. option_map_or (λ ds. is_due_right ds xs row) (put_down i) true) xs.domains) ∙ all-live xs.domains are
+  dues-live are put_down = (λ i. list_all (λ row. option_map_or (λ ds. is_due_right ds xs row) (put_down i) true) xs.domains)
+      ∙ all-alike (is_live_right xs) (is_due_right days xs) xs.domains (λ row there. one-live row (each-passes (is_end days) xs.domains are row there))
 
 -- ---- what is checked of the columns
 
@@ -87,9 +80,4 @@ module _ (days : Schedule) where
   by-column (negsuc n) c e = absurd (true≢false (sym e))
 
   pub all-timed : (rows : List DomainRow) → list_all (is_timed days) rows ≡ true → list_all (is_end days) rows ≡ true
-  all-timed [] e = refl
-  all-timed (row ∷ rows) e =
-      let parts = and_parts (is_timed days row) (list_all (is_timed days) rows) e in
-      let here : is_end days row ≡ true = by-column row.due (deletion_in row.deleted row.restore_requested) parts.0 in
-      let rest = all-timed rows parts.1 in
-      λ i. here i && rest i
+  all-timed rows e = all-pass (is_end days) rows (λ row there. by-column row.due (deletion_in row.deleted row.restore_requested) (each-passes (is_timed days) rows e row there))

@@ -5,7 +5,7 @@ ghost use Rattle.sqlderived.specs.inner.Near as spec;
 ghost use Rattle.states.specs.States.{Finds};
 
 use crate::finding::number;
-use crate::joining::joined;
+use crate::joining::{Way, joined};
 use basis::list::Seq;
 use basis::registrar::RegistrarNo;
 use calendar::Moment;
@@ -86,78 +86,50 @@ fn pending_with<S: Alter>(
     Ok(joined(asked, lost)?)
 }
 
-pub(crate) fn contacts_of_transfers<S: Alter>(
-    store: &mut RowStore<S>,
-    alloc: Global,
-    rows: &[TransferRow],
-) -> Result<Seq<ContactRow>, BookFault>
-    ensures { Finds result (spec.each_of (spec.contact_of_transfer store.old.content) rows.now)
-        store.old store.new }
-{
-    let mut all = Seq::new(alloc);
-    for row in rows {
-        let found = contact_numbered(store, alloc, contact_number(row))?;
-        all = joined(all, found)?;
-    }
-    Ok(all)
-}
+/// The contact that a transfer is of, if it is of one.
+#[derive(Drop)]
+pub(crate) struct TransferredContact;
 
-fn contact_numbered<S: Alter>(
-    store: &mut RowStore<S>,
-    alloc: Global,
-    number: Option<Number>,
-) -> Result<Seq<ContactRow>, BookFault>
-    ensures { Finds result (spec.contact_numbered store.old.content number) store.old store.new }
-{
-    match number {
-        None => Ok(Seq::new(alloc)),
-        Some(number) => store.contacts_by_id(number),
+impl Way for TransferredContact {
+    type From = TransferRow;
+
+    type Row = ContactRow;
+
+    ghost rows = { λ way. spec.contact_of_transfer };
+
+    fn rows<S: Alter>(
+        &self,
+        store: &mut RowStore<S>,
+        alloc: Global,
+        row: &TransferRow,
+    ) -> Result<Seq<ContactRow>, BookFault> {
+        match row.contact {
+            None => Ok(Seq::new(alloc)),
+            Some(id) => store.contacts_by_id(Number::new(id)),
+        }
     }
 }
 
-fn contact_number(row: &TransferRow) -> Option<Number>
-    ensures { result ≡ row.now.contact }
-{
-    match row.contact {
-        None => None,
-        Some(id) => Some(Number::new(id)),
-    }
-}
+/// The domain that a transfer is of, if it is of one.
+#[derive(Drop)]
+pub(crate) struct TransferredDomain;
 
-pub(crate) fn domains_of_transfers<S: Alter>(
-    store: &mut RowStore<S>,
-    alloc: Global,
-    rows: &[TransferRow],
-) -> Result<Seq<DomainRow>, BookFault>
-    ensures { Finds result (spec.each_of (spec.domain_of_transfer store.old.content) rows.now)
-        store.old store.new }
-{
-    let mut all = Seq::new(alloc);
-    for row in rows {
-        let found = domain_numbered(store, alloc, domain_number(row))?;
-        all = joined(all, found)?;
-    }
-    Ok(all)
-}
+impl Way for TransferredDomain {
+    type From = TransferRow;
 
-fn domain_numbered<S: Alter>(
-    store: &mut RowStore<S>,
-    alloc: Global,
-    number: Option<Number>,
-) -> Result<Seq<DomainRow>, BookFault>
-    ensures { Finds result (spec.domain_numbered store.old.content number) store.old store.new }
-{
-    match number {
-        None => Ok(Seq::new(alloc)),
-        Some(number) => store.domains_by_id(number),
-    }
-}
+    type Row = DomainRow;
 
-fn domain_number(row: &TransferRow) -> Option<Number>
-    ensures { result ≡ row.now.domain }
-{
-    match row.domain {
-        None => None,
-        Some(id) => Some(Number::new(id)),
+    ghost rows = { λ way. spec.domain_of_transfer };
+
+    fn rows<S: Alter>(
+        &self,
+        store: &mut RowStore<S>,
+        alloc: Global,
+        row: &TransferRow,
+    ) -> Result<Seq<DomainRow>, BookFault> {
+        match row.domain {
+            None => Ok(Seq::new(alloc)),
+            Some(id) => store.domains_by_id(Number::new(id)),
+        }
     }
 }

@@ -5,14 +5,12 @@ ghost use Rattle.std.specs.FinMap.{get};
 ghost use Rattle.sqlcolumns.specs.Numbers as numbers;
 ghost use Rattle.lifecycle.specs.Lapse as lapse;
 ghost use Rattle.lifecycle.specs.Periods.{rules_with};
-ghost use Rattle.sqlrows.specs.Read.{first_read};
 ghost use Rattle.sqldomains.specs.Domains as domains;
 ghost use Rattle.sqlderived.specs.Dues.{is_due_right};
 ghost use Rattle.sqlite_rules.specs.Lists.{Has};
 ghost use Rattle.sqltables.specs.declared.domain.DomainRow.{DomainRow};
 ghost use Rattle.states.specs.States.{FindsSome};
 
-use basis::list::Seq;
 use basis::text::Text;
 use calendar::Moment;
 use lifecycle::due_by;
@@ -21,7 +19,8 @@ use policy::Policy;
 use sqlcolumns::moment_of_column;
 use sqldomains::domain_of;
 use sqlite::Alter;
-use sqlrows::{only, or_fault};
+use sqlobjects::row_named;
+use sqlrows::or_fault;
 use sqltables::{DomainRow, RowStore};
 use states::BookFault;
 use std::alloc::Global;
@@ -57,25 +56,10 @@ pub fn checked_domain<S: Alter>(
         × ((row : DomainRow) → Has store.old.content.domains row → row.name ≡ name.now
         → is_due_right policy.now.days store.old.content row ≡ true)) store.old store.new }
 {
-    let rows = store.domains_by_name(name.as_str())?;
-    first_right(store, alloc, rows, policy)
-}
-
-/// The domain of the one of these rows, if there is one.
-fn first_right<S: Alter>(
-    store: &mut RowStore<S>,
-    alloc: Global,
-    rows: Seq<DomainRow>,
-    policy: &Policy,
-) -> Result<Option<Domain>, BookFault>
-    ensures { FindsSome result (λ domain. (first_read (domains.domain_read store.old.content) rows
-        ≡ domain) × ((row : DomainRow) → Has rows row
-        → is_due_right policy.now.days store.old.content row ≡ true)) store.old store.new }
-{
-    let Some(row) = only(rows)? else {
-        return Ok(None);
-    };
-    Ok(Some(right_domain(store, alloc, row, policy)?))
+    match row_named::<DomainRow, S>(store, name)? {
+        None => Ok(None),
+        Some(row) => Ok(Some(right_domain(store, alloc, row, policy)?)),
+    }
 }
 
 /// The domain of a row whose column is when it is due.

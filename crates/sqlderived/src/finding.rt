@@ -1,14 +1,13 @@
 //! What is due by a moment.
-ghost use Rattle.std.specs.Prelude.{◌≡◌, true, [], Some, IfOk};
-ghost use Rattle.std.specs.List.{list_all};
+ghost use Rattle.std.specs.Prelude.{◌≡◌, [], Some, IfOk};
 ghost use Rattle.sqlcolumns.specs.Numbers.{moment_column};
 ghost use Rattle.sqlrows.specs.Meanings.{FindsIfRight};
-ghost use Rattle.sqlderived.specs.Dues.{dues_are_right, is_due_right};
+ghost use Rattle.sqlderived.specs.Dues.{dues_are_right};
 ghost use Rattle.sqlderived.specs.inner.Finding as spec;
 ghost use Rattle.lifecycle.specs.DueObjects as dues;
 ghost use Rattle.lifecycle.specs.Periods.{passed};
 ghost use Rattle.model.specs.DueBy as model;
-ghost use Rattle.states.specs.States.{Finds, FindsSome};
+ghost use Rattle.states.specs.States.{FindsSome};
 
 use crate::checking::{due_in, last_moment};
 use crate::length::have_days;
@@ -41,36 +40,43 @@ pub fn due<S: Alter>(
 {
     have_days(store, alloc, policy)?;
     store.show_consistent();
-    let contacts = contacts_due(store, alloc, moment)?;
-    let found = with_domains_due(store, alloc, moment, policy, contacts)?;
-    Ok(listed(alloc, found)?)
+    due_until(store, alloc, moment, policy)
 }
 
-/// The contacts that are due by a moment.
-fn contacts_due<S: Alter>(
+/// The same, by the columns of domains.
+fn due_until<S: Alter>(
     store: &mut RowStore<S>,
     alloc: Global,
     moment: Moment,
-) -> Result<BTreeSet<Due>, BookFault>
-    ensures { FindsSome result (λ found. spec.with_rows (spec.contact_due_in_row moment store.old.content) []
-        (spec.contacts_until moment store.old.content) ≡ Some found.keys) store.old store.new }
+    policy: &Policy,
+) -> Result<Seq<Due>, BookFault>
+    ensures { FindsSome result (λ due. spec.AreDue policy.now moment store.old.content (spec.contacts_until moment store.old.content)
+        (spec.domains_until moment store.old.content) due) store.old store.new }
 {
-    let rows = contact_rows(store, moment)?;
-    of_contacts(store, alloc, moment, rows)
+    let contacts = store.contacts_until_due(number(moment))?;
+    let domains = store.domains_until_due(number(moment))?;
+    due_of(store, alloc, moment, policy, contacts, domains)
 }
 
-/// The rows of contacts that may be due.
-fn contact_rows<S: Alter>(
+/// What is due of these rows, by the columns of the domains.
+pub(crate) fn due_of<S: Alter>(
     store: &mut RowStore<S>,
+    alloc: Global,
     moment: Moment,
-) -> Result<Seq<ContactRow>, BookFault>
-    ensures { Finds result (spec.contacts_until moment store.old.content) store.old store.new }
+    policy: &Policy,
+    contacts: Seq<ContactRow>,
+    domains: Seq<DomainRow>,
+) -> Result<Seq<Due>, BookFault>
+    ensures { FindsSome result (λ due. spec.AreDue policy.now moment store.old.content contacts domains due)
+        store.old store.new }
 {
-    store.contacts_until_due(number(moment))
+    let found = of_contacts(store, alloc, moment, contacts)?;
+    let all = with_domains(store, alloc, moment, policy, found, domains)?;
+    Ok(listed(alloc, all)?)
 }
 
 /// Those of these rows' contacts that are due.
-pub(crate) fn of_contacts<S: Alter>(
+fn of_contacts<S: Alter>(
     store: &mut RowStore<S>,
     alloc: Global,
     moment: Moment,
@@ -107,35 +113,8 @@ fn name_of_contact(contact: Contact) -> Text
     contact.name
 }
 
-/// The same with the domains that are due by a moment.
-fn with_domains_due<S: Alter>(
-    store: &mut RowStore<S>,
-    alloc: Global,
-    moment: Moment,
-    policy: &Policy,
-    found: BTreeSet<Due>,
-) -> Result<BTreeSet<Due>, BookFault>
-    ensures { FindsSome result (λ all. list_all (is_due_right policy.now.days store.old.content)
-        (spec.domains_until moment store.old.content) ≡ true
-        → spec.with_rows (spec.domain_due_in_row policy.now moment store.old.content) found.keys
-        (spec.domains_until moment store.old.content) ≡ Some all.keys) store.old store.new }
-{
-    let rows = domain_rows(store, moment)?;
-    with_domains(store, alloc, moment, policy, found, rows)
-}
-
-/// The rows of domains that may be due.
-fn domain_rows<S: Alter>(
-    store: &mut RowStore<S>,
-    moment: Moment,
-) -> Result<Seq<DomainRow>, BookFault>
-    ensures { Finds result (spec.domains_until moment store.old.content) store.old store.new }
-{
-    store.domains_until_due(number(moment))
-}
-
-/// With those of these rows' domains that are due, where the rows' columns are right.
-pub(crate) fn with_domains<S: Alter>(
+/// With those of these rows' domains that are due, by the rows' columns.
+fn with_domains<S: Alter>(
     store: &mut RowStore<S>,
     alloc: Global,
     moment: Moment,
@@ -144,8 +123,7 @@ pub(crate) fn with_domains<S: Alter>(
     rows: Seq<DomainRow>,
 ) -> Result<BTreeSet<Due>, BookFault>
     ensures { FindsSome result
-        (λ all. list_all (is_due_right policy.now.days store.old.content) rows ≡ true
-        → spec.with_rows (spec.domain_due_in_row policy.now moment store.old.content) found.keys rows
+        (λ all. spec.with_rows (spec.domain_due_shown policy.now moment store.old.content) found.keys rows
         ≡ Some all.keys) store.old store.new }
 {
     let mut found = found;
@@ -166,28 +144,14 @@ fn with_domain<S: Alter>(
     row: DomainRow,
 ) -> Result<BTreeSet<Due>, BookFault>
     ensures { FindsSome result
-        (λ more. is_due_right policy.now.days store.old.content row ≡ true
-        → spec.with_row found.keys (spec.domain_due_in_row policy.now moment store.old.content row)
+        (λ more. spec.with_row found.keys (spec.domain_due_shown policy.now moment store.old.content row)
         ≡ Some more.keys) store.old store.new }
 {
     let column = due_in(&row)?;
     if column < last_moment() {
-        return Ok(with_due_at(found, row.name, column, moment)?);
+        return Ok(with_due(found, ObjectKind::Domain, row.name, come(column, moment))?);
     }
     with_domain_read(store, alloc, moment, policy, found, row)
-}
-
-/// With the domain of a name that is due at a moment, if that is by another.
-fn with_due_at(
-    found: BTreeSet<Due>,
-    name: Text,
-    due: Moment,
-    moment: Moment,
-) -> Result<BTreeSet<Due>, AllocError>
-    ensures { IfOk result (λ more. more.keys ≡ dues.with_due
-        (dues.due_then ObjectKind.Domain name (passed moment due)) found.keys) }
-{
-    with_due(found, ObjectKind::Domain, name, come(due, moment))
 }
 
 /// The first moment, if it is no later than the second.
@@ -244,7 +208,7 @@ pub(crate) fn number(moment: Moment) -> Number
 }
 
 /// An ordered set as a list.
-pub(crate) fn listed(alloc: Global, found: BTreeSet<Due>) -> Result<Seq<Due>, AllocError>
+fn listed(alloc: Global, found: BTreeSet<Due>) -> Result<Seq<Due>, AllocError>
     ensures { IfOk result (λ due. due ≡ found.keys) }
 {
     let mut due = Vec::with_capacity(alloc, found.len())?;

@@ -71,50 +71,49 @@ pub(crate) fn is_in(registrar: RegistrarNo, parties: &Option<Holders>) -> bool
     }
 }
 
-/// The sponsor among the first, where it isn't among the others.
+/// Whether a registrar is among these, or is the one whose row has been written.
+fn is_settled(
+    written: &Option<RegistrarNo>,
+    others: &Option<Holders>,
+    registrar: RegistrarNo,
+) -> bool
+    ensures { result ≡ spec.is_settled written.now others.now registrar }
+{
+    is_in(registrar, others) || is_same(*written, registrar)
+}
+
+/// The sponsor among the first, where it isn't among the others, nor the one whose row has been written.
 pub(crate) fn sponsor_without(
+    written: &Option<RegistrarNo>,
     parties: &Option<Holders>,
     others: &Option<Holders>,
 ) -> Option<RegistrarNo>
-    ensures { result ≡ spec.sponsor_without parties.now others.now }
+    ensures { result ≡ spec.sponsor_without written.now parties.now others.now }
 {
     let Some(parties) = parties else {
         return None;
     };
-    if is_in(parties.sponsor, others) {
+    if is_settled(written, others, parties.sponsor) {
         return None;
     }
     Some(parties.sponsor)
 }
 
 /// The one to whom a pending transfer brings the domain of the first, where it is another than the
-/// sponsor, and isn't among the others.
+/// sponsor, isn't among the others, and isn't the one whose row has been written.
 pub(crate) fn incoming_without(
+    written: &Option<RegistrarNo>,
     parties: &Option<Holders>,
     others: &Option<Holders>,
 ) -> Option<RegistrarNo>
-    ensures { result ≡ spec.incoming_without parties.now others.now }
+    ensures { result ≡ spec.incoming_without written.now parties.now others.now }
 {
     let Some(parties) = parties else {
         return None;
     };
     let incoming = parties.incoming?;
-    if parties.sponsor == incoming || is_in(incoming, others) {
+    if parties.sponsor == incoming || is_settled(written, others, incoming) {
         return None;
     }
     Some(incoming)
-}
-
-/// A registrar, unless it is the one whose row has been written.
-pub(crate) fn other_than(
-    written: &Option<RegistrarNo>,
-    who: Option<RegistrarNo>,
-) -> Option<RegistrarNo>
-    ensures { result ≡ spec.other_than written.now who }
-{
-    let who = who?;
-    if is_same(*written, who) {
-        return None;
-    }
-    Some(who)
 }

@@ -1,20 +1,19 @@
 //! What is due of that which concerns a registrar and some names, found by indexes.
-ghost use Rattle.std.specs.Prelude.{◌≡◌, true, filter, take, IfOk};
-ghost use Rattle.std.specs.List.{list_all};
+ghost use Rattle.std.specs.Prelude.{◌≡◌, true, filter};
 ghost use Rattle.sqlcolumns.specs.Numbers.{moment_column};
-ghost use Rattle.sqlderived.specs.Dues.{dues_are_right, is_due_right};
-ghost use Rattle.sqlderived.specs.inner.Finding as finding;
+ghost use Rattle.sqlderived.specs.Dues.{dues_are_right};
+ghost use Rattle.sqlderived.specs.inner.Finding.{AreDue};
 ghost use Rattle.sqlderived.specs.inner.Near as spec;
 ghost use Rattle.sqltables.specs.Contact.{contact_within_due};
 ghost use Rattle.sqltables.specs.Domain.{domain_within_due};
 ghost use Rattle.states.specs.States.{Finds, FindsSome};
 
-use crate::by_names::{contacts_named, domains_by_names};
+use crate::by_names::{domains_by_names, each_named};
 use crate::by_registrar::{
-    contacts_of_transfers, contacts_sponsored, domains_of_transfers, domains_sponsored, pending_of,
+    TransferredContact, TransferredDomain, contacts_sponsored, domains_sponsored, pending_of,
 };
-use crate::finding::{listed, number, of_contacts, with_domains};
-use crate::joining::joined;
+use crate::finding::{due_of, number};
+use crate::joining::{each_of, joined};
 use crate::length::have_days;
 use basis::list::Seq;
 use basis::registrar::RegistrarNo;
@@ -25,7 +24,7 @@ use policy::Policy;
 use sqlite::Alter;
 use sqltables::{ContactRow, DomainRow, RowStore, TransferRow};
 use states::BookFault;
-use std::alloc::{AllocError, Global};
+use std::alloc::Global;
 
 /// Part of what is due by a moment, in the order in which it lapses: all that concerns a registrar, if one is
 /// given, and some names is in it. Where no column says that anything is due, nothing else is looked at; else
@@ -52,36 +51,21 @@ pub fn due_near<S: Alter>(
     found_near(store, alloc, &caller, names, moment, policy)
 }
 
-// ---- whether anything is due at all
-
+/// Whether anything is due at all.
 fn is_behind<S: Alter>(store: &mut RowStore<S>, moment: Moment) -> Result<bool, BookFault>
     ensures { Finds result (spec.is_behind moment store.old.content) store.old store.new }
 {
-    if is_contact_behind(store, moment)? {
+    let contacts = store.first_contacts_until_due(number(moment), 1)?;
+    if !contacts.is_empty() {
         return Ok(true);
     }
-    is_domain_behind(store, moment)
-}
-
-fn is_contact_behind<S: Alter>(store: &mut RowStore<S>, moment: Moment) -> Result<bool, BookFault>
-    ensures { Finds result (spec.is_any (take 1 (finding.contacts_until moment store.old.content)))
-        store.old store.new }
-{
-    let rows = store.first_contacts_until_due(number(moment), 1)?;
-    Ok(!rows.is_empty())
-}
-
-fn is_domain_behind<S: Alter>(store: &mut RowStore<S>, moment: Moment) -> Result<bool, BookFault>
-    ensures { Finds result (spec.is_any (take 1 (finding.domains_until moment store.old.content)))
-        store.old store.new }
-{
-    let rows = store.first_domains_until_due(number(moment), 1)?;
-    Ok(!rows.is_empty())
+    let domains = store.first_domains_until_due(number(moment), 1)?;
+    Ok(!domains.is_empty())
 }
 
 // ---- what is found by the registrar and the names
 
-/// What is due of the rows that are found, where the columns of domains are right.
+/// What is due of the rows that are found, by the columns of domains.
 fn found_near<S: Alter>(
     store: &mut RowStore<S>,
     alloc: Global,
@@ -90,22 +74,18 @@ fn found_near<S: Alter>(
     moment: Moment,
     policy: &Policy,
 ) -> Result<Seq<Due>, BookFault>
-    ensures { FindsSome result (λ due. list_all (is_due_right policy.now.days store.old.content)
-        store.old.content.domains ≡ true
-        → spec.IsFoundNear policy.now caller.now names.now moment store.old.content due) store.old
-        store.new }
+    ensures { FindsSome result (λ due. AreDue policy.now moment store.old.content
+        (spec.contacts_near caller.now names.now moment store.old.content)
+        (spec.domains_near caller.now names.now moment store.old.content) due) store.old store.new }
 {
     let pending = pending_of(store, alloc, caller)?;
-    let contact_rows = contacts_near(store, alloc, caller, pending.as_slice(), names, moment)?;
-    let contact_rows = contacts_until(alloc, contact_rows, moment)?;
-    let contacts = of_contacts(store, alloc, moment, contact_rows)?;
-    let domain_rows = domains_near(store, alloc, caller, pending.as_slice(), names, moment)?;
-    let domain_rows = domains_until(alloc, domain_rows, moment)?;
-    let found = with_domains(store, alloc, moment, policy, contacts, domain_rows)?;
-    Ok(listed(alloc, found)?)
+    let contacts = contacts_near(store, alloc, caller, pending.as_slice(), names, moment)?;
+    let domains = domains_near(store, alloc, caller, pending.as_slice(), names, moment)?;
+    due_of(store, alloc, moment, policy, contacts, domains)
 }
 
-/// The rows of contacts that the registrar, its pending transfers and the names lead to.
+/// The rows of contacts that may be due, of those that the registrar, its pending transfers and the names
+/// lead to.
 fn contacts_near<S: Alter>(
     store: &mut RowStore<S>,
     alloc: Global,
@@ -114,17 +94,18 @@ fn contacts_near<S: Alter>(
     names: &Names,
     moment: Moment,
 ) -> Result<Seq<ContactRow>, BookFault>
-    ensures { Finds result (spec.contacts_found caller.now pending.now names.now moment
-        store.old.content) store.old store.new }
+    ensures { Finds result (filter (contact_within_due (moment_column moment))
+        (spec.contacts_led caller.now pending.now names.now moment store.old.content)) store.old
+        store.new }
 {
     let sponsored = contacts_sponsored(store, alloc, caller, moment)?;
-    let transferred = contacts_of_transfers(store, alloc, pending)?;
-    let named = contacts_named(store, alloc, names.contacts.as_slice())?;
+    let transferred = each_of(store, alloc, &TransferredContact, pending)?;
+    let named = each_named(store, alloc, names.contacts.as_slice())?;
     let found = joined(transferred, named)?;
-    Ok(joined(sponsored, found)?)
+    Ok(contacts_until(joined(sponsored, found)?, moment))
 }
 
-/// The rows of domains that the registrar, its pending transfers and the names lead to.
+/// The same of domains.
 fn domains_near<S: Alter>(
     store: &mut RowStore<S>,
     alloc: Global,
@@ -133,32 +114,25 @@ fn domains_near<S: Alter>(
     names: &Names,
     moment: Moment,
 ) -> Result<Seq<DomainRow>, BookFault>
-    ensures { Finds result (spec.domains_found caller.now pending.now names.now moment
-        store.old.content) store.old store.new }
+    ensures { Finds result (filter (domain_within_due (moment_column moment))
+        (spec.domains_led caller.now pending.now names.now moment store.old.content)) store.old
+        store.new }
 {
     let sponsored = domains_sponsored(store, alloc, caller, moment)?;
-    let transferred = domains_of_transfers(store, alloc, pending)?;
+    let transferred = each_of(store, alloc, &TransferredDomain, pending)?;
     let named = domains_by_names(store, alloc, names, moment)?;
     let found = joined(transferred, named)?;
-    Ok(joined(sponsored, found)?)
+    Ok(domains_until(joined(sponsored, found)?, moment))
 }
 
 // ---- those of these rows that may be due
 
-fn contacts_until(
-    alloc: Global,
-    rows: Seq<ContactRow>,
-    moment: Moment,
-) -> Result<Seq<ContactRow>, AllocError>
-    ensures { IfOk result (λ kept. kept ≡ filter (contact_within_due (moment_column moment)) rows) }
+fn contacts_until(rows: Seq<ContactRow>, moment: Moment) -> Seq<ContactRow>
+    ensures { result ≡ filter (contact_within_due (moment_column moment)) rows }
 {
-    let mut kept = Seq::new(alloc);
-    for row in rows.into_vec() {
-        if is_contact_until(&row, moment) {
-            kept.push(row)?;
-        }
-    }
-    Ok(kept)
+    let mut rows = rows.into_vec();
+    rows.retain(|row| is_contact_until(row, moment));
+    Seq::from_vec(rows)
 }
 
 fn is_contact_until(row: &ContactRow, moment: Moment) -> bool
@@ -170,20 +144,12 @@ fn is_contact_until(row: &ContactRow, moment: Moment) -> bool
     }
 }
 
-fn domains_until(
-    alloc: Global,
-    rows: Seq<DomainRow>,
-    moment: Moment,
-) -> Result<Seq<DomainRow>, AllocError>
-    ensures { IfOk result (λ kept. kept ≡ filter (domain_within_due (moment_column moment)) rows) }
+fn domains_until(rows: Seq<DomainRow>, moment: Moment) -> Seq<DomainRow>
+    ensures { result ≡ filter (domain_within_due (moment_column moment)) rows }
 {
-    let mut kept = Seq::new(alloc);
-    for row in rows.into_vec() {
-        if is_domain_until(&row, moment) {
-            kept.push(row)?;
-        }
-    }
-    Ok(kept)
+    let mut rows = rows.into_vec();
+    rows.retain(|row| is_domain_until(row, moment));
+    Seq::from_vec(rows)
 }
 
 fn is_domain_until(row: &DomainRow, moment: Moment) -> bool

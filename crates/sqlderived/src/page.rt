@@ -112,20 +112,14 @@ fn page_end<S: Alter>(
     Ok(earlier(contacts, domains))
 }
 
-/// When the last of these rows is due, if they are so many.
+/// When the last of so many rows is due, if they are so many.
 fn end_of_contacts(rows: &[ContactRow], most: u32) -> Option<Moment> {
-    if rows.len() < most as usize {
-        return None;
-    }
-    let last = rows.last()?;
+    let last = rows.get((most as usize).checked_sub(1)?)?;
     moment_of_column(last.due?)
 }
 
 fn end_of_domains(rows: &[DomainRow], most: u32) -> Option<Moment> {
-    if rows.len() < most as usize {
-        return None;
-    }
-    let last = rows.last()?;
+    let last = rows.get((most as usize).checked_sub(1)?)?;
     moment_of_column(last.due)
 }
 

@@ -1,11 +1,11 @@
 //! How many domains are held, counted anew where one domain comes in the place of another.
-ghost use Rattle.std.specs.Prelude.{◌≡◌, ◌==◌, ◌⊎◌, ◌+ℤ◌, ◌-ℤ◌, pos, true, FitsSigned, IfNone, IfOk, IfSome, OnErr};
+ghost use Rattle.std.specs.Prelude.{◌≡◌, ◌+ℤ◌, pos, true, FitsSigned, IfNone, IfOk, IfSome, OnErr};
 ghost use Rattle.std.specs.Int.{w64};
 ghost use Rattle.sqlrows.specs.Meanings.{Changes};
-ghost use Rattle.sqlderived.specs.Held.{counts_one, counts_where};
-ghost use Rattle.sqlderived.specs.inner.Recounts.{IsCountedAnew, IsHeldCounted, IsRecounted, IsUnwritten, counts_other, counts_own, registrar_of, with_unwritten};
+ghost use Rattle.sqlderived.specs.Held.{counts_one};
+ghost use Rattle.sqlderived.specs.inner.Recounts.{IsCountedAnew, IsHeldCounted, IsRecounted, IsUnwritten, counts_own, held_then, registrar_of, with_unwritten};
 
-use crate::holders::{Holders, holders_of, incoming_without, is_in, other_than, sponsor_without};
+use crate::holders::{Holders, holders_of, incoming_without, is_in, sponsor_without};
 use basis::registrar::RegistrarNo;
 use objects::Domain;
 use sqlaccounts::found_row;
@@ -37,8 +37,14 @@ pub fn recount<S: Alter>(
     let before = holders_of(before);
     let after = holders_of(after);
     let written = write(store, unwritten, &before, &after)?;
-    leave(store, &written, &before, &after)?;
-    join(store, &written, &before, &after)?;
+    let sponsor_left = sponsor_without(&written, &before, &after);
+    count(store, sponsor_left, &before, &after)?;
+    let incoming_left = incoming_without(&written, &before, &after);
+    count(store, incoming_left, &before, &after)?;
+    let sponsor_come = sponsor_without(&written, &after, &before);
+    count(store, sponsor_come, &before, &after)?;
+    let incoming_come = incoming_without(&written, &after, &before);
+    count(store, incoming_come, &before, &after)?;
     Ok(())
 }
 
@@ -69,121 +75,46 @@ fn write<S: Alter>(
     Ok(Some(registrar))
 }
 
+/// Counts the domain anew for a registrar, if there is one.
+fn count<S: Alter>(
+    store: &mut RowStore<S>,
+    registrar: Option<RegistrarNo>,
+    before: &Option<Holders>,
+    after: &Option<Holders>,
+) -> Result<(), BookFault>
+    requires { store.old.is_open ≡ true }
+    ensures { Changes result (IsCountedAnew (counts_own registrar before.now)
+        (counts_own registrar after.now)) store.old store.new }
+{
+    let Some(registrar) = registrar else {
+        return Ok(());
+    };
+    let row = found_row(store, registrar)?;
+    let row = counted(row, is_in(registrar, before), is_in(registrar, after))?;
+    store.put_account(&row)?;
+    Ok(())
+}
+
 /// The row, where its account held a domain before or not, and holds it now or not.
 fn counted(row: AccountRow, before: bool, after: bool) -> Result<AccountRow, BookFault>
     ensures counted { IfOk result (IsHeldCounted (counts_one before) (counts_one after) row) }
-    ensures fits { OnErr result ((¬ FitsSigned w64 (row.held -ℤ pos 1))
-        ⊎ (¬ FitsSigned w64 (row.held +ℤ pos 1))) }
+    ensures fits { OnErr result (¬ FitsSigned w64 (held_then row.held before after)) }
+{
+    let mut row = row;
+    let Some(held) = held_then(row.held, before, after) else {
+        return Err(BookFault::Store);
+    };
+    row.held = held;
+    Ok(row)
+}
+
+fn held_then(held: i64, before: bool, after: bool) -> Option<i64>
+    ensures one { IfSome result (λ it. it +ℤ pos (counts_one before) ≡ held +ℤ pos (counts_one after)) }
+    ensures fits { IfNone result (¬ FitsSigned w64 (held_then held before after)) }
 {
     match (before, after) {
-        (true, false) => with_less(row),
-        (false, true) => with_more(row),
-        _ => Ok(row),
+        (true, false) => held.checked_sub(1),
+        (false, true) => held.checked_add(1),
+        _ => Some(held),
     }
-}
-
-/// One domain less for each other registrar who held it before, and does no more.
-fn leave<S: Alter>(
-    store: &mut RowStore<S>,
-    written: &Option<RegistrarNo>,
-    before: &Option<Holders>,
-    after: &Option<Holders>,
-) -> Result<(), BookFault>
-    requires { store.old.is_open ≡ true }
-    ensures { Changes result (IsCountedAnew (counts_other written.now before.now after.now) (λ r. 0))
-        store.old store.new }
-{
-    one_less(store, other_than(written, sponsor_without(before, after)))?;
-    one_less(store, other_than(written, incoming_without(before, after)))?;
-    Ok(())
-}
-
-/// One domain more for each other registrar who holds it now, and didn't before.
-fn join<S: Alter>(
-    store: &mut RowStore<S>,
-    written: &Option<RegistrarNo>,
-    before: &Option<Holders>,
-    after: &Option<Holders>,
-) -> Result<(), BookFault>
-    requires { store.old.is_open ≡ true }
-    ensures { Changes result (IsCountedAnew (λ r. 0) (counts_other written.now after.now before.now))
-        store.old store.new }
-{
-    one_more(store, other_than(written, sponsor_without(after, before)))?;
-    one_more(store, other_than(written, incoming_without(after, before)))?;
-    Ok(())
-}
-
-/// One domain less for a registrar, if there is one.
-fn one_less<S: Alter>(
-    store: &mut RowStore<S>,
-    registrar: Option<RegistrarNo>,
-) -> Result<(), BookFault>
-    requires { store.old.is_open ≡ true }
-    ensures { Changes result (IsCountedAnew (λ r. counts_where (λ q. q == r) registrar) (λ r. 0))
-        store.old store.new }
-{
-    let Some(registrar) = registrar else {
-        return Ok(());
-    };
-    let row = found_row(store, registrar)?;
-    let row = with_less(row)?;
-    store.put_account(&row)?;
-    Ok(())
-}
-
-/// One domain more for a registrar, if there is one.
-fn one_more<S: Alter>(
-    store: &mut RowStore<S>,
-    registrar: Option<RegistrarNo>,
-) -> Result<(), BookFault>
-    requires { store.old.is_open ≡ true }
-    ensures { Changes result (IsCountedAnew (λ r. 0) (λ r. counts_where (λ q. q == r) registrar))
-        store.old store.new }
-{
-    let Some(registrar) = registrar else {
-        return Ok(());
-    };
-    let row = found_row(store, registrar)?;
-    let row = with_more(row)?;
-    store.put_account(&row)?;
-    Ok(())
-}
-
-fn with_less(row: AccountRow) -> Result<AccountRow, BookFault>
-    ensures counted { IfOk result (IsHeldCounted 1 0 row) }
-    ensures least { OnErr result (¬ FitsSigned w64 (row.held -ℤ pos 1)) }
-{
-    let mut row = row;
-    let Some(held) = less(row.held) else {
-        return Err(BookFault::Store);
-    };
-    row.held = held;
-    Ok(row)
-}
-
-fn with_more(row: AccountRow) -> Result<AccountRow, BookFault>
-    ensures counted { IfOk result (IsHeldCounted 0 1 row) }
-    ensures most { OnErr result (¬ FitsSigned w64 (row.held +ℤ pos 1)) }
-{
-    let mut row = row;
-    let Some(held) = more(row.held) else {
-        return Err(BookFault::Store);
-    };
-    row.held = held;
-    Ok(row)
-}
-
-fn less(held: i64) -> Option<i64>
-    ensures one { IfSome result (λ after. after +ℤ pos 1 ≡ held +ℤ pos 0) }
-    ensures least { IfNone result (¬ FitsSigned w64 (held -ℤ pos 1)) }
-{
-    held.checked_sub(1)
-}
-
-fn more(held: i64) -> Option<i64>
-    ensures one { IfSome result (λ after. after +ℤ pos 0 ≡ held +ℤ pos 1) }
-    ensures most { IfNone result (¬ FitsSigned w64 (held +ℤ pos 1)) }
-{
-    held.checked_add(1)
 }

@@ -24,22 +24,21 @@ is_holder r p = (p.sponsor == r) || option_map_or (λ q. q == r) p.incoming fals
 abbrev pub is_some_holder : ℕ → Option Holders → Bool
 is_some_holder r p = option_map_or (is_holder r) p false
 
--- the sponsor of the first, where it isn't among the others
-abbrev pub sponsor_without : Option Holders → Option Holders → Option ℕ
-sponsor_without None others = None
-sponsor_without (Some p) others = if is_some_holder p.sponsor others then None else Some p.sponsor
-
--- the one whom a pending transfer brings the first, where it is another than the sponsor, and isn't
--- among the others
-abbrev pub incoming_without : Option Holders → Option Holders → Option ℕ
-incoming_without None others = None
-incoming_without (Some p) others = option_and_then (λ q. if (p.sponsor == q) || is_some_holder q others then None else Some q) p.incoming
-
 -- ---- those whose rows are still to be written
 
 abbrev pub is_written : ℕ → Option ℕ → Bool
 is_written r written = option_map_or (λ q. q == r) written false
 
--- a registrar, unless it is the one whose row has been written
-abbrev pub other_than : Option ℕ → Option ℕ → Option ℕ
-other_than written who = option_and_then (λ q. if is_written q written then None else Some q) who
+-- among these, or the one whose row has been written
+abbrev pub is_settled : Option ℕ → Option Holders → ℕ → Bool
+is_settled written others r = is_some_holder r others || is_written r written
+
+-- the sponsor of the first, where it isn't among the others, nor the one whose row has been written
+abbrev pub sponsor_without : Option ℕ → Option Holders → Option Holders → Option ℕ
+sponsor_without written None others = None
+sponsor_without written (Some p) others = if is_settled written others p.sponsor then None else Some p.sponsor
+
+-- the same of the one whom a pending transfer brings the first, where it is another than the sponsor
+abbrev pub incoming_without : Option ℕ → Option Holders → Option Holders → Option ℕ
+incoming_without written None others = None
+incoming_without written (Some p) others = option_and_then (λ q. if (p.sponsor == q) || is_settled written others q then None else Some q) p.incoming

@@ -1,5 +1,5 @@
 -- What counting anew makes of the accounts' rows.
-use Rattle.std.specs.Prelude.{◌≡◌, ◌&&◌, not, ⊤, ℕ, ℤ, pos, ◌+ℤ◌, Option, Some, None, option_map}
+use Rattle.std.specs.Prelude.{◌≡◌, ◌&&◌, ⊤, ℕ, ℤ, pos, ◌+ℤ◌, ◌-ℤ◌, Bool, true, false, Option, Some, None, option_map}
 use Rattle.objects.specs.declared.domain.Domain.{Domain}
 use Rattle.sqlaccounts.specs.Accounts.{accounts_of, row_of, sums_are_right}
 use Rattle.sqlaccounts.specs.inner.Posting.{IsRowOf, with_row}
@@ -14,12 +14,15 @@ use Rattle.sqltables.specs.Content.{Content}
 abbrev pub IsAlikeButHeld : AccountRow → AccountRow → Type 0
 IsAlikeButHeld old new = new ≡ record old { held = new.held }
 
--- there is a row like the one that there was, or none as there was none
+-- this is so of what there was and what there is, or there is none as there was none
+abbrev pub AreBoth : (AccountRow → AccountRow → Type 0) → Option AccountRow → Option AccountRow → Type 0
+AreBoth so None None = ⊤
+AreBoth so None (Some new) = ⊥
+AreBoth so (Some old) None = ⊥
+AreBoth so (Some old) (Some new) = so old new
+
 abbrev pub AreAlike : Option AccountRow → Option AccountRow → Type 0
-AreAlike None None = ⊤
-AreAlike None (Some new) = ⊥
-AreAlike (Some old) None = ⊥
-AreAlike (Some old) (Some new) = IsAlikeButHeld old new
+AreAlike old new = AreBoth IsAlikeButHeld old new
 
 -- and of the domains that are held so many are less, and so many more
 pub record IsHeldCounted (less more : ℕ) (old new : AccountRow) : Type 0 where
@@ -27,10 +30,14 @@ pub record IsHeldCounted (less more : ℕ) (old new : AccountRow) : Type 0 where
   pub held : new.held +ℤ pos less ≡ old.held +ℤ pos more
 
 abbrev pub AreCounted : ℕ → ℕ → Option AccountRow → Option AccountRow → Type 0
-AreCounted less more None None = ⊤
-AreCounted less more None (Some new) = ⊥
-AreCounted less more (Some old) None = ⊥
-AreCounted less more (Some old) (Some new) = IsHeldCounted less more old new
+AreCounted less more old new = AreBoth (IsHeldCounted less more) old new
+
+-- the number, where one domain was held before or not, and is held now or not
+abbrev pub held_then : ℤ → Bool → Bool → ℤ
+held_then held true false = held -ℤ pos 1
+held_then held false true = held +ℤ pos 1
+held_then held true true = held
+held_then held false false = held
 
 -- For each registrar so many domains are less, and so many more. No other column and no other table is
 -- changed, so the accounts are the same, and their other sums are as right as they were.
@@ -64,7 +71,3 @@ registrar_of it = option_map (λ (x : Unwritten). x.registrar) it
 -- 1 for the registrar whose row is written, where it is among the holders
 abbrev pub counts_own : Option ℕ → Option Holders → ℕ → ℕ
 counts_own written holders r = counts_one (is_written r written && is_some_holder r holders)
-
--- 1 for any other that is among the first holders, and not among the others
-abbrev pub counts_other : Option ℕ → Option Holders → Option Holders → ℕ → ℕ
-counts_other written first others r = counts_one (not (is_written r written) && (is_some_holder r first && not (is_some_holder r others)))

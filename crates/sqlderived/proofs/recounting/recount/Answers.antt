@@ -1,8 +1,9 @@
-use Rattle.std.proofs.Common.{subst}
+use Rattle.std.proofs.Common.{subst, sym}
 use Rattle.sqlrows.proofs.StateLemmas.{then-became}
 use Rattle.sqltables.specs.Content.{Content}
-use Rattle.sqlderived.specs.inner.Recounts.{IsCountedAnew, IsRecounted, counts_other, counts_own, registrar_of, with_unwritten}
+use Rattle.sqlderived.specs.inner.Recounts.{IsCountedAnew, IsRecounted, counts_own, registrar_of, with_unwritten}
 use Rattle.sqlderived.proofs.LeavingLemmas.{recounted}
+use Rattle.sqlderived.proofs.RecountLemmas.{anew-after, anew-on}
 use Rattle.sqlderived.proofs.recounting.recount.Goals as goal
 
 pub returns : goal.returns
@@ -11,13 +12,14 @@ returns g c =
     let u = c.args.unwritten in
     let p = c.holders_of-before.result in
     let q = c.holders_of-after.result in
-    let a = c.args.store.now in
-    let b = c.write.new.store in
-    let d = c.leave.new.store in
-    let e = c.join.new.store in
-    let others = then-became _ _ (λ (xs ys : Content). (mid : Content) × (IsCountedAnew (counts_other written p q) (λ r. 0) xs mid × IsCountedAnew (λ r. 0) (counts_other written q p) mid ys))
-    b d e (c.in_ok-leave.ensures {u = tt}) (c.in_ok-join.ensures {u = tt}) (λ clean one two. (d.content, (one, two))) in
+    let start = with_unwritten u c.args.store.now.content in
+    let own = c.write.new.store in
+    let end = c.count-4.new.store in
+    let others = anew-after _ _ _ _ own c.count.new.store end (c.in_ok-count.ensures {u = tt})
+    (anew-after _ _ _ _ c.count.new.store c.count-2.new.store end (c.in_ok-count-2.ensures {u = tt})
+    (anew-after _ _ _ _ c.count-2.new.store c.count-3.new.store end (c.in_ok-count-3.ensures {u = tt}) (c.in_ok-count-4.ensures {u = tt}))) in
     then-became (λ (xs ys : Content). IsCountedAnew (counts_own (registrar_of u) p) (counts_own (registrar_of u) q) (with_unwritten u xs) ys) _ (λ (xs ys : Content). IsRecounted c.args.before.now c.args.after.now (with_unwritten u xs) ys)
-    a b e c.in_ok-written.ensures.counted others
-    (λ clean own both. recounted (registrar_of u) c.args.before.now c.args.after.now p q (with_unwritten u a.content) b.content both.0 e.content c.holders_of-before.ensures c.holders_of-after.ensures own
-    (subst (λ w. IsCountedAnew (counts_other w p q) (λ r. 0) b.content both.0) c.in_ok-written.ensures.of both.1.0) (subst (λ w. IsCountedAnew (λ r. 0) (counts_other w q p) both.0 e.content) c.in_ok-written.ensures.of both.1.1))
+    c.args.store.now own end c.in_ok-written.ensures.counted others
+    (λ clean first rest. recounted written c.args.before.now c.args.after.now p q c.holders_of-before.ensures c.holders_of-after.ensures _ _ _ _
+    c.sponsor_without-sponsor_left.ensures c.incoming_without-incoming_left.ensures c.sponsor_without-sponsor_come.ensures c.incoming_without-incoming_come.ensures start end.content
+    (anew-on _ _ _ _ start own.content end.content (subst (λ w. IsCountedAnew (counts_own w p) (counts_own w q) start own.content) (sym c.in_ok-written.ensures.of) first) rest))
