@@ -1,6 +1,6 @@
 -- The hosts below a domain are found among those with its last two labels, if it has two.
-use Rattle.std.proofs.Common.{◌≡◌, inl, inr, ℕ, ◌≤◌, Bool, true, false, cond, List, [], ◌∷◌, map, filter, Option, Some, None, count_by, is_some, ◌==◌, refl, sym, ap, subst, ◌∙◌}
-use Rattle.std.specs.FinMap.{empty, entries, get, keys}
+use Rattle.std.proofs.Common.{◌≡◌, inl, inr, ℕ, ◌≤◌, Bool, true, false, cond, List, [], ◌∷◌, map, filter, Option, Some, None, option_map, count_by, is_some, ◌==◌, refl, ap, subst, ◌∙◌}
+use Rattle.std.specs.FinMap.{empty, get, keys}
 use Rattle.std.specs.Str as str
 use Rattle.std.proofs.lemmas.Bool.{ltb-true}
 use Rattle.std.proofs.lemmas.Slice.Eq.{bytes_eq-Decides}
@@ -20,9 +20,9 @@ use Rattle.sqltables.proofs.RowLemmas.{bytes_same}
 use Rattle.sqlobjects.specs.Objects.{addresses_of, host_read, hosts_of}
 use Rattle.sqlobjects.proofs.NameLemmas.{host-named}
 use Rattle.sqlobjects.proofs.PutLemmas.{bytes_is, filter-has, has-filter}
-use Rattle.sqldomains.specs.inner.Names.{NameSet, host_standing, hosts_below, is_dotted, rows_around, with_read}
+use Rattle.sqldomains.specs.inner.Names.{Named, host_standing, hosts_below, is_dotted, rows_around, with_read}
 use Rattle.sqldomains.proofs.LinkedLemmas.{first-has}
-use Rattle.sqldomains.proofs.NameOrderLemmas.{by-rows}
+use Rattle.sqldomains.proofs.NameOrderLemmas.{by-rows, gives, keys-where}
 
 -- a host that reads lies below the last two labels of its name
 above-read : (xs : Content) (row : HostRow) (h : Host) → host_read xs row ≡ Some h → row.above ≡ above row.name
@@ -36,19 +36,6 @@ has-map : {A B : Type 0} (f : A → B) (xs : List A) (x : A) → Has xs x → Ha
 has-map f [] x there = absurd there
 has-map f (y ∷ ys) x (inl same) = inl (ap f same)
 has-map f (y ∷ ys) x (inr later) = inr (has-map f ys x later)
-
-some-is : {A : Type 0} (o : Option A) → is_some o ≡ true → (x : A) × (o ≡ Some x)
-some-is None e = cc
-some-is (Some x) e = (x, refl)
-
-keys-where : {X : Type 0} (p : List ℕ → Bool) (es : List (List ℕ × X)) → map (λ (e : List ℕ × X). e.0) (filter (λ (e : List ℕ × X). p e.0) es) ≡ filter p (map (λ (e : List ℕ × X). e.0) es)
-keys-where p [] = refl
-keys-where {X} p (e ∷ es) = go (p e.0) (keys-where p es)
-  where
-    go : (b : Bool) → map (λ (e : List ℕ × X). e.0) (filter (λ (e : List ℕ × X). p e.0) es) ≡ filter p (map (λ (e : List ℕ × X). e.0) es)
-        → map (λ (e : List ℕ × X). e.0) (cond b (e ∷ filter (λ (e : List ℕ × X). p e.0) es) (filter (λ (e : List ℕ × X). p e.0) es)) ≡ cond b (e.0 ∷ filter p (map (λ (e : List ℕ × X). e.0) es)) (filter p (map (λ (e : List ℕ × X). e.0) es))
-    go true more = ap (λ l. e.0 ∷ l) more
-    go false more = more
 
 module _ (xs : Content) (domain : List ℕ) where
   abbrev name_of : HostRow → List ℕ
@@ -78,12 +65,30 @@ module _ (xs : Content) (domain : List ℕ) where
       filter-has (is_below domain) (map name_of (rows_around domain xs)) n
       (subst (Has (map name_of (rows_around domain xs))) name (has-map name_of (rows_around domain xs) it.0 row)) below
 
-  pub below-listed : (names : NameSet) → with_read (host_standing xs) empty found_below ≡ Some names → keys names ≡ hosts_below domain xs
-  below-listed names e =
-      by-rows (host_standing xs) found_below names (hosts_of xs) (λ (h : List ℕ × Host). is_below domain h.0) e
-      (λ n there k reads.
-      let stands = reading.kept n k (is_some (get (hosts_of xs) n)) reads in
-      let it = some-is (get (hosts_of xs) n) stands.0 in
-      (it.0, ap (get (hosts_of xs)) (sym stands.1) ∙ it.1, ap (is_below domain) (sym stands.1) ∙ (has-filter (is_below domain) (map name_of (rows_around domain xs)) n there).1))
-      (λ n h is below. (n, is-found n h is below, λ k reads. sym (reading.kept n k (is_some (get (hosts_of xs) n)) reads).1))
-      ∙ keys-where (is_below domain) (entries (hosts_of xs))
+  abbrev marked : List ℕ → List ℕ × Unit {0}
+  marked n = (n, tt)
+
+  -- what a host's name stands for that is below it
+  abbrev of : List ℕ → Option (Unit {0})
+  of n = cond (is_below domain n) (option_map (λ (h : Host). tt) (get (hosts_of xs) n)) None
+
+  sound : (n : List ℕ) → Has found_below n → (e : List ℕ × Unit {0}) → host_standing xs n ≡ Some e → of e.0 ≡ Some e.1
+  sound n there e stands =
+      let it = reading.kept (marked n) e (is_some (get (hosts_of xs) n)) stands in
+      subst (λ (p : List ℕ × Unit {0}). of p.0 ≡ Some p.1) it.1
+      (ap (λ b. cond b (option_map (λ (h : Host). tt) (get (hosts_of xs) n)) None) (has-filter (is_below domain) (map name_of (rows_around domain xs)) n there).1 ∙ stands-so (get (hosts_of xs) n) it.0)
+    where
+      stands-so : (o : Option Host) → is_some o ≡ true → ◌≡◌ {A = Option (Unit {0})} (option_map (λ (h : Host). tt) o) (Some tt)
+      stands-so None f = cc
+      stands-so (Some h) f = refl
+
+  complete : (n : List ℕ) (v : Unit {0}) → of n ≡ Some v → (k : List ℕ) × Has found_below k × (gives n (host_standing xs k) ≡ true)
+  complete n v e = go (is_below domain n) (get (hosts_of xs) n) refl refl e
+    where
+      go : (b : Bool) (o : Option Host) → is_below domain n ≡ b → get (hosts_of xs) n ≡ o → cond b (option_map (λ (h : Host). tt) o) None ≡ Some v → (k : List ℕ) × Has found_below k × (gives n (host_standing xs k) ≡ true)
+      go false o below is f = cc
+      go true None below is f = cc
+      go true (Some h) below is f = (n, is-found n h is below, ap (λ (o : Option Host). gives n (cond (is_some o) (Some (marked n)) None)) is ∙ bytes_same n n refl)
+
+  pub below-listed : (names : Named (Unit {0})) → with_read (host_standing xs) empty found_below ≡ Some names → keys names ≡ hosts_below domain xs
+  below-listed names e = keys-where (hosts_of xs) (is_below domain) names (by-rows (host_standing xs) of found_below names sound complete e)

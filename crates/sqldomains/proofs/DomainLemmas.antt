@@ -35,9 +35,9 @@ use Rattle.sqlobjects.specs.inner.Transfers.{IsTransferCleared, IsTransferPut}
 use Rattle.sqlobjects.proofs.PutLemmas.{apart, drop-stands, map_of, none-stands, others-removed, none-removed, put-stands, row_there, filter-has}
 use Rattle.sqldomains.specs.declared.domain_rows.DerivedColumns.{DerivedColumns}
 use Rattle.sqldomains.specs.inner.Changes.{IsDomainPut, sponsor_in}
-use Rattle.sqldomains.specs.Domains.{are_dated, dated, domain_read, domains_of, links_of, registrant_alone, with_links}
+use Rattle.sqldomains.specs.Domains.{are_dated, dated, domain_read, domains_of, registrant_alone, with_links}
 use Rattle.sqldomains.specs.inner.Stages.{AreLinksCleared, AreLinksPut, AreOtherPartsKept, IsDomainDropped, IsDomainPlaced, IsDomainRemoved, row_beside}
-use Rattle.sqldomains.proofs.LinkRowLemmas.{links-alike}
+use Rattle.sqldomains.proofs.LinkLemmas.{links-alike, name-where, read-where}
 
 abbrev name_of : DomainRow → List ℕ
 name_of row = row.name
@@ -51,11 +51,9 @@ module _ (xs ys : Content) (id : ℤ) (kept : AreOtherPartsKept id xs ys) where
   -- a domain whose row, links and transfer are as they were is read as before
   pub reads-alike : (r : DomainRow) → int_eq id r.id ≡ false → domain_read ys r ≡ domain_read xs r
   reads-alike r other =
-      let links : links_of ys r ≡ links_of xs r =
-      λ i. ap (λ (x : Content). contact_name_by_number x r.registrant) kept.rest i >>= (λ a.
-      dated r.due (kept.links r.id other i) >>= (λ rows.
-      links-alike xs ys (λ k. ap (λ (x : Content). contact_name_by_number x k) kept.rest) (λ k. ap (λ (x : Content). host_name_by_number x k) kept.rest) rows (registrant_alone a) i)) in
-      λ i. links i >>= (λ l. last_transfer (kept.transfers r.id other i) >>= (λ transfer. domain_of_columns r l transfer))
+      let contacts = λ (k : ℤ). ap (λ (x : Content). contact_name_by_number x k) kept.rest in
+      let hosts = λ (k : ℤ). ap (λ (x : Content). host_name_by_number x k) kept.rest in
+      read-where xs ys r (kept.links r.id other) (kept.transfers r.id other) (contacts r.registrant) (λ link there role. name-where xs ys role link.contact link.host (λ k e. contacts k) (λ k e. hosts k))
 
   contact-same : (row : ContactRow) → contact_read ys row ≡ contact_read xs row
   contact-same row = λ i. last_transfer (kept.contacts row.id i) >>= (λ transfer. contact_of_columns row transfer)
@@ -66,11 +64,11 @@ module _ (xs ys : Content) (id : ℤ) (kept : AreOtherPartsKept id xs ys) where
       ∙ (λ i. from_entries (filter_map (λ (row : ContactRow). named row.name (contact-same row i)) xs.contacts))
 
   assembled : (name : List ℕ) (value : Option Domain) (due : Option ℕ) → domains_of ys ≡ with_named (domains_of xs) name value → AreOtherNamesKept name_of name xs.domains ys.domains
-      → ((r : DomainRow) → Has xs.domains r → Has ys.domains r → bytes_eq r.name name ≡ false → int_eq id r.id ≡ false)
+      → ((r : DomainRow) → Has xs.domains r → Has ys.domains r → bytes_eq r.name name ≡ false → domain_read ys r ≡ domain_read xs r)
       → ((r : DomainRow) → Has ys.domains r → r.name ≡ name → Some r.due ≡ option_map moment_column due)
       → ((r : DomainRow) → Has ys.domains r → r.name ≡ name → Some r.sponsor ≡ maybe_registrar_column (sponsor_in value))
       → IsConsistent xs → IsConsistent ys → IsDomainPut name value due xs ys
-  assembled name value due stands others other_number due_then sponsor_then consistent after = record {
+  assembled name value due stands others readings due_then sponsor_then consistent after = record {
     domains = stands;
     contacts = contacts-same;
     hosts = ap hosts_of kept.rest;
@@ -83,7 +81,7 @@ module _ (xs ys : Content) (id : ℤ) (kept : AreOtherPartsKept id xs ys) where
     lines = ap (λ (x : Content). x.lines) kept.rest;
     messages = ap (λ (x : Content). x.messages) kept.rest;
     others = others;
-    readings = λ r was now e. reads-alike r (other_number r was now e);
+    readings = readings;
     due_is = due_then;
     sponsor_is = sponsor_then;
     consistent = (consistent, after);
@@ -116,29 +114,13 @@ removed-so id number xs b m same links =
 module _ (xs ys : Content) (name : List ℕ) (consistent : IsConsistent xs) (after : IsConsistent ys) where
   none_there : filter (table.domain_with_name name) xs.domains ≡ [] → ys ≡ xs → IsDomainPut name None None xs ys
   none_there none same =
-      let as_it_is : AreOtherPartsKept (pos 0) xs xs = record { links = λ other e. refl; transfers = λ other e. refl; contacts = λ contact. refl; rest = refl } in
-      subst (λ z. IsConsistent z → IsDomainPut name None None xs z) (sym same)
-      (λ still. record (unchanged as_it_is) { consistent = (consistent, still) }) after
-    where
-      unchanged : AreOtherPartsKept (pos 0) xs xs → IsDomainPut name None None xs xs
-      unchanged as_it_is = record {
-        domains = none-stands name_of (domain_read xs) name xs.domains none;
-        contacts = refl;
-        hosts = refl;
-        metas = refl;
-        days = refl;
-        accounts = refl;
-        contact_rows = refl;
-        host_rows = refl;
-        addresses = refl;
-        lines = refl;
-        messages = refl;
-        others = λ q e. refl;
-        readings = λ r was now e. refl;
-        due_is = λ r there is. absurd (nobody name xs.domains none r there is);
-        sponsor_is = λ r there is. absurd (nobody name xs.domains none r there is);
-        consistent = (consistent, consistent);
-      }
+      subst (λ z. IsConsistent z → IsDomainPut name None None xs z) (sym same) (assembled xs xs (pos 0) (record { links = λ other e. refl; transfers = λ other e. refl; contacts = λ contact. refl; rest = refl }) name None None
+      (none-stands name_of (domain_read xs) name xs.domains none)
+      (λ q e. refl)
+      (λ r was now e. refl)
+      (λ r there is. absurd (nobody name xs.domains none r there is))
+      (λ r there is. absurd (nobody name xs.domains none r there is))
+      consistent) after
 
   removed : (row : DomainRow) → filter (table.domain_with_name name) xs.domains ≡ row ∷ [] → IsDomainRemoved row.id xs ys → IsDomainPut name None None xs ys
   removed row found gone =
@@ -148,7 +130,7 @@ module _ (xs ys : Content) (name : List ℕ) (consistent : IsConsistent xs) (aft
       (ap (map_of name_of (domain_read ys)) gone.domains
       ∙ drop-stands key name_of (domain_read xs) (domain_read ys) name row xs.domains found consistent.keyed.domains consistent.named.domains (λ r was e. reads-alike xs ys row.id gone.kept r e))
       (λ q e. ap (filter (table.domain_with_name q)) gone.domains ∙ others-removed key name_of name xs.domains row found consistent.keyed.domains q e)
-      (λ r was now e. apart key name_of xs.domains row r name consistent.keyed.domains at.0 was at.1 e)
+      (λ r was now e. reads-alike xs ys row.id gone.kept r (apart key name_of xs.domains row r name consistent.keyed.domains at.0 was at.1 e))
       (λ r there is. absurd (nobody name ys.domains none_now r there is))
       (λ r there is. absurd (nobody name ys.domains none_now r there is))
       consistent after
@@ -229,7 +211,7 @@ module _ (xs m b ys : Content) (beside : DerivedColumns) (d : Domain) (row : Dom
   domain-put = assembled xs ys row.id kept_now d.name (Some d) (Some beside.due)
       (put-stands key name_of (domain_read xs) (domain_read ys) d.name row d xs.domains ys.domains rows_now after.keyed.domains after.named.domains reads_now (λ r was now e. reads-alike xs ys row.id kept_now r e))
       rows_now.others
-      (λ r was now e. apart key name_of ys.domains row r d.name after.keyed.domains rows_now.there now rows_now.named e)
+      (λ r was now e. reads-alike xs ys row.id kept_now r (apart key name_of ys.domains row r d.name after.keyed.domains rows_now.there now rows_now.named e))
       (λ r there same. ap Some (ap (λ (x : DomainRow). x.due) (after.named.domains r row there rows_now.there (same ∙ sym rows_now.named)) ∙ (written row.id beside d row placed.is).due))
       (λ r there same. ap Some (ap (λ (x : DomainRow). x.sponsor) (after.named.domains r row there rows_now.there (same ∙ sym rows_now.named)) ∙ (written row.id beside d row placed.is).sponsor))
       consistent after

@@ -1,27 +1,31 @@
 -- What leads from the row of a domain to what the domain names, and when it says that it is due.
-use Rattle.std.proofs.Common.{◌≡◌, ◌⊎◌, ⊎_elim, inl, inr, ℕ, ℤ, true, false, ◌||◌, List, filter, Some, refl, sym, ap, ◌∙◌, true≢false}
+use Rattle.std.proofs.Common.{◌≡◌, ◌⊎◌, ⊎_elim, inl, inr, ℕ, ℤ, true, false, ◌||◌, List, filter, Option, Some, None, refl, sym, ap, ◌∙◌, true≢false}
 use Rattle.std.proofs.lemmas.Bool.{or_cases}
 use Rattle.std.proofs.lemmas.Slice.Eq.{bytes_eq-Decides}
+use Rattle.std.specs.Ordering.{int_eq}
 use Rattle.std.specs.Str as str
 use Rattle.sqlite_keyed.proofs.KeyedLemmas.{same_int}
 use Rattle.sqlite_rules.specs.Lists.{Has}
-use Rattle.std.specs.Ordering.{int_eq}
 use Rattle.objects.specs.declared.domain.Domain.{Domain}
-use Rattle.objects.specs.declared.domain.Links.{Links}
 use Rattle.objects.specs.Links.{has_name, names_contact, names_host}
 use Rattle.sqlcolumns.specs.declared.code.Role.{Role}
+use Rattle.sqlcolumns.specs.declared.code.Role.TheVariants as roles
+use Rattle.sqlcolumns.specs.Steps.{◌>>=◌}
 use Rattle.sqltables.specs.declared.contact.ContactRow.{ContactRow}
 use Rattle.sqltables.specs.Content.{Content}
 use Rattle.sqltables.specs.declared.domain.DomainRow.{DomainRow}
 use Rattle.sqltables.specs.declared.host.HostRow.{HostRow}
 use Rattle.sqltables.specs.Link.{link_with_domain}
 use Rattle.sqltables.specs.declared.link.LinkRow.{LinkRow}
-use Rattle.sqlobjects.specs.Changes.{contact_name_by_number}
+use Rattle.sqlobjects.specs.Changes.{contact_name_by_number, host_name_by_number}
+use Rattle.sqlobjects.specs.inner.Stages.{named_contacts, named_hosts}
 use Rattle.sqlobjects.proofs.PutLemmas.{has-filter}
-use Rattle.sqldomains.specs.Domains.{domain_read, linked_name, registrant_alone, with_linked_name}
-use Rattle.sqldomains.proofs.AnswerLemmas.{row-of-contact, row-of-host}
-use Rattle.sqldomains.proofs.LinkedLemmas.{LeadsToContact, LeadsToHost, Naming, admin-more, all-rows, host-more, naming, registrant-kept, tech-more}
 use Rattle.sqlobjects.proofs.VerdictLemmas.{each-passes}
+use Rattle.sqldomains.specs.Domains.{alone, domain_read, registrant_alone}
+use Rattle.sqldomains.specs.inner.Stages.{HasLinkRows}
+use Rattle.sqldomains.proofs.FoundLemmas.{parts}
+use Rattle.sqldomains.proofs.LinkedLemmas.{IsLedTo, all-rows, links-led, names_in}
+use Rattle.sqldomains.proofs.NumberLemmas.{row-named}
 
 -- a link of a domain's row leads to the contact, or the host, with this number, and says when the domain is due
 pub record LinksContact (xs : Content) (row : DomainRow) (id : ℤ) : Type 0 where
@@ -51,58 +55,57 @@ pub record NamesHost (xs : Content) (row : DomainRow) (name : List ℕ) : Type 0
   pub named : host.name ≡ name
   pub way : LinksHost xs row host.id
 
+alone-leads : {X : Type 0} (number other : Option ℤ) (f : ℤ → Option X) (x : X) → (alone number other >>= f) ≡ Some x → (id : ℤ) × (number ≡ Some id) × (f id ≡ Some x)
+alone-leads None None f x e = cc
+alone-leads (Some id) None f x e = (id, refl, e)
+alone-leads number (Some id) f x e = cc
+
 module _ (xs : Content) (row : DomainRow) (d : Domain) (reads : domain_read xs row ≡ Some d) (name : List ℕ) where
-  is : Naming xs row d.links
-  is = naming xs row d reads
+  led : (contact_name_by_number xs row.registrant ≡ Some d.links.registrant) × HasLinkRows row.id row.due d.links xs
+  led = links-led xs row d.links (parts xs row d reads).links
 
   dated-so : (l : LinkRow) → Has (filter (link_with_domain row.id) xs.links) l → l.due ≡ row.due
-  dated-so l there = same_int l.due row.due (each-passes (λ (x : LinkRow). int_eq x.due row.due) (filter (link_with_domain row.id) xs.links) is.all_dated l there)
+  dated-so l there = same_int l.due row.due (each-passes (λ (x : LinkRow). int_eq x.due row.due) (filter (link_with_domain row.id) xs.links) led.1.dated l there)
 
-  listed-leads : (pick : Links → List (List ℕ)) (Leads : LinkRow → Type 0) → ((r : List ℕ) → has_name (pick (registrant_alone r)) name ≡ false)
-      → ((l : Links) (r : LinkRow) (role : Role) (new : List ℕ) → linked_name xs role r.contact r.host ≡ Some new → has_name (pick (with_linked_name l role new)) name ≡ true → (has_name (pick l) name ≡ true) ⊎ Leads r)
-      → has_name (pick d.links) name ≡ true → (l : LinkRow) × Has (filter (link_with_domain row.id) xs.links) l × Leads l
-  listed-leads pick Leads none more has = go (all-rows xs name pick Leads more (filter (link_with_domain row.id) xs.links) (registrant_alone is.registrant) d.links is.all has)
-    where
-      go : (has_name (pick (registrant_alone is.registrant)) name ≡ true) ⊎ ((l : LinkRow) × Has (filter (link_with_domain row.id) xs.links) l × Leads l) → (l : LinkRow) × Has (filter (link_with_domain row.id) xs.links) l × Leads l
-      go (inl before) = absurd (true≢false (sym before ∙ none is.registrant))
-      go (inr found) = found
+  listed-leads : (role : Role) → has_name (names_in role (registrant_alone d.links.registrant)) name ≡ false → has_name (names_in role d.links) name ≡ true → IsLedTo xs name role (filter (link_with_domain row.id) xs.links)
+  listed-leads role none has =
+      ⊎_elim (λ (before : has_name (names_in role (registrant_alone d.links.registrant)) name ≡ true). absurd (true≢false (sym before ∙ none))) (λ found. found)
+      (all-rows xs name role (filter (link_with_domain row.id) xs.links) (registrant_alone d.links.registrant) d.links led.1.all has)
 
   by-registrant : str.bytes_eq d.links.registrant name ≡ true → NamesContact xs row name
   by-registrant same =
-      let at : contact_name_by_number xs row.registrant ≡ Some name = is.registrant_is ∙ ap Some (sym (registrant-kept xs (filter (link_with_domain row.id) xs.links) (registrant_alone is.registrant) d.links is.all) ∙ (bytes_eq-Decides d.links.registrant name).0 same) in
-      let it = row-of-contact xs name row.registrant at in
+      let it = row-named named_contacts xs name row.registrant (led.0 ∙ ap Some ((bytes_eq-Decides d.links.registrant name).0 same)) in
       record { contact = it.0; there = it.1; named = it.2; way = inl (sym it.3) }
 
-  by-link : (l : LinkRow) × Has (filter (link_with_domain row.id) xs.links) l × LeadsToContact xs name l → NamesContact xs row name
+  by-link : (l : LinkRow) × Has (filter (link_with_domain row.id) xs.links) l × ((alone l.contact l.host >>= contact_name_by_number xs) ≡ Some name) → NamesContact xs row name
   by-link found =
       let l = found.0 in
       let there = has-filter (link_with_domain row.id) xs.links l found.1 in
-      let it = row-of-contact xs name found.2.0 found.2.2 in
+      let at = alone-leads l.contact l.host (contact_name_by_number xs) name found.2 in
+      let it = row-named named_contacts xs name at.0 at.2 in
       record {
         contact = it.0;
         there = it.1;
         named = it.2;
-        way = inr (record { link = l; there = there.0; domain = same_int l.domain row.id there.1; contact = found.2.1 ∙ ap Some (sym it.3); due = dated-so l found.1 });
+        way = inr (record { link = l; there = there.0; domain = same_int l.domain row.id there.1; contact = at.1 ∙ ap Some (sym it.3); due = dated-so l found.1 });
       }
 
   pub names-contact : names_contact name d.links ≡ true → NamesContact xs row name
   names-contact has =
       ⊎_elim by-registrant (λ rest.
-      ⊎_elim
-      (λ admin. by-link (listed-leads (λ l. l.admin) (LeadsToContact xs name) (λ r. refl) (admin-more xs name) admin))
-      (λ tech. by-link (listed-leads (λ l. l.tech) (LeadsToContact xs name) (λ r. refl) (tech-more xs name) tech))
-      (or_cases (has_name d.links.admin name) (has_name d.links.tech name) rest))
+      ⊎_elim (λ admin. by-link (listed-leads roles.Admin refl admin)) (λ tech. by-link (listed-leads roles.Tech refl tech)) (or_cases (has_name d.links.admin name) (has_name d.links.tech name) rest))
       (or_cases (str.bytes_eq d.links.registrant name) (has_name d.links.admin name || has_name d.links.tech name) has)
 
   pub names-host : names_host name d.links ≡ true → NamesHost xs row name
   names-host has =
-      let found = listed-leads (λ l. l.hosts) (LeadsToHost xs name) (λ r. refl) (host-more xs name) has in
+      let found = listed-leads roles.Host refl has in
       let l = found.0 in
       let there = has-filter (link_with_domain row.id) xs.links l found.1 in
-      let it = row-of-host xs name found.2.0 found.2.2 in
+      let at = alone-leads l.host l.contact (host_name_by_number xs) name found.2 in
+      let it = row-named named_hosts xs name at.0 at.2 in
       record {
         host = it.0;
         there = it.1;
         named = it.2;
-        way = record { link = l; there = there.0; domain = same_int l.domain row.id there.1; host = found.2.1 ∙ ap Some (sym it.3); due = dated-so l found.1 };
+        way = record { link = l; there = there.0; domain = same_int l.domain row.id there.1; host = at.1 ∙ ap Some (sym it.3); due = dated-so l found.1 };
       }

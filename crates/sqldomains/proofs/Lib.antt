@@ -1,6 +1,8 @@
 pub mod LinkLemmas
+pub mod NumberLemmas
 pub mod FoundLemmas
 pub mod LinkedLemmas
+pub mod LeadingLemmas
 pub mod AnswerLemmas
 pub mod LinkRowLemmas
 pub mod DomainLemmas
@@ -11,5 +13,4 @@ pub mod DelegationLemmas
 pub mod PageLemmas
 pub mod BelowLemmas
 pub mod SponsorLemmas
-pub mod LeadingLemmas
 pub mod RenamedLemmas

@@ -1,55 +1,31 @@
 -- Rows that lead from a domain, removed and added.
-use Rattle.std.proofs.Common.{◌≡◌, ◌+◌, ◌<◌, get_or, length, take, ℕ, ℤ, Bool, true, false, ◌&&◌, cond, List, [], ◌∷◌, ◌++◌, map, filter, fold, Option, Some, None, option_map, refl, sym, ap, subst, ◌∙◌, append_assoc, int_eq}
+use Rattle.std.proofs.Common.{◌≡◌, ◌+◌, ◌<◌, get_or, length, take, inl, inr, ℕ, ℤ, Bool, true, false, true≢false, cond, List, [], ◌∷◌, ◌++◌, map, filter, fold, Option, Some, None, refl, sym, ap, subst, ◌∙◌, append_assoc, int_eq}
 use Rattle.std.proofs.lemmas.Bool.Decides.{Decides-int_eq}
 use Rattle.std.proofs.lemmas.List.{append-nil, take_more}
 use Rattle.sqlrows.specs.inner.Layouts.{appended}
 use Rattle.sqlite_keyed.specs.Keyed.{next_key}
 use Rattle.sqlite_keyed.specs.Lists.{delete_where, update_where}
-use Rattle.sqlite_keyed.proofs.KeyedLemmas.{same_int}
+use Rattle.sqlite_keyed.proofs.KeyedLemmas.{int_eq_apart, same_int}
+use Rattle.sqlite_keyed.proofs.ListLemmas.{filter-map, filter_same, list_all_push}
+use Rattle.sqlite_rules.specs.Lists.{Has}
 use Rattle.objects.specs.declared.domain.Links.{Links}
 use Rattle.sqlcolumns.specs.declared.code.Role.{Role}
 use Rattle.sqlcolumns.specs.declared.code.Role.TheVariants as roles
 use Rattle.sqlcolumns.specs.Codes.{role_in}
 use Rattle.sqlcolumns.specs.Steps.{◌>>=◌}
 use Rattle.sqlcolumns.proofs.CodeLemmas.{role_back}
-use Rattle.sqltables.specs.Contact as contact_table
-use Rattle.sqltables.specs.declared.contact.ContactRow.{ContactRow}
 use Rattle.sqltables.specs.Content.{Content}
 use Rattle.sqltables.specs.inner.Content.{links_to}
-use Rattle.sqltables.specs.Host as host_table
-use Rattle.sqltables.specs.declared.host.HostRow.{HostRow}
 use Rattle.sqltables.specs.Link as table
 use Rattle.sqltables.specs.Link.{link_with_domain}
 use Rattle.sqltables.specs.declared.link.LinkRow.{LinkRow}
-use Rattle.sqltables.specs.inner.Consistent.{IsConsistent}
-use Rattle.sqlobjects.specs.Changes.{contact_name_by_number, host_name_by_number}
-use Rattle.sqlobjects.proofs.PutLemmas.{filter-append, filter-append_pass, filter-delete, filter-deleted, get_by-has}
+use Rattle.sqlobjects.proofs.PutLemmas.{filter-append, filter-append_pass, filter-delete, filter-deleted, has-filter}
+use Rattle.sqlobjects.proofs.VerdictLemmas.{all-changed, all-pass}
 use Rattle.sqldomains.specs.declared.comparison.LinkComparison.TheVariants as comparisons
 use Rattle.sqldomains.specs.Domains.{are_dated, in_places, linked_name, placed, registrant_alone, with_link_read, with_linked_name, with_links}
-use Rattle.sqldomains.specs.inner.Links.{IsNumberOfContact, IsNumberOfHost}
 use Rattle.sqldomains.specs.inner.Stages.{AreLinksCleared, AreLinksPutOver, AreNamesAdded, AreOtherLinksKept, IsLinkTo, HasLinkRows, with_names}
+use Rattle.sqldomains.proofs.LinkLemmas.{links-alike}
 use Rattle.sqldomains.proofs.LinkedLemmas.{registrant-more}
-
--- ---- rows read where names are alike
-
-module _ (xs ys : Content) (contacts : (id : ℤ) → contact_name_by_number ys id ≡ contact_name_by_number xs id) (hosts : (id : ℤ) → host_name_by_number ys id ≡ host_name_by_number xs id) where
-  name-alike : (role : Role) (contact host : Option ℤ) → linked_name ys role contact host ≡ linked_name xs role contact host
-  name-alike roles.Host None (Some id) = hosts id
-  name-alike roles.Host None None = refl
-  name-alike roles.Host (Some c) host = refl
-  name-alike roles.Admin (Some id) None = contacts id
-  name-alike roles.Admin (Some id) (Some h) = refl
-  name-alike roles.Admin None host = refl
-  name-alike roles.Tech (Some id) None = contacts id
-  name-alike roles.Tech (Some id) (Some h) = refl
-  name-alike roles.Tech None host = refl
-
-  link-alike : (l : Links) (row : LinkRow) → with_link_read ys l row ≡ with_link_read xs l row
-  link-alike l row = λ i. role_in row.role >>= (λ r. name-alike r row.contact row.host i >>= (λ n. Some (with_linked_name l r n)))
-
-  pub links-alike : (rows : List LinkRow) (l : Links) → with_links ys l rows ≡ with_links xs l rows
-  links-alike [] l = refl
-  links-alike (row ∷ rows) l = λ i. link-alike l row i >>= (λ n. links-alike rows n i)
 
 -- ---- one row more
 
@@ -72,16 +48,6 @@ one-leads xs id due k role name row m is =
     (λ i. (ap role_in is.role_is ∙ role_back role) i >>= (λ r. linked_name xs r row.contact row.host >>= (λ n. Some (with_linked_name m r n))))
     ∙ (λ i. is.leads i >>= (λ n. Some (with_linked_name m role n)))
 
--- one more that says so
-dated-more : (due : ℤ) (rows : List LinkRow) (row : LinkRow) → are_dated due rows ≡ true → row.due ≡ due → are_dated due (rows ++ row ∷ []) ≡ true
-dated-more due [] row all is = ap (λ b. b && true) ((Decides-int_eq row.due due).1 is)
-dated-more due (r ∷ rows) row all is = go (int_eq r.due due) (are_dated due rows) all (λ e. dated-more due rows row e is)
-  where
-    go : (a b : Bool) → (a && b) ≡ true → (b ≡ true → are_dated due (rows ++ row ∷ []) ≡ true) → (a && are_dated due (rows ++ row ∷ [])) ≡ true
-    go true true e more = more refl
-    go true false e more = cc
-    go false b e more = cc
-
 pub name-added : (id due : ℤ) (role : Role) (name : List ℕ) (xs : Content) (row : LinkRow) → IsLinkTo xs id due role name row
     → AreNamesAdded id due role (name ∷ []) xs (links_to (appended table.links (λ k. record row { id = k })) xs)
 name-added id due role name xs row is =
@@ -98,7 +64,7 @@ name-added id due role name xs row is =
             ∙ with-more xs (filter (link_with_domain id) xs.links) (registrant_alone l.registrant) new
             ∙ ap (λ o. o >>= (λ m. with_link_read xs m new)) before.all
             ∙ one-leads xs id due k role name row l is;
-        dated = ap (are_dated due) more ∙ dated-more due (filter (link_with_domain id) xs.links) new before.dated is.due_is;
+        dated = ap (are_dated due) more ∙ list_all_push (λ (l : LinkRow). int_eq l.due due) (filter (link_with_domain id) xs.links) new before.dated ((Decides-int_eq row.due due).1 is.due_is);
       };
       others = record {
         domains = λ other apart. filter-append (link_with_domain other) xs.links new (ap (λ n. int_eq n other) is.domain ∙ apart);
@@ -175,62 +141,57 @@ links-replaced id due number l a b c same clear added so any =
 
 -- ---- rows that stay
 
-abbrev due_then : ℤ → LinkRow → LinkRow
-due_then due row = record row { due = due }
+map-stays : {A : Type 0} (f : A → A) (xs : List A) → ((x : A) → Has xs x → f x ≡ x) → map f xs ≡ xs
+map-stays f [] same = refl
+map-stays f (x ∷ xs) same = λ i. same x (inl refl) i ∷ map-stays f xs (λ y h. same y (inr h)) i
 
 module _ (id due : ℤ) where
-  abbrev updated : List LinkRow → List LinkRow
-  updated rows = update_where (link_with_domain id) (due_then due) rows
+  abbrev due_then : LinkRow → LinkRow
+  due_then row = record row { due = due }
 
-  updated-here : (rows : List LinkRow) → filter (link_with_domain id) (updated rows) ≡ map (due_then due) (filter (link_with_domain id) rows)
-  updated-here [] = refl
-  updated-here (row ∷ rows) = go (link_with_domain id row) refl (updated-here rows)
-    where
-      go : (b : Bool) → link_with_domain id row ≡ b → filter (link_with_domain id) (updated rows) ≡ map (due_then due) (filter (link_with_domain id) rows)
-          → filter (link_with_domain id) (cond b (due_then due row) row ∷ updated rows) ≡ map (due_then due) (cond b (row ∷ filter (link_with_domain id) rows) (filter (link_with_domain id) rows))
-      go true e more = ap (λ (b : Bool). cond b (due_then due row ∷ filter (link_with_domain id) (updated rows)) (filter (link_with_domain id) (updated rows))) e ∙ ap (λ l. due_then due row ∷ l) more
-      go false e more = ap (λ (b : Bool). cond b (row ∷ filter (link_with_domain id) (updated rows)) (filter (link_with_domain id) (updated rows))) e ∙ more
+  abbrev updated : LinkRow → LinkRow
+  updated row = cond (link_with_domain id row) (due_then row) row
 
-  updated-others : (other : ℤ) → int_eq id other ≡ false → (rows : List LinkRow) → filter (link_with_domain other) (updated rows) ≡ filter (link_with_domain other) rows
-  updated-others other apart [] = refl
-  updated-others other apart (row ∷ rows) = go (link_with_domain id row) refl (updated-others other apart rows)
+  -- each domain's rows are its rows, updated
+  updated-rows : (other : ℤ) (rows : List LinkRow) → filter (link_with_domain other) (map updated rows) ≡ map updated (filter (link_with_domain other) rows)
+  updated-rows other rows =
+      filter-map (link_with_domain other) updated rows
+      ∙ ap (map updated) (filter_same (λ (row : LinkRow). link_with_domain other (updated row)) (link_with_domain other) (λ row. kept row (link_with_domain id row)) rows)
     where
-      go : (b : Bool) → link_with_domain id row ≡ b → filter (link_with_domain other) (updated rows) ≡ filter (link_with_domain other) rows
-          → filter (link_with_domain other) (cond b (due_then due row) row ∷ updated rows) ≡ cond (link_with_domain other row) (row ∷ filter (link_with_domain other) rows) (filter (link_with_domain other) rows)
-      go true e more =
-          let elsewhere : link_with_domain other row ≡ false = ap (λ k. int_eq k other) (same_int row.domain id e) ∙ apart in
-          ap (λ (b : Bool). cond b (due_then due row ∷ filter (link_with_domain other) (updated rows)) (filter (link_with_domain other) (updated rows))) elsewhere ∙ more
-          ∙ sym (ap (λ (b : Bool). cond b (row ∷ filter (link_with_domain other) rows) (filter (link_with_domain other) rows)) elsewhere)
-      go false e more = ap (λ l. cond (link_with_domain other row) (row ∷ l) l) more
+      kept : (row : LinkRow) (b : Bool) → link_with_domain other (cond b (due_then row) row) ≡ link_with_domain other row
+      kept row true = refl
+      kept row false = refl
 
   -- where rows lead doesn't hang on when they are due
-  lead-alike : (xs : Content) (rows : List LinkRow) (l : Links) → with_links xs l (map (due_then due) rows) ≡ with_links xs l rows
+  lead-alike : (xs : Content) (rows : List LinkRow) (l : Links) → with_links xs l (map updated rows) ≡ with_links xs l rows
   lead-alike xs [] l = refl
-  lead-alike xs (row ∷ rows) l = λ i. with_link_read xs l row >>= (λ n. lead-alike xs rows n i)
+  lead-alike xs (row ∷ rows) l = λ i. at (link_with_domain id row) i >>= (λ n. lead-alike xs rows n i)
+    where
+      at : (b : Bool) → with_link_read xs l (cond b (due_then row) row) ≡ with_link_read xs l row
+      at true = refl
+      at false = refl
 
-  all-dated : (rows : List LinkRow) → are_dated due (map (due_then due) rows) ≡ true
-  all-dated [] = refl
-  all-dated (row ∷ rows) = ap (λ b. b && are_dated due (map (due_then due) rows)) ((Decides-int_eq due due).1 refl) ∙ all-dated rows
+  all-dated : (rows : List LinkRow) → are_dated due (map updated (filter (link_with_domain id) rows)) ≡ true
+  all-dated rows =
+      let own = filter (link_with_domain id) rows in
+      all-changed (λ (row : LinkRow). true) (λ (l : LinkRow). int_eq l.due due) updated own (λ row there.
+      ap (λ (b : Bool). int_eq (cond b (due_then row) row).due due) (has-filter (link_with_domain id) rows row there).1 ∙ (Decides-int_eq due due).1 refl)
+      ∙ all-pass (λ (row : LinkRow). true) own (λ row there. refl)
 
-  pub dues-set : (l : Links) (xs : Content) → AreLinksPutOver id due l comparisons.Misdated xs (links_to (update_where (link_with_domain id) (due_then due)) xs)
+  others-stay : (other : ℤ) → int_eq id other ≡ false → (rows : List LinkRow) → map updated (filter (link_with_domain other) rows) ≡ filter (link_with_domain other) rows
+  others-stay other apart rows = map-stays updated (filter (link_with_domain other) rows) (λ row there.
+      let is : row.domain ≡ other = same_int row.domain other (has-filter (link_with_domain other) rows row there).1 in
+      ap (λ (b : Bool). cond b (due_then row) row) (ap (λ k. int_eq k id) is ∙ int_eq_apart other id (λ e. true≢false (sym ((Decides-int_eq id other).1 (sym e)) ∙ apart))))
+
+  pub dues-set : (l : Links) (xs : Content) → AreLinksPutOver id due l comparisons.Misdated xs (links_to (update_where (link_with_domain id) due_then) xs)
   dues-set l xs so leads =
-      let ys : Content = links_to (update_where (link_with_domain id) (due_then due)) xs in
-      let rows = filter (link_with_domain id) xs.links in
+      let ys : Content = links_to (update_where (link_with_domain id) due_then) xs in
+      let own = filter (link_with_domain id) xs.links in
       let alone = registrant_alone l.registrant in
       record {
         here = record {
-          all = ap (with_links ys alone) (updated-here xs.links) ∙ links-alike xs ys (λ i. refl) (λ i. refl) (map (due_then due) rows) alone ∙ lead-alike xs rows alone ∙ leads;
-          dated = ap (are_dated due) (updated-here xs.links) ∙ all-dated rows;
+          all = ap (with_links ys alone) (updated-rows id xs.links) ∙ links-alike xs ys (λ i. refl) (λ i. refl) (map updated own) alone ∙ lead-alike xs own alone ∙ leads;
+          dated = ap (are_dated due) (updated-rows id xs.links) ∙ all-dated xs.links;
         };
-        others = record { domains = λ other apart. updated-others other apart xs.links; rest = refl };
+        others = record { domains = λ other apart. updated-rows other xs.links ∙ others-stay other apart xs.links; rest = refl };
       }
-
--- ---- numbers of names
-
-pub contact-of-number : (xs : Content) (name : List ℕ) (id : ℤ) → IsConsistent xs → IsNumberOfContact xs name (Some id) → contact_name_by_number xs id ≡ Some name
-contact-of-number xs name id consistent it =
-    ap (contact_name_by_number xs) (sym it.3) ∙ ap (option_map (λ (r : ContactRow). r.name)) (get_by-has contact_table.contacts.key xs.contacts it.0 consistent.keyed.contacts it.1) ∙ ap Some it.2
-
-pub host-of-number : (xs : Content) (name : List ℕ) (id : ℤ) → IsConsistent xs → IsNumberOfHost xs name (Some id) → host_name_by_number xs id ≡ Some name
-host-of-number xs name id consistent it =
-    ap (host_name_by_number xs) (sym it.3) ∙ ap (option_map (λ (r : HostRow). r.name)) (get_by-has host_table.hosts.key xs.hosts it.0 consistent.keyed.hosts it.1) ∙ ap Some it.2

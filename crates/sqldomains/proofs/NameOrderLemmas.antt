@@ -1,179 +1,115 @@
--- Names that rows give, gathered one by one, are those of the values that pass, in their order.
-use Rattle.std.proofs.Common.{◌≡◌, ◌⊎◌, inl, inr, ℕ, Bool, true, false, cond, List, [], ◌∷◌, map, filter, Option, Some, None, option_map, refl, sym, ap, subst, ◌∙◌}
-use Rattle.std.specs.Cmp.{eq_by_cmp_equiv}
+-- What rows give under names, gathered one by one, is what the names stand for.
+use Rattle.std.proofs.Common.{◌≡◌, inl, inr, ℕ, Bool, true, false, ◌||◌, cond, List, [], ◌∷◌, filter, Option, Some, None, option_map, refl, sym, ap, ◌∙◌, true≢false}
+use Rattle.std.proofs.lemmas.Map.Made.{keys_of-map_values}
 use Rattle.std.specs.Cmp.Lexicographic.{nat_list_cmp_total, slice_cmp}
-use Rattle.std.specs.FinMap.{FinMap, empty, entries, get, get-empty, get-insert, insert, keys, nat_cmp-IsAntisymmetric, same_map, slice_cmp-IsAntisymmetric}
+use Rattle.std.specs.FinMap.{empty, entries, get, get-empty, get-insert, insert, keys, same_map}
+use Rattle.std.specs.List.{list_any}
+use Rattle.std.specs.Map.{keys_of}
 use Rattle.std.specs.Option.{option_map_or}
 use Rattle.std.specs.Ordering.{eq_by_cmp, nat_cmp}
+use Rattle.sqlite_keyed.proofs.ListLemmas.{none_from_any}
 use Rattle.sqlite_rules.specs.Lists.{Has}
 use Rattle.basis.specs.Maps.{map_values}
 use Rattle.basis.specs.Sweeps.{kept, kept_list}
 use Rattle.basis.proofs.ApartLaws.{get-kept}
-use Rattle.basis.proofs.MapLemmas.{entries-map_values, get-map_values}
+use Rattle.basis.proofs.MapLemmas.{entries-map_values, get-map_values, names_apart}
 use Rattle.basis.proofs.SweepLaws.{entries-kept}
 use Rattle.objects.specs.declared.domain.Domain.{Domain}
-use Rattle.sqlcolumns.specs.Domains.{deletion_in, domain_registration_columns}
-use Rattle.sqlcolumns.specs.Numbers.{years_in_column}
-use Rattle.sqlcolumns.specs.Registrations.{registration_in}
-use Rattle.sqlcolumns.specs.Texts.{statuses_in}
-use Rattle.sqlcolumns.proofs.ReadLemmas.{same_some, step}
-use Rattle.objects.specs.declared.roid.ObjectKind.TheVariants as kinds
+use Rattle.sqlcolumns.specs.Steps.{◌>>=◌}
+use Rattle.sqlcolumns.proofs.ReadLemmas.{same_some}
 use Rattle.sqltables.specs.Content.{Content}
 use Rattle.sqltables.specs.Domain as table
 use Rattle.sqltables.specs.declared.domain.DomainRow.{DomainRow}
-use Rattle.sqltables.specs.Transfer.{transfer_with_domain}
-use Rattle.sqltables.specs.inner.Consistent.{IsConsistent}
-use Rattle.sqlrows.specs.Read.{first_read, or_else}
-use Rattle.sqlobjects.specs.Objects.{last_transfer}
-use Rattle.sqlobjects.proofs.PutLemmas.{bytes_is, has-filter, only_named}
-use Rattle.sqldomains.specs.Domains.{domain_read, domains_of, links_of}
-use Rattle.sqldomains.specs.inner.Names.{NameSet, with_one, with_read}
-use Rattle.sqldomains.proofs.FoundLemmas.{domain-named}
+use Rattle.sqltables.proofs.RowLemmas.{all_at}
+use Rattle.sqlobjects.proofs.PutLemmas.{bytes_is, has-filter}
+use Rattle.sqldomains.specs.Domains.{domain_read, domains_of}
+use Rattle.sqldomains.specs.inner.Names.{Named, with_one, with_read}
+use Rattle.sqldomains.proofs.FoundLemmas.{domain-named, parts}
 use Rattle.sqldomains.proofs.LinkedLemmas.{first-has}
+pub use Rattle.sqldomains.proofs.LinkedLemmas.{stands-there}
 
-firsts : {X Y : Type 0} (f : List ℕ → X → Y) (es : List (List ℕ × X)) → map (λ (e : List ℕ × Y). e.0) (map (λ (e : List ℕ × X). (e.0, f e.0 e.1)) es) ≡ map (λ (e : List ℕ × X). e.0) es
-firsts f [] = refl
-firsts f (e ∷ es) = ap (λ l. e.0 ∷ l) (firsts f es)
+-- ---- what rows give
+
+abbrev pub gives : {V : Type 0} → List ℕ → Option (List ℕ × V) → Bool
+gives n None = false
+gives n (Some e) = eq_by_cmp (slice_cmp nat_cmp) n e.0
+
+-- where each row gives a name with what it stands for
+module _ {R V : Type 0} (read : R → Option (List ℕ × V)) (of : List ℕ → Option V) where
+  abbrev AreSound : List R → Type 0
+  AreSound rows = (row : R) → Has rows row → (e : List ℕ × V) → read row ≡ Some e → of e.0 ≡ Some e.1
+
+  abbrev given : List ℕ → List R → Bool
+  given n rows = list_any (λ row. gives n (read row)) rows
+
+  -- under a name that one gives is that, and under each other what was there
+  gathered : (n : List ℕ) (rows : List R) (a b : Named V) → AreSound rows → with_read read a rows ≡ Some b → get b n ≡ cond (given n rows) (of n) (get a n)
+  gathered n [] a b sound e = ap (λ m. get m n) (sym (same_some a b e))
+  gathered n (row ∷ rows) a b sound e = go (read row) refl e (λ m. gathered n rows m b (λ r there. sound r (inr there)))
+    where
+      put : (x : List ℕ × V) → read row ≡ Some x → (t u : Bool) → eq_by_cmp (slice_cmp nat_cmp) n x.0 ≡ t → cond u (of n) (cond t (Some x.1) (get a n)) ≡ cond (t || u) (of n) (get a n)
+      put x is true true same = refl
+      put x is true false same = sym (ap of (bytes_is n x.0 same) ∙ sound row (inl refl) x is)
+      put x is false u same = refl
+
+      go : (o : Option (List ℕ × V)) → read row ≡ o → (with_one a o >>= (λ m. with_read read m rows)) ≡ Some b → ((m : Named V) → with_read read m rows ≡ Some b → get b n ≡ cond (given n rows) (of n) (get m n))
+          → get b n ≡ cond (gives n o || given n rows) (of n) (get a n)
+      go None is f later = cc
+      go (Some x) is f later =
+          later (insert a x.0 x.1) f ∙ ap (cond (given n rows) (of n)) (get-insert nat_list_cmp_total a x.0 x.1 n)
+          ∙ put x is (eq_by_cmp (slice_cmp nat_cmp) n x.0) (given n rows) refl
+
+  -- so where a row gives each name that stands for something, all is gathered
+  pub by-rows : (rows : List R) (all : Named V) → AreSound rows → ((n : List ℕ) (v : V) → of n ≡ Some v → (row : R) × Has rows row × (gives n (read row) ≡ true))
+      → with_read read empty rows ≡ Some all → (n : List ℕ) → get all n ≡ of n
+  by-rows rows all sound complete e n = gathered n rows empty all sound e ∙ go (given n rows) (of n) refl refl
+    where
+      go : (t : Bool) (o : Option V) → given n rows ≡ t → of n ≡ o → cond t (of n) (get (empty {X = V} {R = slice_cmp nat_cmp}) n) ≡ of n
+      go true o is f = refl
+      go false None is f = get-empty (slice_cmp nat_cmp) n ∙ sym f
+      go false (Some v) is f =
+          let it = complete n v f in
+          absurd (true≢false (sym it.2 ∙ all_at (λ row. gives n (read row) ≡ false) rows it.0 (none_from_any (λ row. gives n (read row)) rows is) it.1))
 
 -- ---- the names of the values that pass
 
-module _ {X : Type 0} (m : FinMap (slice_cmp nat_cmp) X) (q : List ℕ × X → Bool) where
+module _ {X : Type 0} (m : Named X) (p : List ℕ → Bool) where
   abbrev pick : List ℕ → X → Option X
-  pick k x = cond (q (k, x)) (Some x) None
+  pick k x = cond (p k) (Some x) None
 
-  kept-names : (es : List (List ℕ × X)) → map (λ (e : List ℕ × X). e.0) (kept_list pick es) ≡ map (λ (e : List ℕ × X). e.0) (filter q es)
+  abbrev mark : X → Unit {0}
+  mark x = tt
+
+  kept-names : (es : List (List ℕ × X)) → keys_of (kept_list pick es) ≡ filter p (keys_of es)
   kept-names [] = refl
-  kept-names (e ∷ es) = go (q e) (kept-names es)
+  kept-names (e ∷ es) = go (p e.0) (kept-names es)
     where
-      go : (b : Bool) → map (λ (e : List ℕ × X). e.0) (kept_list pick es) ≡ map (λ (e : List ℕ × X). e.0) (filter q es)
-          → map (λ (e : List ℕ × X). e.0) (option_map_or (λ y. (e.0, y) ∷ kept_list pick es) (cond b (Some e.1) None) (kept_list pick es)) ≡ map (λ (e : List ℕ × X). e.0) (cond b (e ∷ filter q es) (filter q es))
+      go : (b : Bool) → keys_of (kept_list pick es) ≡ filter p (keys_of es)
+          → keys_of (option_map_or (λ y. (e.0, y) ∷ kept_list pick es) (cond b (Some e.1) None) (kept_list pick es)) ≡ cond b (e.0 ∷ filter p (keys_of es)) (filter p (keys_of es))
       go true more = ap (λ l. e.0 ∷ l) more
       go false more = more
 
-  abbrev marks : List ℕ → X → Unit {0}
-  marks k x = tt
-
-  keys-kept : keys (map_values marks (kept pick m)) ≡ map (λ (e : List ℕ × X). e.0) (filter q (entries m))
-  keys-kept =
-      ap (map (λ (e : List ℕ × Unit {0}). e.0)) (entries-map_values (slice_cmp nat_cmp) marks nat_list_cmp_total (slice_cmp-IsAntisymmetric nat_cmp-IsAntisymmetric) (kept pick m))
-      ∙ firsts marks (entries (kept pick m))
-      ∙ ap (map (λ (e : List ℕ × X). e.0)) (entries-kept (slice_cmp nat_cmp) pick nat_list_cmp_total (slice_cmp-IsAntisymmetric nat_cmp-IsAntisymmetric) m)
-      ∙ kept-names (entries m)
-
-  picked : (names : NameSet) → ((n : List ℕ) → get names n ≡ option_map (marks n) (option_map_or (pick n) (get m n) None)) → keys names ≡ map (λ (e : List ℕ × X). e.0) (filter q (entries m))
-  picked names is =
-      ap keys (same_map nat_list_cmp_total (slice_cmp-IsAntisymmetric nat_cmp-IsAntisymmetric) names (map_values marks (kept pick m)) (λ n.
+  pub keys-where : (names : Named (Unit {0})) → ((n : List ℕ) → get names n ≡ cond (p n) (option_map mark (get m n)) None) → keys names ≡ filter p (keys m)
+  keys-where names is =
+      ap keys (same_map nat_list_cmp_total names_apart names (map_values (λ k. mark) (kept pick m)) (λ n.
       is n
-      ∙ sym (get-map_values (slice_cmp nat_cmp) nat_list_cmp_total (slice_cmp-IsAntisymmetric nat_cmp-IsAntisymmetric) marks (kept pick m) n
-      ∙ ap (option_map (marks n)) (get-kept (slice_cmp nat_cmp) nat_list_cmp_total (slice_cmp-IsAntisymmetric nat_cmp-IsAntisymmetric) pick m n))))
-      ∙ keys-kept
-
--- ---- names that rows give
-
-module _ (a : NameSet) (n k : List ℕ) where
-  insert-kept : get a k ≡ Some tt → get (insert a n tt) k ≡ Some tt
-  insert-kept e = get-insert nat_list_cmp_total a n tt k ∙ go (eq_by_cmp (slice_cmp nat_cmp) k n)
+      ∙ sym (get-map_values (slice_cmp nat_cmp) nat_list_cmp_total names_apart (λ k. mark) (kept pick m) n
+      ∙ ap (option_map mark) (get-kept (slice_cmp nat_cmp) nat_list_cmp_total names_apart pick m n) ∙ marked (p n) (get m n))))
+      ∙ ap keys_of (entries-map_values (slice_cmp nat_cmp) (λ k. mark) nat_list_cmp_total names_apart (kept pick m))
+      ∙ keys_of-map_values mark (entries (kept pick m))
+      ∙ ap keys_of (entries-kept (slice_cmp nat_cmp) pick nat_list_cmp_total names_apart m)
+      ∙ kept-names (entries m)
     where
-      go : (b : Bool) → cond b (Some tt) (get a k) ≡ Some tt
-      go true = refl
-      go false = e
-
-  insert-sound : get (insert a n tt) k ≡ Some tt → (get a k ≡ Some tt) ⊎ (k ≡ n)
-  insert-sound e = go (eq_by_cmp (slice_cmp nat_cmp) k n) refl (sym (get-insert nat_list_cmp_total a n tt k) ∙ e)
-    where
-      go : (b : Bool) → eq_by_cmp (slice_cmp nat_cmp) k n ≡ b → cond b (Some tt) (get a k) ≡ Some tt → (get a k ≡ Some tt) ⊎ (k ≡ n)
-      go true is f = inr (bytes_is k n is)
-      go false is f = inl f
-
-insert-here : (a : NameSet) (n : List ℕ) → get (insert a n tt) n ≡ Some tt
-insert-here a n = get-insert nat_list_cmp_total a n tt n ∙ ap (λ b. cond b (Some tt) (get a n)) ((eq_by_cmp_equiv nat_list_cmp_total).refl n)
-
-one-name : (a c : NameSet) (o : Option (List ℕ)) → with_one a o ≡ Some c → (n : List ℕ) × (o ≡ Some n) × (insert a n tt ≡ c)
-one-name a c None e = cc
-one-name a c (Some n) e = (n, refl, same_some (insert a n tt) c e)
-
-record Gathered {P : Type 0} (read : P → Option (List ℕ)) (a b : NameSet) (rows : List P) : Type 0 where
-  pub kept : (n : List ℕ) → get a n ≡ Some tt → get b n ≡ Some tt
-  pub sound : (n : List ℕ) → get b n ≡ Some tt → (get a n ≡ Some tt) ⊎ ((p : P) × Has rows p × (read p ≡ Some n))
-  pub complete : (p : P) → Has rows p → (n : List ℕ) × (read p ≡ Some n) × (get b n ≡ Some tt)
-
-gathered : {P : Type 0} (read : P → Option (List ℕ)) (rows : List P) (a b : NameSet) → with_read read a rows ≡ Some b → Gathered read a b rows
-gathered read [] a b e = record {
-  kept = λ n is. subst (λ c. get c n ≡ Some tt) (same_some a b e) is;
-  sound = λ n is. inl (subst (λ c. get c n ≡ Some tt) (sym (same_some a b e)) is);
-  complete = λ p there. absurd there;
-}
-gathered {P} read (row ∷ rows) a b e =
-    let first = step (with_one a (read row)) (λ m. with_read read m rows) b e in
-    let one = one-name a first.given (read row) first.is in
-    go one.0 one.1 (gathered read rows (insert a one.0 tt) b (ap (λ c. with_read read c rows) one.2 ∙ first.rest))
-  where
-    go : (n : List ℕ) → read row ≡ Some n → Gathered read (insert a n tt) b rows → Gathered read a b (row ∷ rows)
-    go n reads more = record {
-      kept = λ k is. more.kept k (insert-kept a n k is);
-      sound = λ k is. from k (more.sound k is);
-      complete = each;
-    }
-      where
-        here : (k : List ℕ) → (get a k ≡ Some tt) ⊎ (k ≡ n) → (get a k ≡ Some tt) ⊎ ((p : P) × Has (row ∷ rows) p × (read p ≡ Some k))
-        here k (inl before) = inl before
-        here k (inr same) = inr (row, inl refl, reads ∙ ap Some (sym same))
-
-        from : (k : List ℕ) → (get (insert a n tt) k ≡ Some tt) ⊎ ((p : P) × Has rows p × (read p ≡ Some k)) → (get a k ≡ Some tt) ⊎ ((p : P) × Has (row ∷ rows) p × (read p ≡ Some k))
-        from k (inl now) = here k (insert-sound a n k now)
-        from k (inr it) = inr (it.0, inr it.1, it.2)
-
-        each : (p : P) → Has (row ∷ rows) p → (k : List ℕ) × (read p ≡ Some k) × (get b k ≡ Some tt)
-        each p (inl same) = (n, ap read same ∙ reads, more.kept n (insert-here a n))
-        each p (inr later) = more.complete p later
-
-some-not-none : {A : Type 0} → ◌≡◌ {A = Option (Unit {0})} (Some tt) None → A
-some-not-none e = cc
-
--- where each row gives the name of a value that passes, and each value that passes is given by a row
-pub by-rows : {P X : Type 0} (read : P → Option (List ℕ)) (rows : List P) (names : NameSet) (m : FinMap (slice_cmp nat_cmp) X) (q : List ℕ × X → Bool) → with_read read empty rows ≡ Some names
-    → ((p : P) → Has rows p → (n : List ℕ) → read p ≡ Some n → (x : X) × (get m n ≡ Some x) × (q (n, x) ≡ true))
-    → ((n : List ℕ) (x : X) → get m n ≡ Some x → q (n, x) ≡ true → (p : P) × Has rows p × ((k : List ℕ) → read p ≡ Some k → k ≡ n))
-    → keys names ≡ map (λ (e : List ℕ × X). e.0) (filter q (entries m))
-by-rows {P} {X} read rows names m q e stands leads = picked m q names (λ n. here n (get names n) (get m n) refl refl)
-  where
-    all : Gathered read empty names rows
-    all = gathered read rows empty names e
-
-    given : (n : List ℕ) → (get (empty {X = Unit {0}} {R = slice_cmp nat_cmp}) n ≡ Some tt) ⊎ ((p : P) × Has rows p × (read p ≡ Some n)) → (x : X) × (get m n ≡ Some x) × (q (n, x) ≡ true)
-    given n (inl none) = some-not-none (sym none ∙ get-empty (slice_cmp nat_cmp) n)
-    given n (inr it) = stands it.0 it.1 n it.2
-
-    lacking : (n : List ℕ) (x : X) → get names n ≡ None → get m n ≡ Some x → (b : Bool) → q (n, x) ≡ b → ◌≡◌ {A = Option (Unit {0})} None (option_map (λ y. tt) (cond b (Some x) None))
-    lacking n x absent is false e = refl
-    lacking n x absent is true e =
-        let it = leads n x is e in
-        let named = all.complete it.0 it.1 in
-        some-not-none (sym named.2 ∙ ap (get names) (it.2 named.0 named.1) ∙ absent)
-
-    here : (n : List ℕ) (o : Option (Unit {0})) (r : Option X) → get names n ≡ o → get m n ≡ r → get names n ≡ option_map (λ y. tt) (option_map_or (λ x. cond (q (n, x)) (Some x) None) (get m n) None)
-    here n (Some u) r there is =
-        let it = given n (all.sound n there) in
-        there ∙ sym (ap (λ o. option_map (λ y. tt) (option_map_or (λ x. cond (q (n, x)) (Some x) None) o None)) it.1 ∙ ap (λ b. option_map (λ y. tt) (cond b (Some it.0) None)) it.2)
-    here n None None there is = there ∙ sym (ap (λ o. option_map (λ y. tt) (option_map_or (λ x. cond (q (n, x)) (Some x) None) o None)) is)
-    here n None (Some x) there is =
-        there ∙ lacking n x there is (q (n, x)) refl ∙ sym (ap (λ o. option_map (λ y. tt) (option_map_or (λ x. cond (q (n, x)) (Some x) None) o None)) is)
+      marked : (b : Bool) (o : Option X) → option_map mark (option_map_or (λ x. cond b (Some x) None) o None) ≡ cond b (option_map mark o) None
+      marked true None = refl
+      marked true (Some x) = refl
+      marked false None = refl
+      marked false (Some x) = refl
 
 -- ---- domains
 
 pub name-read : (xs : Content) (row : DomainRow) (d : Domain) → domain_read xs row ≡ Some d → d.name ≡ row.name
-name-read xs row d e =
-    let links = step (links_of xs row) _ d e in
-    let transfer = step (last_transfer (filter (transfer_with_domain row.id) xs.transfers)) _ d links.rest in
-    let r = step (registration_in kinds.Domain (domain_registration_columns row)) _ d transfer.rest in
-    let y = step (years_in_column row.years) _ d r.rest in
-    let s = step (statuses_in row.statuses) _ d y.rest in
-    let x = step (deletion_in row.deleted row.restore_requested) _ d s.rest in
-    sym (ap (λ (z : Domain). z.name) (same_some _ d x.rest))
-
-pub stands-there : (xs : Content) (row : DomainRow) (d : Domain) → IsConsistent xs → Has xs.domains row → domain_read xs row ≡ Some d → get (domains_of xs) row.name ≡ Some d
-stands-there xs row d consistent there reads =
-    sym (domain-named xs row.name) ∙ ap (first_read (domain_read xs)) (only_named table.domains.key (λ (r : DomainRow). r.name) xs.domains row consistent.keyed.domains consistent.named.domains there) ∙ ap (λ o. or_else o None) reads
+name-read xs row d e = (parts xs row d e).name
 
 -- the row under a name
 pub row-under : (xs : Content) (n : List ℕ) (d : Domain) → get (domains_of xs) n ≡ Some d → (row : DomainRow) × Has xs.domains row × (domain_read xs row ≡ Some d) × (row.name ≡ n)

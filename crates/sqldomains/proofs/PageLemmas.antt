@@ -1,5 +1,5 @@
 -- Rows that are read a page at a time, each page after the last number of the one before, are all rows.
-use Rattle.std.proofs.Common.{◌≡◌, ◌-◌, ◌<ℤ◌, ◌&&◌, ℤ, ℕ, suc, Bool, true, false, cond, length, List, [], ◌∷◌, ◌++◌, filter, take, drop, Option, Some, None, option_map, is_some, true≢false, slice_get, int_eq, int_le, int_lt, arith, refl, sym, ap, subst, ◌∙◌}
+use Rattle.std.proofs.Common.{◌≡◌, ◌-◌, ◌<ℤ◌, ◌&&◌, ℤ, ℕ, suc, true, false, cond, length, List, [], ◌∷◌, ◌++◌, filter, take, drop, Option, Some, None, option_map, slice_get, int_eq, int_le, int_lt, arith, refl, sym, ap, subst, ◌∙◌}
 use Rattle.std.specs.FinMap.{empty}
 use Rattle.std.specs.List.{AllByRecursion}
 use Rattle.std.proofs.lemmas.Int.{ints}
@@ -7,7 +7,7 @@ use Rattle.std.proofs.lemmas.List.{append_assoc, take-append-drop}
 use Rattle.sqlite_keyed.specs.Keyed.{IsKeyedBy}
 use Rattle.sqlite_keyed.specs.Rules.{points_to}
 use Rattle.sqlite_keyed.proofs.ListLemmas.{all_weaker, filter-filter, filter_all}
-use Rattle.objects.specs.declared.domain.Domain.{Domain}
+use Rattle.objects.specs.declared.zone.Delegation.{Delegation}
 use Rattle.sqlcolumns.specs.Steps.{◌>>=◌}
 use Rattle.sqlcolumns.proofs.ReadLemmas.{same_some, step}
 use Rattle.sqltables.specs.Content.{Content}
@@ -18,8 +18,9 @@ use Rattle.sqltables.specs.Link.{link_of_domains, link_with_domain}
 use Rattle.sqltables.specs.declared.transfer.TransferRow.{TransferRow}
 use Rattle.sqltables.specs.Transfer.{transfer_of_domains, transfer_with_domain}
 use Rattle.sqltables.specs.inner.Due.{lies_within}
-use Rattle.sqldomains.specs.Domains.{domain_by, domain_read}
-use Rattle.sqldomains.specs.inner.Delegations.{Delegations, IsAllOfRows, domain_in_page, ends_of, last_id, with_delegation, with_row, with_rows}
+use Rattle.sqldomains.specs.Domains.{domain_by}
+use Rattle.sqldomains.specs.inner.Delegations.{IsAllOfRows, delegated, delegation_among, delegation_read, ends_of, last_id, with_page}
+use Rattle.sqldomains.specs.inner.Names.{Named, with_one, with_read}
 
 -- ---- numbers that rise
 
@@ -79,12 +80,11 @@ module _ (first last id : ℤ) (within : (int_le first id && int_le id last) ≡
   target-within (Some v) e = number-within v e
 
 module _ (xs : Content) where
-  same-in-page : (first last : ℤ) (row : DomainRow) → LiesIn first last row → domain_in_page xs first last row ≡ domain_read xs row
+  same-in-page : (first last : ℤ) (row : DomainRow) → LiesIn first last row → delegation_among xs (filter (link_of_domains first last) xs.links) (filter (transfer_of_domains first last) xs.transfers) row ≡ delegation_read xs row
   same-in-page first last row within =
-      ap (λ links. domain_by xs row links (filter (transfer_with_domain row.id) (filter (transfer_of_domains first last) xs.transfers)))
-      (filter-filter (link_with_domain row.id) (link_of_domains first last) (λ (x : LinkRow) e. number-within first last row.id within x.domain e) xs.links)
-      ∙ ap (domain_by xs row (filter (link_with_domain row.id) xs.links))
-      (filter-filter (transfer_with_domain row.id) (transfer_of_domains first last) (λ (x : TransferRow) e. target-within first last row.id within x.domain e) xs.transfers)
+      λ i. option_map delegated (domain_by xs row
+      (filter-filter (link_with_domain row.id) (link_of_domains first last) (λ (x : LinkRow) e. number-within first last row.id within x.domain e) xs.links i)
+      (filter-filter (transfer_with_domain row.id) (transfer_of_domains first last) (λ (x : TransferRow) e. target-within first last row.id within x.domain e) xs.transfers i))
 
 up-to-last : (row : DomainRow) (rows more : List DomainRow) (first : ℤ) → int_le first row.id ≡ true → Rise (row ∷ (rows ++ more)) → AllByRecursion (LiesIn first (last_id row rows)) (row ∷ rows)
 up-to-last row [] more first from rise = (grind (arith, ints, from), tt)
@@ -95,81 +95,70 @@ up-to-last row (next ∷ rows) more first from rise =
 
 -- ---- gathered from rows
 
-same-rows : (read other : DomainRow → Option Domain) (rows : List DomainRow) (all : Delegations) → AllByRecursion (λ row. read row ≡ other row) rows → with_rows read all rows ≡ with_rows other all rows
-same-rows read other [] all same = refl
-same-rows read other (row ∷ rows) all same =
-    ap (λ o. option_map (with_delegation all) o >>= (λ m. with_rows read m rows)) same.0 ∙ go (other row) (λ m. same-rows read other rows m same.1)
-  where
-    go : (o : Option Domain) → ((m : Delegations) → with_rows read m rows ≡ with_rows other m rows)
-        → (option_map (with_delegation all) o >>= (λ m. with_rows read m rows)) ≡ (option_map (with_delegation all) o >>= (λ m. with_rows other m rows))
-    go None later = refl
-    go (Some d) later = later (with_delegation all d)
+module _ {R V : Type 0} (read : R → Option (List ℕ × V)) where
+  same-rows : (other : R → Option (List ℕ × V)) (rows : List R) (all : Named V) → AllByRecursion (λ row. read row ≡ other row) rows → with_read read all rows ≡ with_read other all rows
+  same-rows other [] all same = refl
+  same-rows other (row ∷ rows) all same = λ i. with_one all (same.0 i) >>= (λ m. same-rows other rows m same.1 i)
 
-rows-on : (read : DomainRow → Option Domain) (rows more : List DomainRow) (a b : Delegations) → with_rows read a rows ≡ Some b → with_rows read a (rows ++ more) ≡ with_rows read b more
-rows-on read [] more a b e = ap (λ m. with_rows read m more) (same_some a b e)
-rows-on read (row ∷ rows) more a b e =
-    let first = step (with_row read a row) (λ m. with_rows read m rows) b e in
-    ap (λ o. o >>= (λ m. with_rows read m (rows ++ more))) first.is ∙ rows-on read rows more first.given b first.rest
+  rows-on : (rows more : List R) (a b : Named V) → with_read read a rows ≡ Some b → with_read read a (rows ++ more) ≡ with_read read b more
+  rows-on [] more a b e = ap (λ m. with_read read m more) (same_some a b e)
+  rows-on (row ∷ rows) more a b e =
+      let first = step (with_one a (read row)) (λ m. with_read read m rows) b e in
+      ap (λ o. o >>= (λ m. with_read read m (rows ++ more))) first.is ∙ rows-on rows more first.given b first.rest
 
 -- ---- page after page
 
-none-left : {X : Type 0} (n : ℕ) (xs : List X) → take (suc n) xs ≡ [] → drop (suc n) xs ≡ []
+none-left : {X : Type 0} (n : ℕ) (xs : List X) → [] ≡ take (suc n) xs → xs ≡ []
 none-left n [] e = refl
 none-left n (x ∷ xs) e = cc
 
-module _ (xs : Content) where
-  -- this page is the first of the rows that are left, and with those what is gathered is what all rows give
-  pub record WalksOn (all : Delegations) (page : List DomainRow) : Type 0 where
+module _ (xs : Content) (n : ℕ) where
+  -- a page is the first of the rows that are left, and with those what is gathered is what all rows give
+  pub record WalksOn (all : Named Delegation) (page : List DomainRow) : Type 0 where
     pub before : List DomainRow
-    pub more : List DomainRow
-    pub are : before ++ (page ++ more) ≡ xs.domains
-    pub ends : page ≡ [] → more ≡ []
-    pub gives : with_rows (domain_read xs) all (page ++ more) ≡ with_rows (domain_read xs) empty xs.domains
+    pub left : List DomainRow
+    pub are : before ++ left ≡ xs.domains
+    pub first : page ≡ take (suc n) left
+    pub gives : with_read (delegation_read xs) all left ≡ with_read (delegation_read xs) empty xs.domains
 
-  from-page : (n : ℕ) (all : Delegations) (before rest : List DomainRow) → before ++ rest ≡ xs.domains → with_rows (domain_read xs) all rest ≡ with_rows (domain_read xs) empty xs.domains → WalksOn all (take (suc n) rest)
-  from-page n all before rest are gives =
-      let whole : take (suc n) rest ++ drop (suc n) rest ≡ rest = take-append-drop (suc n) rest in
-      record {
-        before = before;
-        more = drop (suc n) rest;
-        are = ap (λ ys. before ++ ys) whole ∙ are;
-        ends = none-left n rest;
-        gives = ap (with_rows (domain_read xs) all) whole ∙ gives;
-      }
+  pub walk-begins : (page : List DomainRow) → page ≡ take (suc n) xs.domains → WalksOn empty page
+  walk-begins page is = record { before = []; left = xs.domains; are = refl; first = is; gives = refl }
 
-  pub walk-begins : (n : ℕ) (page : List DomainRow) → page ≡ take (suc n) xs.domains → WalksOn empty page
-  walk-begins n page is = subst (WalksOn empty) (sym is) (from-page n empty [] xs.domains refl refl)
-
-  pub walk-ends : (all : Delegations) (page : List DomainRow) → ends_of page ≡ None → WalksOn all page → IsAllOfRows xs all
-  walk-ends all [] e w = sym w.gives ∙ ap (with_rows (domain_read xs) all) (w.ends refl)
+  pub walk-ends : (all : Named Delegation) (page : List DomainRow) → ends_of page ≡ None → WalksOn all page → IsAllOfRows xs all
+  walk-ends all [] e w = sym w.gives ∙ ap (with_read (delegation_read xs) all) (none-left n w.left w.first)
   walk-ends all (row ∷ rows) e w = cc
 
-  module _ (rise : Rise xs.domains) (n : ℕ) (a b : Delegations) (next : List DomainRow) where
-    walks-on : (row : DomainRow) (rows : List DomainRow) → WalksOn a (row ∷ rows) → with_rows (domain_in_page xs row.id (last_id row rows)) a (row ∷ rows) ≡ Some b
+  module _ (rise : Rise xs.domains) (a b : Named Delegation) (next : List DomainRow) where
+    walks-on : (row : DomainRow) (rows : List DomainRow) → WalksOn a (row ∷ rows) → with_page xs (row.id, last_id row rows) a (row ∷ rows) ≡ Some b
         → next ≡ take (suc n) (filter (domain_after_id (last_id row rows)) xs.domains) → WalksOn b next
     walks-on row rows w e is =
-        let up : Rise (w.before ++ (row ∷ (rows ++ w.more))) = subst Rise (sym w.are) rise in
-        let left : filter (domain_after_id (last_id row rows)) xs.domains ≡ w.more = ap (filter (domain_after_id (last_id row rows))) (sym w.are) ∙ after-all w.before row rows w.more up in
-        let within = up-to-last row rows w.more row.id (grind (arith, ints)) (rise-right w.before (row ∷ (rows ++ w.more)) up) in
-        let read = same-rows (domain_in_page xs row.id (last_id row rows)) (domain_read xs) (row ∷ rows) a (all_weaker (LiesIn row.id (last_id row rows)) _ (λ r h. same-in-page xs row.id (last_id row rows) r h) (row ∷ rows) within) in
-        let on = rows-on (domain_read xs) (row ∷ rows) w.more a b (sym read ∙ e) in
-        subst (WalksOn b) (sym (is ∙ ap (take (suc n)) left)) (from-page n b (w.before ++ row ∷ rows) w.more (append_assoc w.before (row ∷ rows) w.more ∙ w.are) (sym on ∙ w.gives))
+        let last = last_id row rows in
+        let more = drop (suc n) w.left in
+        let page : row ∷ (rows ++ more) ≡ w.left = ap (λ p. p ++ more) w.first ∙ take-append-drop (suc n) w.left in
+        let are : w.before ++ (row ∷ (rows ++ more)) ≡ xs.domains = ap (λ l. w.before ++ l) page ∙ w.are in
+        let up : Rise (w.before ++ (row ∷ (rows ++ more))) = subst Rise (sym are) rise in
+        let after : filter (domain_after_id last) xs.domains ≡ more = ap (filter (domain_after_id last)) (sym are) ∙ after-all w.before row rows more up in
+        let within = up-to-last row rows more row.id (grind (arith, ints)) (rise-right w.before (row ∷ (rows ++ more)) up) in
+        let read = same-rows (delegation_among xs (filter (link_of_domains row.id last) xs.links) (filter (transfer_of_domains row.id last) xs.transfers)) (delegation_read xs) (row ∷ rows) a (all_weaker (LiesIn row.id last) _ (λ r h. same-in-page xs row.id last r h) (row ∷ rows) within) in
+        record {
+          before = w.before ++ row ∷ rows;
+          left = more;
+          are = append_assoc w.before (row ∷ rows) more ∙ are;
+          first = is ∙ ap (take (suc n)) after;
+          gives = sym (rows-on (delegation_read xs) (row ∷ rows) more a b (sym read ∙ e)) ∙ ap (with_read (delegation_read xs) a) page ∙ w.gives;
+        }
 
-    pub walk-goes-on : (page : List DomainRow) (ends : ℤ × ℤ) → ends_of page ≡ Some ends → WalksOn a page → with_rows (domain_in_page xs ends.0 ends.1) a page ≡ Some b
+    pub walk-goes-on : (page : List DomainRow) (ends : ℤ × ℤ) → ends_of page ≡ Some ends → WalksOn a page → with_page xs ends a page ≡ Some b
         → next ≡ take (suc n) (filter (domain_after_id ends.1) xs.domains) → WalksOn b next
     walk-goes-on [] ends e w reads is = cc
     walk-goes-on (row ∷ rows) ends e w reads is =
         let same : ◌≡◌ {A = ℤ × ℤ} (row.id, last_id row rows) ends = same_some (row.id, last_id row rows) ends e in
-        walks-on row rows w (subst (λ (p : ℤ × ℤ). with_rows (domain_in_page xs p.0 p.1) a (row ∷ rows) ≡ Some b) (sym same) reads) (subst (λ (p : ℤ × ℤ). next ≡ take (suc n) (filter (domain_after_id p.1) xs.domains)) (sym same) is)
+        walks-on row rows w (subst (λ (p : ℤ × ℤ). with_page xs p a (row ∷ rows) ≡ Some b) (sym same) reads) (subst (λ (p : ℤ × ℤ). next ≡ take (suc n) (filter (domain_after_id p.1) xs.domains)) (sym same) is)
 
 -- ---- the ends of a page
 
 last-place : (row : DomainRow) (rows : List DomainRow) → slice_get (row ∷ rows) (length (row ∷ rows) - 1) ≡ slice_get (row ∷ rows) (length rows)
 last-place row rows = let less : suc (length rows) - 1 ≡ length rows = omega arith in ap (slice_get (row ∷ rows)) less
-
-last-there : (row : DomainRow) (rows : List DomainRow) → is_some (slice_get (row ∷ rows) (length rows)) ≡ true
-last-there row [] = refl
-last-there row (next ∷ rows) = last-there next rows
 
 pub ends-are : (rows : List DomainRow) (first last : DomainRow) → slice_get rows 0 ≡ Some first → slice_get rows (length rows - 1) ≡ Some last → Some (first.id, last.id) ≡ ends_of rows
 ends-are [] first last e f = cc
@@ -179,11 +168,3 @@ ends-are (row ∷ rows) first last e f =
     last-is : (row : DomainRow) (rows : List DomainRow) (last : DomainRow) → slice_get (row ∷ rows) (length rows) ≡ Some last → last.id ≡ last_id row rows
     last-is row [] last e = ap (λ (r : DomainRow). r.id) (sym (same_some row last e))
     last-is row (next ∷ rows) last e = last-is next rows last e
-
-pub no-first : (rows : List DomainRow) → slice_get rows 0 ≡ None → ◌≡◌ {A = Option (ℤ × ℤ)} None (ends_of rows)
-no-first [] e = refl
-no-first (row ∷ rows) e = cc
-
-pub no-last : (rows : List DomainRow) → slice_get rows (length rows - 1) ≡ None → ◌≡◌ {A = Option (ℤ × ℤ)} None (ends_of rows)
-no-last [] e = refl
-no-last (row ∷ rows) e = absurd (true≢false (sym (last-there row rows) ∙ ap is_some (sym (last-place row rows) ∙ e)))

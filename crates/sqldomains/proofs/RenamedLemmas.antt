@@ -1,14 +1,13 @@
 -- What domains name where the row of one host was made another's: each names the other in place of the one.
-use Rattle.std.proofs.Common.{◌≡◌, ℕ, ℤ, Bool, true, false, List, [], ◌∷◌, filter, Option, Some, None, option_map, refl, sym, ap, subst, ◌∙◌}
+use Rattle.std.proofs.Common.{◌≡◌, ℕ, ℤ, false, List, [], ◌∷◌, filter, Option, Some, None, option_map, refl, sym, ap, subst, ◌∙◌}
 use Rattle.std.specs.FinMap.{get}
 use Rattle.std.specs.Str.{bytes_eq}
+use Rattle.std.proofs.lemmas.Bool.{false_from_ne_true}
 use Rattle.std.proofs.lemmas.Slice.Eq.{bytes_eq-Decides}
-use Rattle.objects.specs.declared.domain.Deletion.{Deletion}
 use Rattle.objects.specs.declared.domain.Domain.{Domain}
 use Rattle.objects.specs.declared.domain.Links.{Links}
 use Rattle.objects.specs.declared.host.Host.{Host}
 use Rattle.objects.specs.declared.roid.ObjectKind.TheVariants as kinds
-use Rattle.objects.specs.declared.status.Status.{Status}
 use Rattle.objects.specs.declared.transfer.Transfer.{Transfer}
 use Rattle.sqlcolumns.specs.declared.code.Role.{Role}
 use Rattle.sqlcolumns.specs.declared.code.Role.TheVariants as roles
@@ -27,14 +26,23 @@ use Rattle.sqltables.specs.declared.link.LinkRow.{LinkRow}
 use Rattle.sqltables.specs.Transfer.{transfer_with_domain}
 use Rattle.sqlrows.specs.Read.{first_read, or_else}
 use Rattle.sqlobjects.specs.inner.Changes.{IsRowRenamed, new_name}
-use Rattle.sqlobjects.specs.Changes.{contact_name_by_number}
+use Rattle.sqlobjects.specs.Changes.{contact_name_by_number, host_name_by_number}
 use Rattle.sqlobjects.specs.Objects.{last_transfer}
-use Rattle.sqldomains.specs.Domains.{dated, domain_read, domains_of, linked_name, links_of, placed, registrant_alone, with_link_read, with_linked_name, with_links}
+use Rattle.sqldomains.specs.Domains.{alone, dated, domain_read, domains_of, linked_name, links_of, placed, registrant_alone, with_link_read, with_linked_name, with_links}
 use Rattle.sqldomains.proofs.FoundLemmas.{domain-named}
 
-map-same : {A : Type 0} (f : A → A) → ((x : A) → f x ≡ x) → (o : Option A) → o ≡ option_map f o
-map-same f same None = refl
-map-same f same (Some x) = ap Some (sym (same x))
+-- steps that go on alike afterwards
+mapped : {A C B D : Type 0} (o : Option A) (f : A → C) (g : B → D) (k : A → Option B) (m : C → Option D) → ((x : A) → o ≡ Some x → m (f x) ≡ option_map g (k x)) → (option_map f o >>= m) ≡ option_map g (o >>= k)
+mapped None f g k m same = refl
+mapped (Some x) f g k m same = same x refl
+
+each : {A B D : Type 0} (o : Option A) (g : B → D) (k : A → Option B) (m : A → Option D) → ((x : A) → m x ≡ option_map g (k x)) → (o >>= m) ≡ option_map g (o >>= k)
+each None g k m same = refl
+each (Some x) g k m same = same x
+
+itself : {A : Type 0} (o : Option A) → o ≡ option_map (λ x. x) o
+itself None = refl
+itself (Some x) = refl
 
 map-or : {A B : Type 0} (f : A → B) (a b : Option A) → or_else (option_map f a) (option_map f b) ≡ option_map f (or_else a b)
 map-or f None b = refl
@@ -43,7 +51,7 @@ map-or f (Some x) b = refl
 -- `after` says how a domain's hosts stand afterwards: none as none, and with one more by its name of then
 module _ (from : List ℕ) (h : Host) (xs ys : Content) (it : IsRowRenamed from h xs ys) (after : List (List ℕ) → List (List ℕ)) (Before : List (List ℕ) → Type 0) (none : Before []) (same : after [] ≡ [])
     (more : (n : List ℕ) (l : List (List ℕ)) → Before l → bytes_eq n h.name ≡ false → Before (placed n l))
-    (each : (n : List ℕ) (l : List (List ℕ)) → Before l → bytes_eq n h.name ≡ false → after (placed n l) ≡ placed (new_name from h.name n) (after l)) where
+    (moved : (n : List ℕ) (l : List (List ℕ)) → Before l → bytes_eq n h.name ≡ false → after (placed n l) ≡ placed (new_name from h.name n) (after l)) where
   abbrev links_after : Links → Links
   links_after l = record l { hosts = after l.hosts }
 
@@ -61,22 +69,12 @@ module _ (from : List ℕ) (h : Host) (xs ys : Content) (it : IsRowRenamed from 
   contact-same id = ap (λ rows. contact_name_by_number (record ys { contacts = rows }) id) it.contact_rows
 
   name-after : (role : Role) (contact host : Option ℤ) → linked_name ys role contact host ≡ option_map (name_after role) (linked_name xs role contact host)
-  name-after roles.Host None (Some id) = it.names id
-  name-after roles.Host None None = refl
-  name-after roles.Host (Some c) host = refl
-  name-after roles.Admin (Some id) None = contact-same id ∙ map-same (name_after roles.Admin) (λ n. refl) (contact_name_by_number xs id)
-  name-after roles.Admin (Some id) (Some k) = refl
-  name-after roles.Admin None host = refl
-  name-after roles.Tech (Some id) None = contact-same id ∙ map-same (name_after roles.Tech) (λ n. refl) (contact_name_by_number xs id)
-  name-after roles.Tech (Some id) (Some k) = refl
-  name-after roles.Tech None host = refl
+  name-after roles.Host contact host = each (alone host contact) (name_after roles.Host) (host_name_by_number xs) (host_name_by_number ys) it.names
+  name-after roles.Admin contact host = each (alone contact host) (λ n. n) (contact_name_by_number xs) (contact_name_by_number ys) (λ id. contact-same id ∙ itself (contact_name_by_number xs id))
+  name-after roles.Tech contact host = each (alone contact host) (λ n. n) (contact_name_by_number xs) (contact_name_by_number ys) (λ id. contact-same id ∙ itself (contact_name_by_number xs id))
 
   host-free : (contact host : Option ℤ) (n : List ℕ) → linked_name xs roles.Host contact host ≡ Some n → bytes_eq n h.name ≡ false
-  host-free None (Some id) n e = go (bytes_eq n h.name) refl
-    where
-      go : (b : Bool) → bytes_eq n h.name ≡ b → b ≡ false
-      go false f = refl
-      go true f = absurd (it.free id (e ∙ ap Some ((bytes_eq-Decides n h.name).0 f)))
+  host-free None (Some id) n e = false_from_ne_true (bytes_eq n h.name) (λ f. it.free id (e ∙ ap Some ((bytes_eq-Decides n h.name).0 f)))
   host-free None None n e = cc
   host-free (Some c) host n e = cc
 
@@ -84,7 +82,7 @@ module _ (from : List ℕ) (h : Host) (xs ys : Content) (it : IsRowRenamed from 
   named-after : (role : Role) (l : Links) (contact host : Option ℤ) (n : List ℕ) → Before l.hosts → linked_name xs role contact host ≡ Some n → with_linked_name (links_after l) role (name_after role n) ≡ links_after (with_linked_name l role n)
   named-after roles.Admin l contact host n before e = refl
   named-after roles.Tech l contact host n before e = refl
-  named-after roles.Host l contact host n before e = λ i. record l { hosts = sym (each n l.hosts before (host-free contact host n e)) i }
+  named-after roles.Host l contact host n before e = λ i. record l { hosts = sym (moved n l.hosts before (host-free contact host n e)) i }
 
   named-before : (role : Role) (l : Links) (contact host : Option ℤ) (n : List ℕ) → Before l.hosts → linked_name xs role contact host ≡ Some n → Before (with_linked_name l role n).hosts
   named-before roles.Admin l contact host n before e = before
@@ -92,17 +90,10 @@ module _ (from : List ℕ) (h : Host) (xs ys : Content) (it : IsRowRenamed from 
   named-before roles.Host l contact host n before e = more n l.hosts before (host-free contact host n e)
 
   link-after : (l : Links) (row : LinkRow) → Before l.hosts → with_link_read ys (links_after l) row ≡ option_map links_after (with_link_read xs l row)
-  link-after l row before = go (role_in row.role)
-    where
-      at : (role : Role) (o : Option (List ℕ)) → linked_name xs role row.contact row.host ≡ o → (option_map (name_after role) o >>= (λ n. Some (with_linked_name (links_after l) role n))) ≡ option_map links_after (o >>= (λ n. Some (with_linked_name l role n)))
-      at role None e = refl
-      at role (Some n) e = ap Some (named-after role l row.contact row.host n before e)
-
-      go : (o : Option Role) → (o >>= (λ role. linked_name ys role row.contact row.host >>= (λ n. Some (with_linked_name (links_after l) role n)))) ≡ option_map links_after (o >>= (λ role. linked_name xs role row.contact row.host >>= (λ n. Some (with_linked_name l role n))))
-      go None = refl
-      go (Some role) =
-          ap (λ o. o >>= (λ n. Some (with_linked_name (links_after l) role n))) (name-after role row.contact row.host)
-          ∙ at role (linked_name xs role row.contact row.host) refl
+  link-after l row before = each (role_in row.role) links_after (λ role. linked_name xs role row.contact row.host >>= (λ n. Some (with_linked_name l role n))) _ (λ role.
+      ap (λ o. o >>= (λ n. Some (with_linked_name (links_after l) role n))) (name-after role row.contact row.host)
+      ∙ mapped (linked_name xs role row.contact row.host) (name_after role) links_after (λ n. Some (with_linked_name l role n)) (λ n. Some (with_linked_name (links_after l) role n))
+      (λ n e. ap Some (named-after role l row.contact row.host n before e)))
 
   link-before : (l m : Links) (row : LinkRow) → Before l.hosts → with_link_read xs l row ≡ Some m → Before m.hosts
   link-before l m row before e =
@@ -114,49 +105,33 @@ module _ (from : List ℕ) (h : Host) (xs ys : Content) (it : IsRowRenamed from 
 
   rows-after : (rows : List LinkRow) (l : Links) → Before l.hosts → with_links ys (links_after l) rows ≡ option_map links_after (with_links xs l rows)
   rows-after [] l before = refl
-  rows-after (row ∷ rows) l before = ap (λ o. o >>= (λ n. with_links ys n rows)) (link-after l row before) ∙ go (with_link_read xs l row) refl (rows-after rows)
-    where
-      go : (o : Option Links) → with_link_read xs l row ≡ o → ((m : Links) → Before m.hosts → with_links ys (links_after m) rows ≡ option_map links_after (with_links xs m rows))
-          → (option_map links_after o >>= (λ n. with_links ys n rows)) ≡ option_map links_after (o >>= (λ n. with_links xs n rows))
-      go None e later = refl
-      go (Some m) e later = later m (link-before l m row before e)
+  rows-after (row ∷ rows) l before =
+      ap (λ o. o >>= (λ n. with_links ys n rows)) (link-after l row before)
+      ∙ mapped (with_link_read xs l row) links_after links_after (λ n. with_links xs n rows) (λ n. with_links ys n rows) (λ m e. rows-after rows m (link-before l m row before e))
 
   links-after : (row : DomainRow) → links_of ys row ≡ option_map links_after (links_of xs row)
   links-after row =
-      (λ i. contact-same row.registrant i >>= (λ a. dated row.due (filter (link_with_domain row.id) (it.links i)) >>= (λ rows. with_links ys (registrant_alone a) rows)))
-      ∙ go (contact_name_by_number xs row.registrant) (dated row.due (filter (link_with_domain row.id) xs.links))
-    where
-      go : (a : Option (List ℕ)) (rows : Option (List LinkRow)) → (a >>= (λ r. rows >>= (λ all. with_links ys (registrant_alone r) all))) ≡ option_map links_after (a >>= (λ r. rows >>= (λ all. with_links xs (registrant_alone r) all)))
-      go None rows = refl
-      go (Some r) None = refl
-      go (Some r) (Some all) = (λ i. with_links ys (record (registrant_alone r) { hosts = sym same i }) all) ∙ rows-after all (registrant_alone r) none
+      let own = dated row.due (filter (link_with_domain row.id) xs.links) in
+      (λ i. contact-same row.registrant i >>= (λ a. dated row.due (filter (link_with_domain row.id) (it.links i)) >>= with_links ys (registrant_alone a)))
+      ∙ each (contact_name_by_number xs row.registrant) links_after (λ a. own >>= with_links xs (registrant_alone a)) (λ a. own >>= with_links ys (registrant_alone a)) (λ a.
+      each own links_after (with_links xs (registrant_alone a)) (with_links ys (registrant_alone a)) (λ rows.
+      (λ i. with_links ys (record (registrant_alone a) { hosts = sym same i }) rows) ∙ rows-after rows (registrant_alone a) none))
 
   -- ---- domains
 
   columns-after : (row : DomainRow) (l : Links) (transfer : Option Transfer) → domain_of_columns row (links_after l) transfer ≡ option_map domain_after (domain_of_columns row l transfer)
   columns-after row l transfer =
-      go (λ r y s x links. domain_with row r y s x links transfer) (λ r y s x. refl)
-      (registration_in kinds.Domain (domain_registration_columns row)) (years_in_column row.years) (statuses_in row.statuses) (deletion_in row.deleted row.restore_requested)
-    where
-      go : {R : Type 0} (made : R → ℕ → List Status → Option Deletion → Links → Domain) → ((r : R) (y : ℕ) (s : List Status) (x : Option Deletion) → made r y s x (links_after l) ≡ domain_after (made r y s x l))
-          → (a : Option R) (b : Option ℕ) (c : Option (List Status)) (d : Option (Option Deletion))
-          → (a >>= (λ r. b >>= (λ y. c >>= (λ s. d >>= (λ x. Some (made r y s x (links_after l)))))))
-          ≡ option_map domain_after (a >>= (λ r. b >>= (λ y. c >>= (λ s. d >>= (λ x. Some (made r y s x l))))))
-      go made alike None b c d = refl
-      go made alike (Some r) None c d = refl
-      go made alike (Some r) (Some y) None d = refl
-      go made alike (Some r) (Some y) (Some s) None = refl
-      go made alike (Some r) (Some y) (Some s) (Some x) = ap Some (alike r y s x)
+      each (registration_in kinds.Domain (domain_registration_columns row)) domain_after _ _ (λ r.
+      each (years_in_column row.years) domain_after _ _ (λ y.
+      each (statuses_in row.statuses) domain_after _ _ (λ s.
+      each (deletion_in row.deleted row.restore_requested) domain_after (λ x. Some (domain_with row r y s x l transfer)) (λ x. Some (domain_with row r y s x (links_after l) transfer)) (λ x. refl))))
 
   pub reading-after : (row : DomainRow) → domain_read ys row ≡ option_map domain_after (domain_read xs row)
   reading-after row =
+      let transfers = last_transfer (filter (transfer_with_domain row.id) xs.transfers) in
       (λ i. links-after row i >>= (λ l. last_transfer (filter (transfer_with_domain row.id) (it.transfers i)) >>= (λ transfer. domain_of_columns row l transfer)))
-      ∙ go (links_of xs row) (last_transfer (filter (transfer_with_domain row.id) xs.transfers))
-    where
-      go : (o : Option Links) (t : Option (Option Transfer)) → (option_map links_after o >>= (λ l. t >>= (λ transfer. domain_of_columns row l transfer))) ≡ option_map domain_after (o >>= (λ l. t >>= (λ transfer. domain_of_columns row l transfer)))
-      go None t = refl
-      go (Some l) None = refl
-      go (Some l) (Some transfer) = columns-after row l transfer
+      ∙ mapped (links_of xs row) links_after domain_after (λ l. transfers >>= domain_of_columns row l) (λ l. transfers >>= domain_of_columns row l) (λ l e.
+      each transfers domain_after (domain_of_columns row l) (domain_of_columns row (links_after l)) (columns-after row l))
 
   pub domains-after : (q : List ℕ) → get (domains_of ys) q ≡ option_map domain_after (get (domains_of xs) q)
   domains-after q =

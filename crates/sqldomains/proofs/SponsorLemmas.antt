@@ -8,31 +8,24 @@ use Rattle.sqlite_typed.specs.Tests.{bytes_eq}
 use Rattle.objects.specs.declared.contact.Contact.{Contact}
 use Rattle.objects.specs.declared.domain.Domain.{Domain}
 use Rattle.objects.specs.declared.host.Host.{Host}
-use Rattle.objects.specs.declared.roid.ObjectKind.TheVariants as kinds
-use Rattle.sqlcolumns.specs.Domains.{deletion_in, domain_registration_columns}
-use Rattle.sqlcolumns.specs.Numbers.{maybe_moment_in, maybe_registrar_column, moment_in_column, registrar_column, registrar_in, years_in_column}
-use Rattle.sqlcolumns.specs.Registrations.{registration_in}
-use Rattle.sqlcolumns.specs.Roids.{roid_in}
-use Rattle.sqlcolumns.specs.Texts.{statuses_in}
+use Rattle.sqlcolumns.specs.Numbers.{maybe_registrar_column, registrar_column}
 use Rattle.sqlcolumns.specs.Transfers.{is_same}
 use Rattle.sqlcolumns.proofs.NumberLemmas.{registrar_written}
-use Rattle.sqlcolumns.proofs.ReadLemmas.{same_some, step}
 use Rattle.sqltables.specs.Content.{Content}
 use Rattle.sqltables.specs.Domain as table
 use Rattle.sqltables.specs.declared.domain.DomainRow.{DomainRow}
 use Rattle.sqltables.specs.declared.host.HostRow.{HostRow}
-use Rattle.sqltables.specs.Transfer.{transfer_with_domain}
 use Rattle.sqltables.proofs.RowLemmas.{bytes_same}
 use Rattle.sqlrows.specs.Read.{first_read, or_else}
 use Rattle.sqlobjects.specs.inner.Changes.{IsContactPut, IsHostPut, with_named}
-use Rattle.sqlobjects.specs.Objects.{last_transfer}
 use Rattle.sqlobjects.specs.Sponsors.{AreMoved, IsSponsorSetBelow, first_sponsor, is_sponsor_right, sponsor_by_name, sponsors_are_right, takes_sponsor, with_sponsor}
 use Rattle.sqlobjects.proofs.PutLemmas.{bytes_is, has-filter}
 use Rattle.sqlobjects.proofs.SponsorLemmas.{same-from, same-is, sponsor-kept}
 use Rattle.sqlobjects.proofs.VerdictLemmas.{all-alike, all-changed, same-verdict}
 use Rattle.sqldomains.specs.inner.Changes.{IsDomainPut, sponsor_in}
-use Rattle.sqldomains.specs.Domains.{domain_read, domains_of, links_of}
+use Rattle.sqldomains.specs.Domains.{domain_read, domains_of}
 use Rattle.sqldomains.proofs.FoundLemmas.{domain-named}
+pub use Rattle.sqldomains.proofs.FoundLemmas.{parts}
 
 -- ---- hosts and domains as they were
 
@@ -50,31 +43,6 @@ host-sponsors name value old new it =
     (λ row here now other. ap (is_same row.sponsor) (sponsor-kept old new row it.domains)) it.sponsor_was it.sponsor_is
 
 -- ---- a domain
-
--- what a domain has of its rows
-pub record Parts (xs : Content) (row : DomainRow) (d : Domain) : Type 0 where
-  pub roid : roid_in kinds.Domain row.creator row.serial ≡ Some d.roid
-  pub sponsor : registrar_in row.sponsor ≡ Some d.sponsor
-  pub transfer : last_transfer (filter (transfer_with_domain row.id) xs.transfers) ≡ Some d.transfer
-
-pub parts : (xs : Content) (row : DomainRow) (d : Domain) → domain_read xs row ≡ Some d → Parts xs row d
-parts xs row d e =
-    let links = step (links_of xs row) _ d e in
-    let transfer = step (last_transfer (filter (transfer_with_domain row.id) xs.transfers)) _ d links.rest in
-    let r = step (registration_in kinds.Domain (domain_registration_columns row)) _ d transfer.rest in
-    let y = step (years_in_column row.years) _ d r.rest in
-    let s = step (statuses_in row.statuses) _ d y.rest in
-    let x = step (deletion_in row.deleted row.restore_requested) _ d s.rest in
-    let roid = step (roid_in kinds.Domain row.creator row.serial) _ r.given r.is in
-    let sponsor = step (registrar_in row.sponsor) _ r.given roid.rest in
-    let created = step (moment_in_column row.created) _ r.given sponsor.rest in
-    let transferred = step (maybe_moment_in row.transferred) _ r.given created.rest in
-    let updated = step (maybe_moment_in row.updated) _ r.given transferred.rest in
-    record {
-      roid = roid.is ∙ (λ i. Some (same_some _ r.given updated.rest i).roid) ∙ ap (λ (z : Domain). Some z.roid) (same_some _ d x.rest);
-      sponsor = sponsor.is ∙ (λ i. Some (same_some _ r.given updated.rest i).sponsor) ∙ ap (λ (z : Domain). Some z.sponsor) (same_some _ d x.rest);
-      transfer = transfer.is ∙ ap (λ (z : Domain). Some z.transfer) (same_some _ d x.rest);
-    }
 
 -- the row of a domain has its sponsor
 pub sponsor-read : (xs : Content) (row : DomainRow) (d : Domain) → domain_read xs row ≡ Some d → row.sponsor ≡ registrar_column d.sponsor

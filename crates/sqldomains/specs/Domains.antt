@@ -41,17 +41,16 @@ with_linked_name l roles.Admin name = record l { admin = l.admin ++ name ∷ [] 
 with_linked_name l roles.Tech name = record l { tech = l.tech ++ name ∷ [] }
 with_linked_name l roles.Host name = record l { hosts = placed name l.hosts }
 
+-- a number that stands in one of two columns, if nothing stands in the other
+abbrev pub alone : Option ℤ → Option ℤ → Option ℤ
+alone number None = number
+alone number (Some other) = None
+
 -- the name of what a row leads to: a host in the role of one, or else a contact
 abbrev pub linked_name : Content → Role → Option ℤ → Option ℤ → Option (List ℕ)
-linked_name xs roles.Host None (Some id) = host_name_by_number xs id
-linked_name xs roles.Admin (Some id) None = contact_name_by_number xs id
-linked_name xs roles.Tech (Some id) None = contact_name_by_number xs id
-linked_name xs roles.Host None None = None
-linked_name xs roles.Host (Some contact) host = None
-linked_name xs roles.Admin None host = None
-linked_name xs roles.Admin (Some contact) (Some host) = None
-linked_name xs roles.Tech None host = None
-linked_name xs roles.Tech (Some contact) (Some host) = None
+linked_name xs roles.Host contact host = alone host contact >>= host_name_by_number xs
+linked_name xs roles.Admin contact host = alone contact host >>= contact_name_by_number xs
+linked_name xs roles.Tech contact host = alone contact host >>= contact_name_by_number xs
 
 -- with what a row leads to, if it reads
 abbrev pub with_link_read : Content → Links → LinkRow → Option Links

@@ -1,12 +1,11 @@
 //! The hosts below a domain.
 ghost use Rattle.std.specs.Prelude.{◌≡◌, Some, IfOk, filter, map};
-ghost use Rattle.std.specs.FinMap.{empty};
+ghost use Rattle.std.specs.FinMap.{empty, keys};
 ghost use Rattle.objects.specs.Hosts as hosts;
 ghost use Rattle.sqltables.specs.declared.host.HostRow.{HostRow};
 ghost use Rattle.states.specs.States.{Finds, FindsSome};
 ghost use Rattle.sqldomains.specs.inner.Names as spec;
 
-use crate::names_in_order::{listed, with_name};
 use basis::list::Seq;
 use basis::maps::NameMap;
 use basis::text::Text;
@@ -80,8 +79,8 @@ fn with_hosts<S: Alter>(
     alloc: Global,
     found: Seq<Text>,
 ) -> Result<NameMap<()>, BookFault>
-    ensures { FindsSome result (λ all. spec.with_read (spec.host_standing store.old.content) empty found
-        ≡ Some all) store.old store.new }
+    ensures { FindsSome result (λ all. spec.with_hosts store.old.content empty found ≡ Some all)
+        store.old store.new }
 {
     let mut names = NameMap::new(alloc);
     for name in found.into_vec() {
@@ -96,12 +95,25 @@ fn with_host<S: Alter>(
     names: NameMap<()>,
     name: Text,
 ) -> Result<NameMap<()>, BookFault>
-    ensures { FindsSome result (λ more. spec.with_one names (spec.host_standing store.old.content name)
-        ≡ Some more) store.old store.new }
+    ensures { FindsSome result (λ more. spec.with_host store.old.content names name ≡ Some more)
+        store.old store.new }
 {
     let is_there = has_host(store, alloc, &name)?;
     if !is_there {
         return Err(BookFault::Store);
     }
-    Ok(with_name(names, name)?)
+    let mut names = names;
+    names.insert(name, ())?;
+    Ok(names)
+}
+
+/// The names in their order.
+fn listed(alloc: Global, names: &NameMap<()>) -> Result<Seq<Text>, AllocError>
+    ensures { IfOk result (λ list. list ≡ keys names.now) }
+{
+    let mut list = Seq::new(alloc);
+    for name in names.keys() {
+        list.push(name.clone()?)?;
+    }
+    Ok(list)
 }

@@ -49,8 +49,8 @@ fn compare_rows<S: Alter>(
     links: &Links,
     rows: Seq<LinkRow>,
 ) -> Result<LinkComparison, BookFault>
-    ensures { FindsSome result (spec.AreCompared store.old.content domain.now.due links.now rows) store.old
-        store.new }
+    ensures { FindsSome result (spec.AreCompared store.old.content domain.now.due links.now rows)
+        store.old store.new }
 {
     if rows.is_empty() {
         return Ok(LinkComparison::Absent);
@@ -73,8 +73,8 @@ fn lead_to<S: Alter>(
     links: &Links,
     rows: Seq<LinkRow>,
 ) -> Result<bool, BookFault>
-    ensures { FindsSome result (λ it. it ≡ true → spec.LeadTo store.old.content links.now rows) store.old
-        store.new }
+    ensures { FindsSome result (λ it. it ≡ true → spec.LeadTo store.old.content links.now rows)
+        store.old store.new }
 {
     let registrant = links.registrant.clone()?;
     let there = with_links(store, registrant_alone(alloc, registrant), rows)?;

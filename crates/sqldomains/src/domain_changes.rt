@@ -9,7 +9,7 @@ ghost use Rattle.sqldomains.specs.inner.Changes.{IsDomainPut};
 ghost use Rattle.sqldomains.specs.inner.Stages.{ArePartsPut, HasNoParts};
 
 use crate::domain_rows::{DerivedColumns, place, remove_found};
-use crate::link_rows::{contact_number, put_links};
+use crate::link_rows::{number_there, put_links};
 use crate::names;
 use basis::text::Text;
 use calendar::Moment;
@@ -17,7 +17,7 @@ use objects::Domain;
 use sqlcolumns::is_domain;
 use sqlite::Alter;
 use sqlobjects::{Transferable, put_last_transfer, row_named};
-use sqltables::{DomainRow, RowStore};
+use sqltables::{ContactRow, DomainRow, RowStore};
 use states::BookFault;
 use std::alloc::Global;
 
@@ -49,7 +49,8 @@ fn put_over<S: Alter>(
     due: Moment,
 ) -> Result<(), BookFault>
     requires { store.old.is_open ≡ true }
-    ensures { Changes result (λ old new. rows_named named_domains domain.now.name old ≡ rows_of found
+    ensures { Changes result (λ old new.
+        rows_named named_domains domain.now.name old ≡ rows_of found
         → IsDomainPut domain.now.name (Some domain.now) (Some due) old new) store.old store.new }
 {
     let registrant = registrant_number(store, &found, domain)?;
@@ -68,21 +69,21 @@ fn registrant_number<S: Alter>(
         ≡ Some domain.now.links.registrant) store.old store.new }
 {
     match found {
-        None => contact_number(store, &domain.links.registrant),
+        None => number_there::<ContactRow, S>(store, &domain.links.registrant),
         Some(row) => number_or(store, row.registrant, &domain.links.registrant),
     }
 }
 
 /// The number of the contact of this name: this one, if it is.
 fn number_or<S: Alter>(store: &mut RowStore<S>, id: i64, name: &Text) -> Result<i64, BookFault>
-    ensures { FindsSome result (λ id. contact_name_by_number store.old.content id ≡ Some name.now) store.old
-        store.new }
+    ensures { FindsSome result (λ id. contact_name_by_number store.old.content id ≡ Some name.now)
+        store.old store.new }
 {
     let there = names::contact_name(store, id)?;
     let is_same = there.as_str() == name.as_str();
     drop(there);
     if !is_same {
-        return contact_number(store, name);
+        return number_there::<ContactRow, S>(store, name);
     }
     Ok(id)
 }
@@ -96,7 +97,8 @@ fn put_beside<S: Alter>(
     domain: &Domain,
 ) -> Result<(), BookFault>
     requires { store.old.is_open ≡ true }
-    ensures { Changes result (λ old new. rows_named named_domains domain.now.name old ≡ rows_of found
+    ensures { Changes result (λ old new.
+        rows_named named_domains domain.now.name old ≡ rows_of found
         → contact_name_by_number old beside.now.registrant ≡ Some domain.now.links.registrant
         → IsDomainPut domain.now.name (Some domain.now) (Some beside.now.due) old new) store.old
         store.new }

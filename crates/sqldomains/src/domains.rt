@@ -1,7 +1,6 @@
 //! Domains, by name.
 ghost use Rattle.std.specs.Prelude.{◌≡◌, true, IfOk, Some, filter};
 ghost use Rattle.std.specs.FinMap.{get};
-ghost use Rattle.sqlcolumns.specs.Domains.{domain_of_columns};
 ghost use Rattle.sqlrows.specs.Read.{IsRead, first_read};
 ghost use Rattle.sqldomains.specs.Domains as spec;
 ghost use Rattle.sqltables.specs.Domain.{domain_with_name};
@@ -10,7 +9,7 @@ ghost use Rattle.states.specs.States.{Finds, FindsSome};
 use crate::links::{links_by, number_of};
 use basis::list::Seq;
 use basis::text::Text;
-use objects::{Domain, Links, Transfer};
+use objects::Domain;
 use sqlcolumns::domain_of_row;
 use sqlite::Alter;
 use sqlobjects::last_transfer;
@@ -56,8 +55,8 @@ pub fn domain_of<S: Alter>(
     alloc: Global,
     row: DomainRow,
 ) -> Result<Domain, BookFault>
-    ensures { FindsSome result (λ domain. spec.domain_read store.old.content row ≡ Some domain) store.old
-        store.new }
+    ensures { FindsSome result (λ domain. spec.domain_read store.old.content row ≡ Some domain)
+        store.old store.new }
 {
     let links = store.links_by_domain(number_of(&row))?;
     let transfers = store.transfers_by_domain(number_of(&row))?;
@@ -72,21 +71,11 @@ pub(crate) fn domain_by<S: Alter>(
     links: Seq<LinkRow>,
     transfers: Seq<TransferRow>,
 ) -> Result<Domain, BookFault>
-    ensures { FindsSome result (λ domain. spec.domain_by store.old.content row links transfers ≡ Some domain)
-        store.old store.new }
+    ensures { FindsSome result
+        (λ domain. spec.domain_by store.old.content row links transfers ≡ Some domain) store.old
+        store.new }
 {
     let links = links_by(store, alloc, &row, links)?;
     let transfer = last_transfer(transfers)?;
-    read_domain(alloc, row, links, transfer)
-}
-
-fn read_domain(
-    alloc: Global,
-    row: DomainRow,
-    links: Links,
-    transfer: Option<Transfer>,
-) -> Result<Domain, BookFault>
-    ensures { IfOk result (λ domain. domain_of_columns row links transfer ≡ Some domain) }
-{
     or_fault(domain_of_row(alloc, row, links, transfer)?)
 }

@@ -11,7 +11,6 @@ mod link_rows;
 mod linked;
 mod links;
 mod names;
-mod names_in_order;
 mod placing;
 mod zone_rows;
 

@@ -2,21 +2,23 @@
 ghost use Rattle.std.specs.Prelude.{◌≡◌, true, ◌∷◌, [], filter, Some};
 ghost use Rattle.states.specs.States.{FindsSome};
 ghost use Rattle.sqlrows.specs.Meanings.{Changes};
-ghost use Rattle.sqlobjects.specs.Changes as changes;
+ghost use Rattle.sqldomains.specs.Domains.{linked_name};
+ghost use Rattle.sqldomains.specs.inner.Links.{name_at};
 ghost use Rattle.sqldomains.specs.declared.comparison.LinkComparison.TheVariants as comparisons;
 ghost use Rattle.sqltables.specs.Link.{link_with_domain};
-ghost use Rattle.sqldomains.specs.inner.Stages.{AreCompared, AreDuesSet, AreLinksCleared, AreLinksPut, AreLinksPutOver, AreNamesAdded, IsContactLinkTo, IsHostLinkTo, IsLinkTo};
+ghost use Rattle.sqldomains.specs.inner.Stages.{AreCompared, AreDuesSet, AreLinksCleared, AreLinksPut, AreLinksPutOver, AreNamesAdded, IsLinkTo};
 
 use crate::comparison::{LinkComparison, compare_links};
-use crate::linked::{number_of_contact, number_of_host};
+use crate::linked::number_named;
 use crate::links::{due_of, number_of};
 use crate::placing::check_places;
 use basis::text::Text;
 use objects::Links;
 use sqlcolumns::{Coded, Role};
 use sqlite::Alter;
+use sqlobjects::NamedRow;
 use sqlrows::Number;
-use sqltables::{DomainRow, LinkRow, RowStore};
+use sqltables::{ContactRow, DomainRow, HostRow, LinkRow, RowStore};
 use states::BookFault;
 use std::alloc::Global;
 
@@ -69,8 +71,8 @@ fn put_over<S: Alter>(
     there: LinkComparison,
 ) -> Result<(), BookFault>
     requires { store.old.is_open ≡ true }
-    ensures { Changes result (AreLinksPutOver domain.now.id domain.now.due links.now there) store.old
-        store.new }
+    ensures { Changes result (AreLinksPutOver domain.now.id domain.now.due links.now there)
+        store.old store.new }
 {
     match there {
         LinkComparison::Absent => add_links(store, domain, links),
@@ -87,8 +89,8 @@ fn add_links<S: Alter>(
     links: &Links,
 ) -> Result<(), BookFault>
     requires { store.old.is_open ≡ true }
-    ensures { Changes result (AreLinksPutOver domain.now.id domain.now.due links.now comparisons.Absent)
-        store.old store.new }
+    ensures { Changes result (AreLinksPutOver domain.now.id domain.now.due links.now
+        comparisons.Absent) store.old store.new }
 {
     add_names(store, domain, Role::Admin, links.admin.as_slice())?;
     add_names(store, domain, Role::Tech, links.tech.as_slice())?;
@@ -112,8 +114,8 @@ fn replace_links<S: Alter>(
     links: &Links,
 ) -> Result<(), BookFault>
     requires { store.old.is_open ≡ true }
-    ensures { Changes result (AreLinksPutOver domain.now.id domain.now.due links.now comparisons.Different)
-        store.old store.new }
+    ensures { Changes result (AreLinksPutOver domain.now.id domain.now.due links.now
+        comparisons.Different) store.old store.new }
 {
     clear_links(store, number_of(domain))?;
     add_links(store, domain, links)?;
@@ -172,76 +174,45 @@ fn row_to<S: Alter>(
     role: Role,
     name: &Text,
 ) -> Result<LinkRow, BookFault>
-    ensures { FindsSome result (IsLinkTo store.old.content domain.now.id domain.now.due role name.now)
-        store.old store.new }
-{
-    match role {
-        Role::Host => row_to_host(store, domain, name),
-        Role::Admin | Role::Tech => row_to_contact(store, domain, role, name),
-    }
-}
-
-fn row_to_host<S: Alter>(
-    store: &mut RowStore<S>,
-    domain: &DomainRow,
-    name: &Text,
-) -> Result<LinkRow, BookFault>
-    ensures { FindsSome result (IsHostLinkTo store.old.content domain.now.id domain.now.due name.now)
-        store.old store.new }
-{
-    let id = host_number(store, name)?;
-    Ok(LinkRow {
-        id: 0,
-        domain: domain.id,
-        contact: None,
-        host: Some(id),
-        role: Role::Host.column(),
-        due: domain.due,
-    })
-}
-
-fn row_to_contact<S: Alter>(
-    store: &mut RowStore<S>,
-    domain: &DomainRow,
-    role: Role,
-    name: &Text,
-) -> Result<LinkRow, BookFault>
-    ensures { FindsSome result (IsContactLinkTo store.old.content domain.now.id domain.now.due role
+    ensures { FindsSome result (IsLinkTo store.old.content domain.now.id domain.now.due role
         name.now) store.old store.new }
 {
-    let id = contact_number(store, name)?;
+    let (contact, host) = numbers_of(store, role, name)?;
     Ok(LinkRow {
         id: 0,
         domain: domain.id,
-        contact: Some(id),
-        host: None,
+        contact,
+        host,
         role: role.column(),
         due: domain.due,
     })
 }
 
-/// The number of the contact of this name, which has to be there.
-pub(crate) fn contact_number<S: Alter>(
+/// The number of what has this name, as the columns of a contact and of a host have it.
+fn numbers_of<S: Alter>(
     store: &mut RowStore<S>,
+    role: Role,
     name: &Text,
-) -> Result<i64, BookFault>
-    ensures { FindsSome result (λ id. changes.contact_name_by_number store.old.content id ≡ Some name.now)
+) -> Result<(Option<i64>, Option<i64>), BookFault>
+    ensures { FindsSome result (λ at. linked_name store.old.content role at.0 at.1 ≡ Some name.now)
         store.old store.new }
 {
-    store.show_consistent();
-    match number_of_contact(store, name)? {
-        None => Err(BookFault::Store),
-        Some(id) => Ok(id),
+    match role {
+        Role::Host => Ok((None, Some(number_there::<HostRow, S>(store, name)?))),
+        Role::Admin | Role::Tech => Ok((Some(number_there::<ContactRow, S>(store, name)?), None)),
     }
 }
 
-/// The number of the host of this name, which has to be there.
-fn host_number<S: Alter>(store: &mut RowStore<S>, name: &Text) -> Result<i64, BookFault>
-    ensures { FindsSome result (λ id. changes.host_name_by_number store.old.content id ≡ Some name.now) store.old
-        store.new }
+/// The number of the row of this name, which has to be there.
+pub(crate) fn number_there<R: NamedRow, S: Alter>(
+    store: &mut RowStore<S>,
+    name: &Text,
+) -> Result<i64, BookFault>
+    ensures { FindsSome result (λ id. name_at R.table store.old.content id ≡ Some name.now)
+        store.old store.new }
 {
     store.show_consistent();
-    match number_of_host(store, name)? {
+    match number_named::<R, S>(store, name)? {
         None => Err(BookFault::Store),
         Some(id) => Ok(id),
     }

@@ -2,19 +2,17 @@
 ghost use Rattle.std.specs.Prelude.{◌≡◌, filter, option_map, take};
 ghost use Rattle.sqlrows.specs.Read.{rows_of};
 ghost use Rattle.sqlite_rules.specs.Lists.{Has};
-ghost use Rattle.sqltables.specs.declared.contact.ContactRow.{ContactRow};
 ghost use Rattle.sqltables.specs.Domain.{domain_with_registrant};
-ghost use Rattle.sqltables.specs.declared.host.HostRow.{HostRow};
 ghost use Rattle.sqltables.specs.Link.{link_with_contact, link_with_host};
 ghost use Rattle.states.specs.States.{Finds, FindsSome};
 ghost use Rattle.objects.specs.Links as links;
 ghost use Rattle.sqldomains.specs.inner.Links as spec;
 
 use crate::domains::domain_of;
-use crate::names::number;
 use basis::text::Text;
 use sqlite::Alter;
-use sqlrows::only;
+use sqlobjects::{NamedRow, row_named};
+use sqlrows::{Number, only};
 use sqltables::{ContactRow, DomainRow, HostRow, LinkRow, RowStore};
 use states::BookFault;
 use std::alloc::Global;
@@ -25,10 +23,11 @@ pub fn is_linked_contact<S: Alter>(
     alloc: Global,
     name: &Text,
 ) -> Result<bool, BookFault>
-    ensures { Finds result (spec.some_domain_names_contact store.old.content name.now) store.old store.new }
+    ensures { Finds result (spec.some_domain_names_contact store.old.content name.now)
+        store.old store.new }
 {
     store.show_consistent();
-    let Some(id) = number_of_contact(store, name)? else {
+    let Some(id) = number_named::<ContactRow, S>(store, name)? else {
         return Ok(false);
     };
     let Some(row) = use_of_contact(store, id)? else {
@@ -38,24 +37,24 @@ pub fn is_linked_contact<S: Alter>(
     Ok(true)
 }
 
-/// The number of the contact of this name, if there is one.
-pub(crate) fn number_of_contact<S: Alter>(
+/// The number of the row of this name, if there is one.
+pub(crate) fn number_named<R: NamedRow, S: Alter>(
     store: &mut RowStore<S>,
     name: &Text,
 ) -> Result<Option<i64>, BookFault>
-    ensures { FindsSome result (spec.IsNumberOfContact store.old.content name.now) store.old store.new }
+    ensures { FindsSome result (spec.IsNumberOf R.table store.old.content name.now)
+        store.old store.new }
 {
-    let rows = store.contacts_by_name(name.as_str())?;
-    let row = only(rows)?;
-    Ok(id_of_contact(row))
+    let row = row_named(store, name)?;
+    Ok(id_of::<R>(row))
 }
 
-fn id_of_contact(row: Option<ContactRow>) -> Option<i64>
-    ensures { result ≡ option_map (λ (r : ContactRow). r.id) row }
+fn id_of<R: NamedRow>(row: Option<R>) -> Option<i64>
+    ensures { result ≡ option_map R.table.key row }
 {
     match row {
         None => None,
-        Some(row) => Some(row.id),
+        Some(row) => Some(row.id()),
     }
 }
 
@@ -81,17 +80,18 @@ fn registered_by<S: Alter>(store: &mut RowStore<S>, id: i64) -> Result<Option<Do
         (λ row. take 1 (filter (domain_with_registrant id) store.old.content.domains) ≡ rows_of row)
         store.old store.new }
 {
-    let number = number(id);
+    let number = Number::new(id);
     let rows = store.first_domains_by_registrant(number)?;
     only(rows)
 }
 
 /// The first link to the contact with this number.
 fn link_to_contact<S: Alter>(store: &mut RowStore<S>, id: i64) -> Result<Option<LinkRow>, BookFault>
-    ensures { FindsSome result (λ row. take 1 (filter (link_with_contact id) store.old.content.links)
-        ≡ rows_of row) store.old store.new }
+    ensures { FindsSome result
+        (λ row. take 1 (filter (link_with_contact id) store.old.content.links) ≡ rows_of row)
+        store.old store.new }
 {
-    let number = number(id);
+    let number = Number::new(id);
     let rows = store.first_links_by_contact(number)?;
     only(rows)
 }
@@ -100,7 +100,7 @@ fn link_to_contact<S: Alter>(store: &mut RowStore<S>, id: i64) -> Result<Option<
 fn domain_at<S: Alter>(store: &mut RowStore<S>, id: i64) -> Result<DomainRow, BookFault>
     ensures { FindsSome result (λ row. Has store.old.content.domains row) store.old store.new }
 {
-    let number = number(id);
+    let number = Number::new(id);
     let rows = store.domains_by_id(number)?;
     match only(rows)? {
         None => Err(BookFault::Store),
@@ -115,8 +115,8 @@ fn naming_contact<S: Alter>(
     row: DomainRow,
     name: &Text,
 ) -> Result<(), BookFault>
-    ensures { FindsSome result (λ done. spec.PassesTest store.old.content (λ d. links.names_contact name.now
-        d.links) row) store.old store.new }
+    ensures { FindsSome result (λ done. spec.PassesTest store.old.content
+        (λ d. links.names_contact name.now d.links) row) store.old store.new }
 {
     let domain = domain_of(store, alloc, row)?;
     let is_named = domain.links.names_contact(name);
@@ -133,10 +133,11 @@ pub fn is_linked_host<S: Alter>(
     alloc: Global,
     name: &Text,
 ) -> Result<bool, BookFault>
-    ensures { Finds result (spec.some_domain_names_host store.old.content name.now) store.old store.new }
+    ensures { Finds result (spec.some_domain_names_host store.old.content name.now)
+        store.old store.new }
 {
     store.show_consistent();
-    let Some(id) = number_of_host(store, name)? else {
+    let Some(id) = number_named::<HostRow, S>(store, name)? else {
         return Ok(false);
     };
     let Some(row) = use_of_host(store, id)? else {
@@ -144,27 +145,6 @@ pub fn is_linked_host<S: Alter>(
     };
     naming_host(store, alloc, row, name)?;
     Ok(true)
-}
-
-/// The number of the host of this name, if there is one.
-pub(crate) fn number_of_host<S: Alter>(
-    store: &mut RowStore<S>,
-    name: &Text,
-) -> Result<Option<i64>, BookFault>
-    ensures { FindsSome result (spec.IsNumberOfHost store.old.content name.now) store.old store.new }
-{
-    let rows = store.hosts_by_name(name.as_str())?;
-    let row = only(rows)?;
-    Ok(id_of_host(row))
-}
-
-fn id_of_host(row: Option<HostRow>) -> Option<i64>
-    ensures { result ≡ option_map (λ (r : HostRow). r.id) row }
-{
-    match row {
-        None => None,
-        Some(row) => Some(row.id),
-    }
 }
 
 /// A domain's row, if any row refers to the host with this number.
@@ -182,7 +162,7 @@ fn link_to_host<S: Alter>(store: &mut RowStore<S>, id: i64) -> Result<Option<Lin
     ensures { FindsSome result (λ row. take 1 (filter (link_with_host id) store.old.content.links)
         ≡ rows_of row) store.old store.new }
 {
-    let number = number(id);
+    let number = Number::new(id);
     let rows = store.first_links_by_host(number)?;
     only(rows)
 }

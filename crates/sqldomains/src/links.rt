@@ -22,8 +22,8 @@ pub(crate) fn links_by<S: Alter>(
     row: &DomainRow,
     links: Seq<LinkRow>,
 ) -> Result<Links, BookFault>
-    ensures { FindsSome result (λ all. spec.links_by store.old.content row.now links ≡ Some all) store.old
-        store.new }
+    ensures { FindsSome result (λ all. spec.links_by store.old.content row.now links ≡ Some all)
+        store.old store.new }
 {
     let registrant = contact_name(store, row.registrant)?;
     let rows = dated(row, links)?;

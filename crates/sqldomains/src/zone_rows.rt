@@ -1,6 +1,7 @@
 //! What a zone has of the domains.
 ghost use Rattle.std.specs.Prelude.{◌≡◌, Some, IfOk, filter};
-ghost use Rattle.std.specs.FinMap.{values};
+ghost use Rattle.std.specs.FinMap.{insert, values};
+ghost use Rattle.objects.specs.Delegations.{delegation_of};
 ghost use Rattle.sqltables.specs.Link.{link_with_domain};
 ghost use Rattle.sqltables.specs.Transfer.{transfer_with_domain};
 ghost use Rattle.states.specs.States.{Finds, FindsSome};
@@ -38,7 +39,7 @@ fn page_by_page<S: Alter>(
     store: &mut RowStore<S>,
     alloc: Global,
 ) -> Result<NameMap<Delegation>, BookFault>
-    ensures { FindsSome result (λ all. spec.IsAllOfRows store.old.content all) store.old store.new }
+    ensures { FindsSome result (spec.IsAllOfRows store.old.content) store.old store.new }
 {
     store.show_consistent();
     let mut all = NameMap::new(alloc);
@@ -71,8 +72,8 @@ fn with_page<S: Alter>(
     ends: (Number, Number),
     page: Seq<DomainRow>,
 ) -> Result<NameMap<Delegation>, BookFault>
-    ensures { FindsSome result (λ more. spec.with_rows
-        (spec.domain_in_page store.old.content ends.0 ends.1) all page ≡ Some more) store.old store.new }
+    ensures { FindsSome result (λ more. spec.with_page store.old.content ends all page ≡ Some more)
+        store.old store.new }
 {
     let links = store.links_of_domains(ends.0, ends.1)?;
     let transfers = store.transfers_of_domains(ends.0, ends.1)?;
@@ -95,8 +96,8 @@ fn with_rows<S: Alter>(
     links: &[LinkRow],
     transfers: &[TransferRow],
 ) -> Result<NameMap<Delegation>, BookFault>
-    ensures { FindsSome result (λ more. spec.with_rows
-        (spec.domain_among store.old.content links.now transfers.now) all rows ≡ Some more) store.old
+    ensures { FindsSome result (λ more.
+        spec.with_rows store.old.content links.now transfers.now all rows ≡ Some more) store.old
         store.new }
 {
     let mut all = all;
@@ -114,8 +115,8 @@ fn with_row<S: Alter>(
     links: &[LinkRow],
     transfers: &[TransferRow],
 ) -> Result<NameMap<Delegation>, BookFault>
-    ensures { FindsSome result (λ more. spec.with_row
-        (spec.domain_among store.old.content links.now transfers.now) all row ≡ Some more) store.old
+    ensures { FindsSome result (λ more.
+        spec.with_row store.old.content links.now transfers.now all row ≡ Some more) store.old
         store.new }
 {
     let links = links_with(alloc, &row, links)?;
@@ -134,17 +135,11 @@ fn links_with(
 {
     let mut own = Seq::new(alloc);
     for link in links {
-        if is_link_of(domain, link) {
+        if link.domain == domain.id {
             own.push(copy_of_link(link))?;
         }
     }
     Ok(own)
-}
-
-fn is_link_of(domain: &DomainRow, link: &LinkRow) -> bool
-    ensures { result ≡ link_with_domain domain.now.id link.now }
-{
-    link.domain == domain.id
 }
 
 fn copy_of_link(link: &LinkRow) -> LinkRow
@@ -170,20 +165,11 @@ fn transfers_with(
 {
     let mut own = Seq::new(alloc);
     for transfer in transfers {
-        if is_transfer_of(domain, transfer) {
+        if transfer.domain == Some(domain.id) {
             own.push(copy_of_transfer(transfer))?;
         }
     }
     Ok(own)
-}
-
-fn is_transfer_of(domain: &DomainRow, transfer: &TransferRow) -> bool
-    ensures { result ≡ transfer_with_domain domain.now.id transfer.now }
-{
-    match transfer.domain {
-        None => false,
-        Some(id) => id == domain.id,
-    }
 }
 
 fn copy_of_transfer(transfer: &TransferRow) -> TransferRow
@@ -207,7 +193,7 @@ fn with_domain(
     all: NameMap<Delegation>,
     domain: &Domain,
 ) -> Result<NameMap<Delegation>, AllocError>
-    ensures { IfOk result (λ more. more ≡ spec.with_delegation all domain.now) }
+    ensures { IfOk result (λ more. more ≡ insert all domain.now.name (delegation_of domain.now)) }
 {
     let mut all = all;
     all.insert(domain.name.clone()?, domain.delegation(alloc)?)?;

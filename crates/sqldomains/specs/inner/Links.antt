@@ -1,18 +1,16 @@
 -- What is looked for where it is asked whether a domain names a contact or a host.
-use Rattle.std.specs.Prelude.{◌≡◌, ℕ, ℤ, Bool, true, List, [], filter, Option, Some, None}
+use Rattle.std.specs.Prelude.{◌≡◌, ℕ, ℤ, Bool, true, List, [], filter, Option, Some, None, option_map}
 use Rattle.std.specs.FinMap.{values}
 use Rattle.std.specs.List.{list_any}
+use Rattle.sqlite_keyed.specs.Keyed.{get_by}
 use Rattle.sqlite_rules.specs.Lists.{Has}
 use Rattle.objects.specs.declared.domain.Domain.{Domain}
 use Rattle.objects.specs.Links.{names_contact, names_host}
-use Rattle.sqltables.specs.Contact.{contact_with_name}
-use Rattle.sqltables.specs.declared.contact.ContactRow.{ContactRow}
 use Rattle.sqltables.specs.Content.{Content}
 use Rattle.sqltables.specs.Domain.{domain_with_registrant}
 use Rattle.sqltables.specs.declared.domain.DomainRow.{DomainRow}
-use Rattle.sqltables.specs.Host.{host_with_name}
-use Rattle.sqltables.specs.declared.host.HostRow.{HostRow}
 use Rattle.sqltables.specs.Link.{link_with_contact, link_with_host}
+use Rattle.sqlobjects.specs.inner.Stages.{NamedTable, rows_named}
 use Rattle.sqldomains.specs.Domains.{domain_read, domains_of}
 
 -- a contact, or a host, is linked where some domain names it (RFC 5731, 2.2; RFC 5732, 2.3)
@@ -22,16 +20,15 @@ some_domain_names_contact xs name = list_any (λ d. names_contact name d.links) 
 abbrev pub some_domain_names_host : Content → List ℕ → Bool
 some_domain_names_host xs name = list_any (λ d. names_host name d.links) (values (domains_of xs))
 
--- the number of a contact of this name, if there is one
-abbrev pub IsNumberOfContact : Content → List ℕ → Option ℤ → Type 0
-IsNumberOfContact xs name None = filter (contact_with_name name) xs.contacts ≡ []
-IsNumberOfContact xs name (Some id) =
-    (row : ContactRow) × Has xs.contacts row × (row.name ≡ name) × (row.id ≡ id)
+-- the name of the row with a number, if there is one
+abbrev pub name_at : {R : Type 0} → NamedTable R → Content → ℤ → Option (List ℕ)
+name_at table xs id = option_map table.name (get_by table.key (table.rows xs) id)
 
-abbrev pub IsNumberOfHost : Content → List ℕ → Option ℤ → Type 0
-IsNumberOfHost xs name None = filter (host_with_name name) xs.hosts ≡ []
-IsNumberOfHost xs name (Some id) =
-    (row : HostRow) × Has xs.hosts row × (row.name ≡ name) × (row.id ≡ id)
+-- the number of the row of this name, if there is one
+abbrev pub IsNumberOf : {R : Type 0} → NamedTable R → Content → List ℕ → Option ℤ → Type 0
+IsNumberOf table xs name None = rows_named table name xs ≡ []
+IsNumberOf {R} table xs name (Some id) =
+    (row : R) × Has (table.rows xs) row × (table.name row ≡ name) × (table.key row ≡ id)
 
 -- no row refers to the contact with this number
 pub record IsNoContact (xs : Content) (id : ℤ) : Type 0 where

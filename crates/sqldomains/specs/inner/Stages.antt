@@ -5,7 +5,6 @@ use Rattle.sqlite_keyed.specs.Lists.{delete_where, update_where}
 use Rattle.objects.specs.declared.domain.Domain.{Domain}
 use Rattle.objects.specs.declared.domain.Links.{Links}
 use Rattle.sqlcolumns.specs.declared.code.Role.{Role}
-use Rattle.sqlcolumns.specs.declared.code.Role.TheVariants as roles
 use Rattle.sqlcolumns.specs.Codes.{role_column}
 use Rattle.sqlcolumns.specs.inner.Domains.{row_of_domain}
 use Rattle.sqltables.specs.Content.{Content}
@@ -15,7 +14,6 @@ use Rattle.sqltables.specs.declared.domain.DomainRow.{DomainRow}
 use Rattle.sqltables.specs.Link.{link_with_domain}
 use Rattle.sqltables.specs.declared.link.LinkRow.{LinkRow}
 use Rattle.sqltables.specs.Transfer.{transfer_with_contact, transfer_with_domain}
-use Rattle.sqlobjects.specs.Changes.{contact_name_by_number, host_name_by_number}
 use Rattle.sqlobjects.specs.declared.transfers.Transferable.TheVariants as transferable
 use Rattle.sqlobjects.specs.inner.Stages.{IsRowPlaced, named_domains}
 use Rattle.sqlobjects.specs.inner.Transfers.{IsTransferPut}
@@ -53,25 +51,6 @@ pub record IsLinkTo (xs : Content) (id due : ℤ) (role : Role) (name : List ℕ
   pub due_is : row.due ≡ due
   pub role_is : row.role ≡ role_column role
   pub leads : linked_name xs role row.contact row.host ≡ Some name
-
--- the same of a contact in a role, and of a host
-pub record IsContactLinkTo (xs : Content) (id due : ℤ) (role : Role) (name : List ℕ) (row : LinkRow) : Type 0 where
-  pub domain : row.domain ≡ id
-  pub due_is : row.due ≡ due
-  pub role_is : row.role ≡ role_column role
-  pub contact : ℤ
-  pub contact_is : row.contact ≡ Some contact
-  pub host_is : row.host ≡ None
-  pub name_is : contact_name_by_number xs contact ≡ Some name
-
-pub record IsHostLinkTo (xs : Content) (id due : ℤ) (name : List ℕ) (row : LinkRow) : Type 0 where
-  pub domain : row.domain ≡ id
-  pub due_is : row.due ≡ due
-  pub role_is : row.role ≡ role_column roles.Host
-  pub host : ℤ
-  pub contact_is : row.contact ≡ None
-  pub host_is : row.host ≡ Some host
-  pub name_is : host_name_by_number xs host ≡ Some name
 
 -- the domain with this number names these besides
 pub record AreNamesAdded (id due : ℤ) (role : Role) (names : List (List ℕ)) (old new : Content) : Type 0 where

@@ -3,7 +3,7 @@ use Rattle.std.specs.FinMap.{empty}
 use Rattle.objects.specs.Hosts.{is_below}
 use Rattle.sqltables.specs.declared.host.HostRow.{HostRow}
 use Rattle.sqlrows.proofs.StateLemmas.{reads-on}
-use Rattle.sqldomains.specs.inner.Names.{host_standing, with_read}
+use Rattle.sqldomains.specs.inner.Names.{with_hosts}
 use Rattle.sqldomains.proofs.BelowLemmas.{below-listed}
 use Rattle.sqldomains.proofs.below.hosts_below.Goals as goal
 
@@ -19,7 +19,7 @@ returns g c =
           let before = told.0.clean e in
           c.in_ok-listed.ensures {u = tt}
           ∙ below-listed xs domain names
-          (subst (λ found. with_read (host_standing xs) empty found ≡ Some names)
+          (subst (λ found. with_hosts xs empty found ≡ Some names)
           (c.in_ok-found.ensures {u = tt} ∙ ap (λ rows. filter (is_below domain) (map (λ (r : HostRow). r.name) rows)) (asked.1 before))
-          (subst (λ ys. with_read (host_standing ys) empty c.in_ok-found.found ≡ Some names) (asked.0.content before) (told.1 e))),
+          (subst (λ ys. with_hosts ys empty c.in_ok-found.found ≡ Some names) (asked.0.content before) (told.1 e))),
     )

@@ -8,4 +8,4 @@ use Rattle.sqldomains.proofs.below.with_hosts.Given as goal
 abbrev pub invariant-loop-name : goal.invariant-loop-name
 invariant-loop-name g l =
     Reads l.fn.store l.store
-    × (l.store.is_clean ≡ true → spec.with_read (spec.host_standing l.fn.store.content) l.names l.name-iterator.rest.items ≡ spec.with_read (spec.host_standing l.fn.store.content) empty l.fn.found)
+    × (l.store.is_clean ≡ true → spec.with_hosts l.fn.store.content l.names l.name-iterator.rest.items ≡ spec.with_hosts l.fn.store.content empty l.fn.found)

@@ -1,6 +1,5 @@
 use Rattle.std.proofs.Common.{sym, ap, ◌∙◌, filter}
 use Rattle.sqlrows.proofs.StateLemmas.{reads-on}
-use Rattle.sqltables.specs.Content.{Content}
 use Rattle.sqltables.specs.Link.{link_with_domain}
 use Rattle.sqltables.specs.Transfer.{transfer_with_domain}
 use Rattle.sqldomains.specs.Domains.{domain_by}

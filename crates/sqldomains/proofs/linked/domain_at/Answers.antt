@@ -1,10 +1,10 @@
-use Rattle.std.proofs.Common.{ap, ◌∙◌}
+use Rattle.std.proofs.Common.{ap, sym, take, ◌∙◌}
 use Rattle.sqlrows.specs.Read.{rows_of}
 use Rattle.sqltables.specs.Domain.{domain_with_id}
-use Rattle.sqldomains.proofs.AnswerLemmas.{one-has}
+use Rattle.sqldomains.proofs.AnswerLemmas.{first-in}
 use Rattle.sqldomains.proofs.linked.domain_at.Goals as goal
 
 pub returns-in-Some : goal.returns-in-Some
 returns-in-Some g c =
     let asked = c.in_ok-rows.ensures {u = tt} in
-    (asked.0, λ e. one-has (domain_with_id c.number-number.result) c.args.store.now.content.domains c.in_ok-rows.rows c.in-Some.row (asked.1 e) (c.in_ok-only.ensures {u = tt} ∙ ap rows_of c.in-Some.is))
+    (asked.0, λ e. first-in (domain_with_id c.new-number.result) c.args.store.now.content.domains c.in-Some.row (ap (take 1) (sym (asked.1 e) ∙ c.in_ok-only.ensures {u = tt} ∙ ap rows_of c.in-Some.is)))

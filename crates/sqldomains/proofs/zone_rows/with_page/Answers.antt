@@ -2,7 +2,7 @@ use Rattle.std.proofs.Common.{sym, ap, ◌∙◌, filter}
 use Rattle.sqlrows.proofs.StateLemmas.{reads-on}
 use Rattle.sqltables.specs.Content.{Content}
 use Rattle.sqltables.specs.Transfer.{transfer_of_domains}
-use Rattle.sqldomains.specs.inner.Delegations.{domain_among, with_rows}
+use Rattle.sqldomains.specs.inner.Delegations.{with_rows}
 use Rattle.sqldomains.proofs.FoundLemmas.{asked-finds}
 use Rattle.sqldomains.proofs.zone_rows.with_page.Goals as goal
 
@@ -16,4 +16,4 @@ returns g c =
     asked-finds c.with_rows.result _ _ old c.transfers_of_domains.new.self c.with_rows.new.store both c.with_rows.ensures (λ more e is.
     let own = c.as_slice.ensures ∙ links.1 (transfers.0.clean e) in
     let last = c.as_slice-2.ensures ∙ transfers.1 e ∙ ap (λ (xs : Content). filter (transfer_of_domains c.args.ends.0 c.args.ends.1) xs.transfers) (links.0.content (transfers.0.clean e)) in
-    (λ i. with_rows (domain_among (sym (both.content e) i) (sym own i) (sym last i)) c.args.all c.args.page) ∙ is)
+    (λ i. with_rows (sym (both.content e) i) (sym own i) (sym last i) c.args.all c.args.page) ∙ is)

@@ -1,6 +1,7 @@
 use Rattle.std.proofs.Common.{Some, option_map, sym, ap, ◌∙◌}
 use Rattle.sqldomains.specs.Domains.{domain_by}
-use Rattle.sqldomains.specs.inner.Delegations.{with_delegation}
+use Rattle.sqldomains.specs.inner.Delegations.{delegated}
+use Rattle.sqldomains.specs.inner.Names.{with_one}
 use Rattle.sqldomains.proofs.zone_rows.with_row.Goals as goal
 
 pub returns : goal.returns
@@ -9,6 +10,6 @@ returns g c =
     let links = c.in_ok-links.ensures {u = tt} in
     let transfers = c.in_ok-transfers.ensures {u = tt} in (
       told.0,
-      λ e. ap (option_map (with_delegation c.args.all)) ((λ i. domain_by c.args.store.now.content c.args.row (sym links i) (sym transfers i)) ∙ told.1 e)
+      λ e. ap (λ o. with_one c.args.all (option_map delegated o)) ((λ i. domain_by c.args.store.now.content c.args.row (sym links i) (sym transfers i)) ∙ told.1 e)
           ∙ ap Some (sym (c.in_ok-with_domain.ensures {u = tt})),
     )

@@ -1,6 +1,6 @@
 use Rattle.std.proofs.Common.{◌≡◌, true}
 use Rattle.states.specs.States.{Reads}
-use Rattle.sqldomains.specs.inner.Delegations as spec
+use Rattle.sqldomains.specs.inner.Delegations.{with_rows}
 use Rattle.sqldomains.proofs.zone_rows.with_rows.Given as goal
 
 -- nothing was changed, and the rows that are left give what all of them do
@@ -8,4 +8,4 @@ abbrev pub invariant-loop-row : goal.invariant-loop-row
 invariant-loop-row g l =
     Reads l.fn.store l.store
     × (l.store.is_clean ≡ true
-    → spec.with_rows (spec.domain_among l.fn.store.content l.fn.links l.fn.transfers) l.all l.row-iterator.rest.items ≡ spec.with_rows (spec.domain_among l.fn.store.content l.fn.links l.fn.transfers) l.fn.all l.fn.rows)
+    → with_rows l.fn.store.content l.fn.links l.fn.transfers l.all l.row-iterator.rest.items ≡ with_rows l.fn.store.content l.fn.links l.fn.transfers l.fn.all l.fn.rows)

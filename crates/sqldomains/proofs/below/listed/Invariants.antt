@@ -1,6 +1,6 @@
 use Rattle.std.proofs.Common.{◌≡◌, ◌++◌}
 use Rattle.std.specs.FinMap.{keys}
-use Rattle.sqldomains.proofs.names_in_order.listed.Given as goal
+use Rattle.sqldomains.proofs.below.listed.Given as goal
 
 -- the names so far and those that are left
 abbrev pub invariant-loop-name : goal.invariant-loop-name
