@@ -1,15 +1,9 @@
 -- What one call after another finds due is what is due at the beginning.
 use Rattle.std.proofs.Common.{◌≡◌, Bool, true, Some, Result, Ok, Err, subst}
-use Rattle.policy.specs.Rules.{PolicyRules}
-use Rattle.sqltables.specs.Content.{Content}
-use Rattle.sqltables.specs.inner.Consistent.{IsConsistent}
+use Rattle.sqlderived.proofs.Words.{Content, days_of_rows, dues_are_right, FindsIfRight, FindsSome, IsConsistent, PolicyRules, Reads, reads-on}
+use Rattle.sqlderived.proofs.Words.{StateOf, stays-on}
 use Rattle.sqlcolumns.specs.Steps.{◌>>=◌}
 use Rattle.states.specs.declared.fault.BookFault.{BookFault}
-use Rattle.states.specs.States.{FindsSome, Reads, StateOf}
-use Rattle.sqlrows.specs.Meanings.{FindsIfRight}
-use Rattle.sqlrows.proofs.StateLemmas.{reads-on, stays-on}
-use Rattle.sqlterms.specs.Terms.{days_of_rows}
-use Rattle.sqlderived.specs.Dues.{dues_are_right}
 
 -- what is found where the days of the rows are these
 pub with-days : {A : Type 0} (r : Result A BookFault) (s a t : StateOf Content) (p : PolicyRules) (Q P : Content → A → Type 0)

@@ -1,16 +1,12 @@
 -- How many values of a map pass, once something else stands under a name.
 use Rattle.std.proofs.Common.{◌≡◌, ℕ, suc, ◌+◌, Bool, true, false, cond, List, [], ◌∷◌, ◌++◌, map, filter, length, Option, Some, None, refl, sym, ap, ◌∙◌, arith}
 use Rattle.std.specs.Prelude.{fold}
-use Rattle.std.specs.declared.cmp.Ordering.{Ordering}
-use Rattle.std.specs.Cmp.{IsTotalOrder}
-use Rattle.std.specs.Cmp.Lexicographic.{nat_list_cmp_total, slice_cmp}
-use Rattle.std.specs.FinMap.{FinMap, IsAntisymmetric, entries, get, insert, nat_cmp-IsAntisymmetric, remove, slice_cmp-IsAntisymmetric, values}
-use Rattle.std.specs.Option.{option_map_or}
-use Rattle.std.specs.Ordering.{nat_cmp}
+use Rattle.sqlderived.proofs.Words.{counts_one, counts_where, entries, FinMap, get, insert, IsAntisymmetric, IsTotalOrder, nat_cmp}
+use Rattle.sqlderived.proofs.Words.{nat_cmp-IsAntisymmetric, nat_list_cmp_total, option_map_or, Ordering, remove, slice_cmp}
+use Rattle.sqlderived.proofs.Words.{slice_cmp-IsAntisymmetric, values}
 use Rattle.basis.specs.Sweeps.{given_list}
 use Rattle.basis.proofs.ApartLaws.{given_apart, given_insert}
 use Rattle.sqlobjects.specs.inner.Changes.{with_named}
-use Rattle.sqlderived.specs.Held.{counts_one, counts_where}
 
 abbrev ticks : Bool → List Bool
 ticks b = cond b (true ∷ []) []

@@ -1,55 +1,29 @@
 -- The rows found by their columns are those of all that is due.
 use Rattle.std.proofs.Common.{◌≡◌, inl, inr, ℕ, ℤ, pos, negsuc, ◌<◌, Bool, true, false, cond, int_eq, int_le, nat_lt, List, [], ◌∷◌, filter, Option, Some, None, option_and_then, option_map, refl, sym, ap, ◌∙◌, true≢false, arith}
-use Rattle.std.proofs.lemmas.Bool.{and_from}
-use Rattle.std.proofs.lemmas.Bool.Decides.{nat_tests}
-use Rattle.std.proofs.lemmas.Int.{ints}
-use Rattle.std.specs.FinMap.{entries, get}
-use Rattle.std.specs.Option.{option_map_or}
-use Rattle.std.specs.Ordering.{is_gt}
-use Rattle.std.specs.declared.cmp.Ordering.{Ordering}
+use Rattle.sqlderived.proofs.Words.{and_from, bytes_is, completes_at, contact_due, contact_read, contacts_of, Content, days_of_rows, Domain}
+use Rattle.sqlderived.proofs.Words.{domain_due, domain_read, DomainRow, domains_of, Due, due_at, due_by, due_of, due_then, dues_are_right, entries}
+use Rattle.sqlderived.proofs.Words.{filter-has, found_due, get, Has, has-filter, has_right_due, ints, is_due_right, is_gt, is_pending_state, is_same}
+use Rattle.sqlderived.proofs.Words.{IsConsistent, kept, last_transfer, maybe_due_column, maybe_moment_in, moment_in_column, nat_tests, ObjectKind}
+use Rattle.sqlderived.proofs.Words.{only_named, option_map_or, Ordering, passed, PolicyRules, registrar_column, registrar_in, rules_with}
+use Rattle.sqlderived.proofs.Words.{same_is_equal, same_some, step, test_has, Transfer, transfer_with_contact}
 use Rattle.calendar.specs.Moment.{capped}
 use Rattle.sqlite_keyed.specs.Lists.{insert_sorted, sort_by}
-use Rattle.sqlite_rules.specs.Lists.{Has}
-use Rattle.sqlite_rules.proofs.ListLemmas.{test_has}
-use Rattle.lifecycle.specs.Lapse.{completes_at, due_at, due_of}
-use Rattle.lifecycle.specs.Periods.{passed, rules_with}
-use Rattle.objects.specs.Transfers.{is_pending_state}
 use Rattle.objects.specs.declared.contact.Contact.{Contact}
-use Rattle.objects.specs.declared.domain.Domain.{Domain}
-use Rattle.objects.specs.declared.roid.ObjectKind.{ObjectKind}
 use Rattle.objects.specs.declared.roid.ObjectKind.TheVariants as kinds
-use Rattle.objects.specs.declared.transfer.Transfer.{Transfer}
 use Rattle.sqlcolumns.specs.Contacts.{contact_of_columns, contact_registration_columns, contact_with}
-use Rattle.sqlcolumns.specs.Numbers.{maybe_moment_in, moment_in_column, registrar_column, registrar_in}
 use Rattle.sqlcolumns.specs.Registrations.{registration_in}
 use Rattle.sqlcolumns.specs.Roids.{roid_in}
 use Rattle.sqlcolumns.specs.Texts.{statuses_in, street_in}
-use Rattle.sqlcolumns.specs.Transfers.{is_same, maybe_due_column}
 use Rattle.sqlcolumns.proofs.NumberLemmas.{registrar_written}
-use Rattle.sqlcolumns.proofs.ReadLemmas.{kept, same_some, step}
-use Rattle.sqlcolumns.proofs.TransferLemmas.{same_is_equal}
-use Rattle.policy.specs.Rules.{PolicyRules}
 use Rattle.sqlrows.specs.inner.Layouts.{by_then_key}
-use Rattle.lifecycle.specs.declared.due_object.Due.{Due}
-use Rattle.lifecycle.specs.DueObjects.{contact_due, domain_due, due_then, found_due}
-use Rattle.model.specs.DueBy.{due_by}
 use Rattle.sqltables.specs.Contact as contact_table
 use Rattle.sqltables.specs.declared.contact.ContactRow.{ContactRow}
-use Rattle.sqltables.specs.Content.{Content}
 use Rattle.sqltables.specs.Domain as domain_table
-use Rattle.sqltables.specs.declared.domain.DomainRow.{DomainRow}
 use Rattle.sqltables.specs.inner.Due.{is_due_by}
-use Rattle.sqltables.specs.Transfer.{transfer_with_contact}
-use Rattle.sqltables.specs.inner.Consistent.{IsConsistent}
 use Rattle.sqlrows.specs.Read.{first_read, or_else}
-use Rattle.sqlobjects.specs.Objects.{contact_read, contacts_of, last_transfer}
 use Rattle.sqlobjects.proofs.NameLemmas.{contact-named}
-use Rattle.sqlobjects.proofs.PutLemmas.{bytes_is, filter-has, has-filter, only_named}
-use Rattle.sqldomains.specs.Domains.{domain_read, domains_of}
 use Rattle.sqldomains.proofs.LinkedLemmas.{first-has}
 use Rattle.sqldomains.proofs.NameOrderLemmas.{name-read, row-under, stands-there}
-use Rattle.sqlterms.specs.Terms.{days_of_rows}
-use Rattle.sqlderived.specs.Dues.{dues_are_right, has_right_due, is_due_right}
 use Rattle.sqlderived.specs.inner.Finding as spec
 use Rattle.sqlderived.proofs.FoundLemmas.{HasPicked, found-picked, rows-alike, same-picked}
 

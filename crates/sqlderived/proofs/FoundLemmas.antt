@@ -1,20 +1,13 @@
 -- What is found due of rows is what is due of the objects that stand.
 use Rattle.std.proofs.Common.{◌≡◌, ◌⊎◌, ⊎_elim, inl, inr, ℕ, Bool, true, false, cond, List, [], ◌∷◌, filter, Option, Some, None, option_map, refl, sym, ap, subst, ◌∙◌, arith}
-use Rattle.std.specs.Cmp.Lexicographic.{nat_list_cmp_total, slice_cmp}
-use Rattle.std.specs.FinMap.{FinMap, IsAntisymmetric, entries, find, get, get-entries, nat_cmp-IsAntisymmetric, slice_cmp-IsAntisymmetric}
-use Rattle.std.specs.Ordering.{eq_by_cmp, nat_cmp, ordering_then}
-use Rattle.std.specs.declared.cmp.Ordering.{Ordering}
 use Rattle.std.specs.declared.cmp.Ordering.TheVariants.{Less, Equal, Greater}
-use Rattle.sqlite_rules.specs.Lists.{Has}
+use Rattle.sqlderived.proofs.Words.{bytes_is, Due, due_cmp, entries, eq_by_cmp, filter-has, find, FinMap, found_due, get, get-entries, Has}
+use Rattle.sqlderived.proofs.Words.{has-filter, IsAntisymmetric, kind_rank, nat_cmp, nat_cmp-IsAntisymmetric, nat_list_cmp_total, ObjectKind}
+use Rattle.sqlderived.proofs.Words.{Ordering, ordering_then, same_some, slice_cmp, slice_cmp-IsAntisymmetric, step, with_due, with_rows}
 use Rattle.basis.proofs.EntryLaws.{Each, each_entry}
-use Rattle.sqlobjects.proofs.PutLemmas.{bytes_is, filter-has, has-filter}
-use Rattle.objects.specs.declared.roid.ObjectKind.{ObjectKind}
-use Rattle.sqlcolumns.proofs.ReadLemmas.{same_some, step}
-use Rattle.lifecycle.specs.declared.due_object.Due.{Due}
-use Rattle.lifecycle.specs.DueObjects.{due_cmp, found_due, kind_rank, with_due}
 use Rattle.lifecycle.specs.DueOrder.{due_cmp_total}
 use Rattle.sqlcolumns.specs.Steps.{◌>>=◌}
-use Rattle.sqlderived.specs.inner.Finding.{with_row, with_rows}
+use Rattle.sqlderived.specs.inner.Finding.{with_row}
 use Rattle.sqlderived.proofs.OrderLemmas.{Rises, has-insert, insert-from, insert-keeps, insert-rises, same-list}
 
 -- ---- only equals tie

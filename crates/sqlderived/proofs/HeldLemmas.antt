@@ -1,17 +1,10 @@
 -- What an account's row says of the domains that its registrar holds.
 use Rattle.std.proofs.Common.{◌≡◌, ℕ, ℤ, pos, Bool, true, false, cond, Option, Some, None, sym, ap, ◌∙◌, int_eq}
-use Rattle.std.proofs.lemmas.Bool.{and_parts}
-use Rattle.std.specs.Option.{option_map_or, unwrap_or}
-use Rattle.sqlite_keyed.proofs.KeyedLemmas.{key-get_by, same_int}
-use Rattle.sqlcolumns.specs.Numbers.{exact_in, is_exact, is_place, registrar_in}
+use Rattle.sqlderived.proofs.Words.{AccountRow, and_parts, Content, exact_in, has_right_held, held_of, helds_are_right, is_exact, is_held_right}
+use Rattle.sqlderived.proofs.Words.{is_place, IsConsistent, key-get_by, option_map_or, registrar_in, row_of, same_int, unwrap_or}
 use Rattle.sqlrows.proofs.RowLemmas.{all_with}
-use Rattle.sqlaccounts.specs.Accounts.{row_of}
-use Rattle.sqlderived.specs.Held.{has_right_held, held_of, helds_are_right, is_held_right}
 use Rattle.sqlderived.proofs.NobodyLemmas.{holds-none}
 use Rattle.sqltables.specs.Account as table
-use Rattle.sqltables.specs.declared.account.AccountRow.{AccountRow}
-use Rattle.sqltables.specs.Content.{Content}
-use Rattle.sqltables.specs.inner.Consistent.{IsConsistent}
 
 abbrev key : AccountRow → ℤ
 key = table.accounts.key

@@ -1,14 +1,9 @@
 -- Who is counted, of those who hold a domain.
 use Rattle.std.proofs.Common.{◌≡◌, ◌+◌, ℕ, Bool, true, false, cond, not, ◌&&◌, ◌||◌, ◌==◌, Option, Some, None, refl, sym, ap, ◌∙◌, arith}
 use Rattle.std.proofs.Math.Bool.{and-false, and-true}
-use Rattle.std.proofs.lemmas.Bool.{eqb-true}
-use Rattle.std.specs.Option.{option_map_or}
-use Rattle.objects.specs.declared.domain.Domain.{Domain}
-use Rattle.objects.specs.declared.transfer.Transfer.{Transfer}
-use Rattle.objects.specs.Transfers.{is_incoming, is_pending_state}
-use Rattle.sqlderived.specs.declared.holders.Holders.{Holders}
-use Rattle.sqlderived.specs.Held.{counts_one, counts_where, is_held_by}
-use Rattle.sqlderived.specs.inner.Holders.{incoming_of, incoming_without, is_settled, is_some_holder, is_written, maybe_holders_of, sponsor_without}
+use Rattle.sqlderived.proofs.Words.{counts_one, counts_where, Domain, eqb-true, Holders, incoming_without, is_held_by, is_incoming, is_pending_state}
+use Rattle.sqlderived.proofs.Words.{is_some_holder, is_written, maybe_holders_of, option_map_or, sponsor_without, Transfer}
+use Rattle.sqlderived.specs.inner.Holders.{incoming_of, is_settled}
 
 -- ---- the parties of a domain hold it
 

@@ -1,31 +1,18 @@
 -- The columns are as right after a change as before.
 use Rattle.std.proofs.Common.{◌≡◌, ℕ, ℤ, pos, negsuc, ◌+◌, ◌+ℤ◌, Bool, true, false, cond, List, Option, Some, None, refl, sym, ap, subst, ◌∙◌, arith, int_eq}
-use Rattle.std.proofs.lemmas.Bool.{and_parts}
-use Rattle.std.proofs.lemmas.Int.{ints}
-use Rattle.std.specs.Cmp.{both_ways}
-use Rattle.std.specs.FinMap.{get, values}
-use Rattle.std.specs.Option.{option_map, option_map_or, unwrap_or}
+use Rattle.sqlderived.proofs.Words.{AccountRow, and_parts, AreAlike, AreBoth, AreCounted, both_ways, Content, counts_where, Domain, domains_of, get}
+use Rattle.sqlderived.proofs.Words.{has_right_held, held_of, helds_are_right, ident_and_held, ints, is_held_by, is_held_right, is_place}
+use Rattle.sqlderived.proofs.Words.{IsAlikeButHeld, IsConsistent, IsHeldCounted, IsRecounted, key-get_by, option_map, option_map_or, registrar_in}
+use Rattle.sqlderived.proofs.Words.{row_of, same_int, same_some, test_from, unwrap_or, values}
 use Rattle.sqlite_keyed.specs.Keyed.{get_by}
-use Rattle.sqlite_keyed.proofs.KeyedLemmas.{key-get_by, same_int}
-use Rattle.sqlite_rules.proofs.ListLemmas.{test_from}
-use Rattle.objects.specs.declared.domain.Domain.{Domain}
-use Rattle.sqlcolumns.specs.Numbers.{is_place, registrar_in}
 use Rattle.sqlrows.proofs.RowLemmas.{all_with}
 use Rattle.accounts.specs.declared.account.Account.{Account}
-use Rattle.sqlcolumns.proofs.ReadLemmas.{same_some}
-use Rattle.sqlaccounts.specs.Accounts.{ident_and_held, row_of}
 use Rattle.sqlaccounts.specs.inner.Changes.{AreOthersKept, IsChange, IsOpened, opened_row}
 use Rattle.sqlaccounts.proofs.FindingLemmas.{equal}
-use Rattle.sqldomains.specs.Domains.{domains_of}
 use Rattle.sqlobjects.specs.inner.Changes.{with_named}
-use Rattle.sqlderived.specs.Held.{counts_where, has_right_held, held_of, helds_are_right, is_held_by, is_held_right}
-use Rattle.sqlderived.specs.inner.Recounts.{AreAlike, AreBoth, AreCounted, IsAlikeButHeld, IsHeldCounted, IsRecounted}
 use Rattle.sqlderived.proofs.CountLemmas.{count, count-put}
 use Rattle.sqltables.specs.Account as table
-use Rattle.sqltables.specs.declared.account.AccountRow.{AccountRow}
 use Rattle.sqlderived.proofs.NobodyLemmas.{holds-none}
-use Rattle.sqltables.specs.Content.{Content}
-use Rattle.sqltables.specs.inner.Consistent.{IsConsistent}
 
 abbrev key : AccountRow → ℤ
 key = table.accounts.key

@@ -1,13 +1,9 @@
 -- Whoever leaves and whoever comes, counted anew.
 use Rattle.std.proofs.Common.{◌≡◌, ℕ, ◌+◌, Option, sym, ap, ◌∙◌}
-use Rattle.objects.specs.declared.domain.Domain.{Domain}
-use Rattle.sqlderived.specs.declared.holders.Holders.{Holders}
-use Rattle.sqlderived.specs.Held.{counts_one, counts_where, is_held_by}
-use Rattle.sqlderived.specs.inner.Holders.{incoming_without, is_some_holder, is_written, maybe_holders_of, sponsor_without}
-use Rattle.sqlderived.specs.inner.Recounts.{IsCountedAnew, IsRecounted, counts_own}
+use Rattle.sqlderived.proofs.Words.{Content, counts_one, counts_own, counts_where, Domain, Holders, incoming_without, is_held_by, is_some_holder}
+use Rattle.sqlderived.proofs.Words.{is_written, IsCountedAnew, IsRecounted, maybe_holders_of, sponsor_without}
 use Rattle.sqlderived.proofs.HolderLemmas.{balanced, held-by, leaving}
 use Rattle.sqlderived.proofs.RecountLemmas.{anew-as}
-use Rattle.sqltables.specs.Content.{Content}
 
 module _ (written : Option ℕ) (before after : Option Domain) (p q : Option Holders) (first : p ≡ maybe_holders_of before) (second : q ≡ maybe_holders_of after) (a b c d : Option ℕ)
     (sponsor_left : a ≡ sponsor_without written p q) (incoming_left : b ≡ incoming_without written p q)

@@ -12,3 +12,4 @@ pub mod KeptLemmas
 pub mod NobodyLemmas
 pub mod PageLemmas
 pub mod HolderLemmas
+pub mod Words

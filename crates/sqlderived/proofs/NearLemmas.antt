@@ -1,66 +1,44 @@
 -- What is found near is, of all that is due, what is concerned.
 use Rattle.std.proofs.Common.{◌≡◌, ◌⊎◌, ⊎_elim, inl, inr, ℕ, ℤ, pos, take, Bool, true, false, cond, ◌&&◌, ◌||◌, ◌==◌, int_le, List, [], ◌∷◌, ◌++◌, filter, Option, Some, None, option_map, refl, sym, ap, subst, ◌∙◌}
-use Rattle.std.proofs.lemmas.Bool.{and_from, eqb-true, or_cases, or_parts}
 use Rattle.std.proofs.lemmas.List.Folds.{list_any-append}
 use Rattle.std.proofs.lemmas.Slice.Eq.{bytes_eq-Decides}
-use Rattle.std.specs.Cmp.Lexicographic.{slice_cmp}
-use Rattle.std.specs.FinMap.{FinMap, get}
-use Rattle.std.specs.List.{cons_option, filter_map, flat_map, list_any}
-use Rattle.std.specs.Option.{option_map_or}
-use Rattle.std.specs.Ordering.{nat_cmp}
 use Rattle.std.specs.Str as str
+use Rattle.sqlderived.proofs.Words.{and_from, AreDue, cons_option, contact_due_in_row, contact_read, contacts_of, contacts_until, Content}
+use Rattle.sqlderived.proofs.Words.{counter_column, days_of_rows, Domain, domain_due_shown, domain_read, DomainRow, domains_of, domains_until, Due}
+use Rattle.sqlderived.proofs.Words.{due_then, dues_are_right, eqb-true, filter-has, filter_map, FinMap, flat_map, get, Has, has-filter, has_either}
+use Rattle.sqlderived.proofs.Words.{has_left, has_right, is_pending_state, IsConsistent, last_transfer, list_any, names, nat_cmp, ObjectKind}
+use Rattle.sqlderived.proofs.Words.{option_map_or, or_cases, or_parts, PolicyRules, registrar_column, row_of_transfer, same_some, slice_cmp}
+use Rattle.sqlderived.proofs.Words.{some_has, Transfer, transfer_of_columns, transfer_written, with_rows}
 use Rattle.sqlite_keyed.specs.Rules.{points_to}
-use Rattle.sqlite_rules.specs.Lists.{Has}
-use Rattle.sqlite_rules.proofs.ListLemmas.{has_either, has_left, has_right, some_has}
 use Rattle.sqlite_typed.specs.Tests.{bytes_eq}
 use Rattle.accounts.proofs.LineLaws.{same-roids}
 use Rattle.accounts.specs.Lines.{is_same_roid}
 use Rattle.objects.specs.Links.{has_name, names_contact, names_host}
-use Rattle.objects.specs.Transfers.{is_pending_state, names}
 use Rattle.objects.specs.declared.contact.Contact.{Contact}
-use Rattle.objects.specs.declared.domain.Domain.{Domain}
-use Rattle.objects.specs.declared.roid.ObjectKind.{ObjectKind}
 use Rattle.objects.specs.declared.roid.ObjectKind.TheVariants as kinds
 use Rattle.objects.specs.declared.roid.Roid.{Roid}
-use Rattle.objects.specs.declared.transfer.Transfer.{Transfer}
-use Rattle.sqlcolumns.specs.Numbers.{counter_column, registrar_column}
-use Rattle.sqlcolumns.specs.Transfers.{row_of_transfer, transfer_of_columns}
 use Rattle.sqlcolumns.proofs.NumberLemmas.{registrar_written, serial_written}
-use Rattle.sqlcolumns.proofs.ReadLemmas.{same_some}
 use Rattle.sqlcolumns.proofs.RoidLemmas.{roid_read}
-use Rattle.sqlcolumns.proofs.TransferLemmas.{transfer_written}
-use Rattle.policy.specs.Rules.{PolicyRules}
 use Rattle.protocol.specs.Requests.{holds_of}
 use Rattle.concerns.specs.Concerns.{concerns_domain, contact_name, domain_name, domain_roid, is_about, is_at_stake, meant, read_at}
 use Rattle.concerns.specs.declared.given.Names.{Names}
-use Rattle.lifecycle.specs.declared.due_object.Due.{Due}
-use Rattle.lifecycle.specs.DueObjects.{due_then}
 use Rattle.concerns.specs.DueFor.{is_picked, picks}
 use Rattle.model.specs.Lapse.{Choice}
 use Rattle.sqltables.specs.Contact as contact_table
 use Rattle.sqltables.specs.declared.contact.ContactRow.{ContactRow}
-use Rattle.sqltables.specs.Content.{Content}
 use Rattle.sqltables.specs.Domain as domain_table
-use Rattle.sqltables.specs.declared.domain.DomainRow.{DomainRow}
 use Rattle.sqltables.specs.inner.Due.{falls_due}
 use Rattle.sqltables.specs.Link as link_table
 use Rattle.sqltables.specs.declared.link.LinkRow.{LinkRow}
 use Rattle.sqltables.specs.Transfer as transfer_table
 use Rattle.sqltables.specs.declared.transfer.TransferRow.{TransferRow}
-use Rattle.sqltables.specs.inner.Consistent.{IsConsistent}
 use Rattle.sqltables.proofs.RowLemmas.{bytes_same}
 use Rattle.sqlobjects.specs.inner.Stages.{NamedTable, named_contacts, named_domains, named_hosts, rows_named}
 use Rattle.sqlobjects.proofs.NewRowLemmas.{points-so}
-use Rattle.sqlobjects.specs.Objects.{contact_read, contacts_of, last_transfer}
-use Rattle.sqlobjects.proofs.PutLemmas.{filter-has, has-filter}
-use Rattle.sqldomains.specs.Domains.{domain_read, domains_of}
 use Rattle.sqldomains.proofs.AnswerLemmas.{equal}
 use Rattle.sqldomains.proofs.LeadingLemmas.{LinksContact, names-contact, names-host}
 use Rattle.sqldomains.proofs.NameOrderLemmas.{name-read, row-under, stands-there}
 use Rattle.sqldomains.proofs.SponsorLemmas.{parts, sponsor-read}
-use Rattle.sqlterms.specs.Terms.{days_of_rows}
-use Rattle.sqlderived.specs.Dues.{dues_are_right}
-use Rattle.sqlderived.specs.inner.Finding.{AreDue, contact_due_in_row, contacts_until, domain_due_shown, domains_until, with_rows}
 use Rattle.sqlderived.specs.inner.Near.{HasAllNear, concerned_in, contacts_led, contacts_near, domain_of_link, domains_alike, domains_by_names, domains_led, domains_near, domains_to_contact, domains_to_host, each_named, is_any, is_behind, pending_of}
 use Rattle.sqlderived.proofs.NobodyLemmas.{last-has}
 use Rattle.sqlderived.proofs.DueLemmas.{all-due, contact-row, contact-stands, contact-under, due-picked, never-before}

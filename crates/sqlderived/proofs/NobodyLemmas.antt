@@ -1,31 +1,14 @@
 -- Who has no account holds no domain.
 use Rattle.std.proofs.Common.{◌≡◌, inl, ℕ, ℤ, pos, Bool, true, false, not, ◌&&◌, ◌||◌, ◌==◌, List, [], ◌∷◌, filter, Option, Some, None, option_map, refl, sym, ap, ◌∙◌}
 use Rattle.std.proofs.Math.Bool.{and-false}
-use Rattle.std.proofs.lemmas.Bool.{eqb-true}
-use Rattle.std.specs.FinMap.{values}
+use Rattle.sqlderived.proofs.Words.{AccountRow, Content, Domain, domain_read, DomainRow, domains_of, eqb-true, get_by-has, Has, has-filter, held_of}
+use Rattle.sqlderived.proofs.Words.{is_held_by, is_incoming, is_pending_state, IsConsistent, last_transfer, registrar_column, row_of, same_some}
+use Rattle.sqlderived.proofs.Words.{Transfer, transfer_of_columns, transfer_with_domain, transfer_written, values}
 use Rattle.sqlite_keyed.proofs.ListLemmas.{none_counted}
-use Rattle.sqlite_rules.specs.Lists.{Has}
-use Rattle.objects.specs.declared.domain.Domain.{Domain}
-use Rattle.objects.specs.declared.transfer.Transfer.{Transfer}
-use Rattle.objects.specs.Transfers.{is_incoming, is_pending_state}
-use Rattle.sqlcolumns.specs.Numbers.{registrar_column}
-use Rattle.sqlcolumns.specs.Transfers.{transfer_of_columns}
-use Rattle.sqlcolumns.proofs.ReadLemmas.{same_some}
-use Rattle.sqlcolumns.proofs.TransferLemmas.{transfer_written}
-use Rattle.sqlaccounts.specs.Accounts.{row_of}
-use Rattle.sqlobjects.specs.Objects.{last_transfer}
-use Rattle.sqlobjects.proofs.PutLemmas.{get_by-has, has-filter}
-use Rattle.sqldomains.specs.Domains.{domain_read, domains_of}
 use Rattle.sqldomains.proofs.LinkedLemmas.{none-passes}
 use Rattle.sqldomains.proofs.SponsorLemmas.{parts, sponsor-read}
-use Rattle.sqlderived.specs.Held.{held_of, is_held_by}
 use Rattle.sqltables.specs.Account as account_table
-use Rattle.sqltables.specs.declared.account.AccountRow.{AccountRow}
-use Rattle.sqltables.specs.Content.{Content}
-use Rattle.sqltables.specs.declared.domain.DomainRow.{DomainRow}
-use Rattle.sqltables.specs.Transfer.{transfer_with_domain}
 use Rattle.sqltables.specs.declared.transfer.TransferRow.{TransferRow}
-use Rattle.sqltables.specs.inner.Consistent.{IsConsistent}
 
 -- what transfers mean is read of one of them
 pub last-has : (rows : List TransferRow) (x : Transfer) → last_transfer rows ≡ Some (Some x) → (row : TransferRow) × Has rows row × (transfer_of_columns row ≡ Some x)

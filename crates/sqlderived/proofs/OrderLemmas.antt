@@ -2,10 +2,7 @@
 use Rattle.std.proofs.Common.{◌≡◌, ◌⊎◌, inl, inr, List, [], ◌∷◌, Ordering, Less, Equal, Greater, refl, sym, ap, subst, ◌∙◌}
 use Rattle.std.specs.Prelude.{⊤}
 use Rattle.std.specs.BTreeSet.{insert_key}
-use Rattle.std.specs.Cmp.{IsTotalOrder}
-use Rattle.std.specs.FinMap.{IsAntisymmetric}
-use Rattle.std.specs.Ordering.{match_ordering, ordering_reverse}
-use Rattle.sqlite_rules.specs.Lists.{Has}
+use Rattle.sqlderived.proofs.Words.{Has, IsAntisymmetric, IsTotalOrder, match_ordering, ordering_reverse}
 
 module _ {K : Type 0} (R : K → K → Ordering) (o : IsTotalOrder R) (same : IsAntisymmetric R) where
   abbrev pub IsBelow : K → List K → Type 0

@@ -1,29 +1,13 @@
 -- What is due first is due by an earlier moment, if so much is.
 use Rattle.std.proofs.Common.{◌≡◌, ⊎_elim, ℕ, zero, suc, ◌<◌, ◌≤◌, Bool, true, false, cond, nat_le, nat_lt, length, take, List, [], ◌∷◌, filter, Option, Some, None, option_and_then, Result, Ok, Err, refl, sym, ap, ◌∙◌, arith}
-use Rattle.std.proofs.lemmas.Bool.Decides.{nat_tests}
 use Rattle.std.proofs.lemmas.Cmp.{ranked}
-use Rattle.std.specs.FinMap.{entries}
-use Rattle.std.specs.Ordering.{nat_cmp, ordering_then}
-use Rattle.std.specs.Cmp.Lexicographic.{slice_cmp}
-use Rattle.std.specs.declared.cmp.Ordering.{Ordering}
 use Rattle.std.specs.declared.cmp.Ordering.TheVariants.{Less, Equal, Greater}
+use Rattle.sqlderived.proofs.Words.{all_from, completes_at, contact_due, Content, domain_due, Due, due_at, due_by, due_cmp, due_then, entries}
+use Rattle.sqlderived.proofs.Words.{FindsIfRight, found_due, Has, kind_rank, nat_cmp, nat_tests, ObjectKind, Ordering, ordering_then, passed}
+use Rattle.sqlderived.proofs.Words.{PolicyRules, Reads, reads-on, same_some, slice_cmp, StateOf, stays-on}
 use Rattle.sqlite_keyed.proofs.ListLemmas.{filter_all, filter_none}
-use Rattle.sqlite_rules.specs.Lists.{Has}
-use Rattle.sqlite_rules.proofs.ListLemmas.{all_from}
-use Rattle.lifecycle.specs.Lapse.{completes_at, due_at}
-use Rattle.lifecycle.specs.Periods.{passed}
-use Rattle.lifecycle.specs.declared.due_object.Due.{Due}
-use Rattle.lifecycle.specs.DueObjects.{contact_due, domain_due, due_cmp, due_then, found_due, kind_rank}
-use Rattle.model.specs.DueBy.{due_by}
 use Rattle.model.specs.Registry.{Registry}
-use Rattle.objects.specs.declared.roid.ObjectKind.{ObjectKind}
-use Rattle.policy.specs.Rules.{PolicyRules}
 use Rattle.states.specs.declared.fault.BookFault.{BookFault}
-use Rattle.states.specs.States.{Reads, StateOf}
-use Rattle.sqlrows.specs.Meanings.{FindsIfRight}
-use Rattle.sqlrows.proofs.StateLemmas.{reads-on, stays-on}
-use Rattle.sqltables.specs.Content.{Content}
-use Rattle.sqlcolumns.proofs.ReadLemmas.{same_some}
 use Rattle.sqlderived.proofs.FoundLemmas.{ArePicked, InOrder, found-from, same-picked, tests-picked}
 
 -- ---- an order by moments

@@ -1,30 +1,17 @@
 -- What one row counted anew means, and one after another.
 use Rattle.std.proofs.Common.{◌≡◌, ℕ, ℤ, pos, ◌+◌, ◌+ℤ◌, Bool, true, false, cond, ◌==◌, ◌&&◌, Option, Some, None, refl, sym, ap, subst, ◌∙◌, arith, int_eq}
-use Rattle.std.proofs.lemmas.Bool.{eqb-true, eq-eqb}
-use Rattle.std.proofs.lemmas.Int.{ints}
-use Rattle.std.specs.Cmp.{both_ways}
-use Rattle.std.specs.FinMap.{get}
-use Rattle.std.specs.Option.{option_map_or, unwrap_or}
+use Rattle.sqlderived.proofs.Words.{account_of_row, AccountRow, accounts_of, AreAlike, AreBoth, AreCounted, both_ways, Content, counts_one}
+use Rattle.sqlderived.proofs.Words.{counts_own, eq-eqb, eqb-true, get, has_right_sums, HasChanged, Holders, ints, is_place, is_right, is_some_holder}
+use Rattle.sqlderived.proofs.Words.{IsAlikeButHeld, IsCountedAnew, IsHeldCounted, IsRowOf, key-get_by, option_map_or, row_of, same_int, StateOf}
+use Rattle.sqlderived.proofs.Words.{then-became, unwrap_or}
 use Rattle.sqlite_keyed.specs.Keyed.{insert_by}
-use Rattle.sqlite_keyed.proofs.KeyedLemmas.{key-get_by, same_int}
 use Rattle.accounts.specs.Account.{empty_account}
-use Rattle.sqlcolumns.specs.Numbers.{is_place}
-use Rattle.sqlaccounts.specs.Accounts.{account_of_row, accounts_of, has_right_sums, is_right, row_of}
 use Rattle.sqlaccounts.proofs.AccountLemmas.{accounts-put, get-found, kept_accounts, row_here, row_there, sums-put}
 use Rattle.sqlaccounts.proofs.FindingLemmas.{equal}
-use Rattle.states.specs.States.{StateOf}
-use Rattle.sqlrows.specs.Meanings.{HasChanged}
-use Rattle.sqlrows.proofs.StateLemmas.{then-became}
 use Rattle.sqltables.proofs.PuttingLemmas.{put-twice}
-use Rattle.sqlderived.specs.declared.holders.Holders.{Holders}
 use Rattle.sqlderived.specs.declared.recounting.Unwritten.{Unwritten}
-use Rattle.sqlderived.specs.Held.{counts_one}
-use Rattle.sqlderived.specs.inner.Holders.{is_some_holder}
-use Rattle.sqlderived.specs.inner.Recounts.{AreAlike, AreBoth, AreCounted, IsAlikeButHeld, IsCountedAnew, IsHeldCounted, counts_own}
-use Rattle.sqlaccounts.specs.inner.Posting.{IsRowOf, with_row}
+use Rattle.sqlaccounts.specs.inner.Posting.{with_row}
 use Rattle.sqltables.specs.Account as table
-use Rattle.sqltables.specs.declared.account.AccountRow.{AccountRow}
-use Rattle.sqltables.specs.Content.{Content}
 use Rattle.sqltables.specs.inner.Content.{accounts_to}
 
 abbrev key : AccountRow → ℤ

@@ -1,30 +1,18 @@
 -- Columns of deleted domains, and what no length bears on.
 use Rattle.std.proofs.Common.{◌≡◌, ◌||◌, ◌==◌, ℕ, ℤ, pos, negsuc, Bool, true, false, cond, int_eq, is_some, List, filter, Option, Some, None, refl, sym, ap, ◌∙◌, true≢false, arith}
-use Rattle.std.proofs.lemmas.Bool.Decides.{nat_tests}
-use Rattle.std.proofs.lemmas.Int.{ints}
-use Rattle.std.specs.List.{list_all}
-use Rattle.std.specs.Option.{option_map_or}
+use Rattle.sqlderived.proofs.Words.{completes_at, Content, days_of_rows, domain_read, DomainRow, due_at, due_of, dues_are_right, earlier, ints}
+use Rattle.sqlderived.proofs.Words.{is_due_right, is_end, is_timed, last_transfer, links_of, list_all, moment_in_column, nat_tests, option_map_or}
+use Rattle.sqlderived.proofs.Words.{rules_with, step, transfer_with_domain}
 use Rattle.calendar.specs.Moment.{capped, is_moment}
 use Rattle.sqlcolumns.specs.Domains.{deletion_in}
-use Rattle.sqlcolumns.specs.Numbers.{moment_in_column}
 use Rattle.sqlcolumns.proofs.DomainLemmas.{deletion_reads}
-use Rattle.sqlcolumns.proofs.ReadLemmas.{step}
-use Rattle.lifecycle.specs.Lapse.{completes_at, due_at, due_of, earlier}
-use Rattle.lifecycle.specs.Periods.{rules_with}
 use Rattle.lifecycle.specs.Phases.{purge_at}
 use Rattle.objects.specs.Domains.{expiry}
 use Rattle.objects.specs.declared.domain.Deletion.{Deletion}
 use Rattle.objects.specs.declared.domain.Domain as object
 use Rattle.policy.specs.declared.schedule.Schedule.{Schedule}
-use Rattle.sqltables.specs.Content.{Content}
-use Rattle.sqltables.specs.declared.domain.DomainRow.{DomainRow}
-use Rattle.sqltables.specs.Transfer.{transfer_with_domain}
-use Rattle.sqlobjects.specs.Objects.{last_transfer}
 use Rattle.sqlobjects.proofs.VerdictLemmas.{all-alike, all-pass, each-passes}
-use Rattle.sqldomains.specs.Domains.{domain_read, links_of}
-use Rattle.sqlterms.specs.Terms.{days_of_rows}
-use Rattle.sqlderived.specs.Dues.{dues_are_right, is_due_right}
-use Rattle.sqlderived.specs.Redates.{ends_are, is_end, is_live_right, is_timed, lives_are_right, of_deletion}
+use Rattle.sqlderived.specs.Redates.{ends_are, is_live_right, lives_are_right, of_deletion}
 
 -- a domain that reads is deleted as its row says
 deletion-read : (xs : Content) (row : DomainRow) (d : object.Domain) → domain_read xs row ≡ Some d

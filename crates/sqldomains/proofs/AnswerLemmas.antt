@@ -1,19 +1,12 @@
 -- What is answered to whether a contact, or a host, is linked.
 use Rattle.std.proofs.Common.{◌≡◌, ⊎_elim, inl, ℕ, ℤ, Bool, true, false, List, [], ◌∷◌, filter, Option, Some, None, refl, sym, ap, subst, ◌∙◌, int_eq, take}
-use Rattle.std.proofs.lemmas.Bool.{false_from_ne_true}
 use Rattle.std.proofs.lemmas.Bool.Decides.{Decides-int_eq}
+use Rattle.sqldomains.proofs.Words.{bytes_same, Content, false_from_ne_true, filter-has, Has, has-filter, IsConsistent, IsNamedBy, IsNoContact}
+use Rattle.sqldomains.proofs.Words.{IsNumberOf, link_with_contact, link_with_host, named_contacts, named_hosts, NamedTable, names_contact}
+use Rattle.sqldomains.proofs.Words.{names_host, some_domain_names_contact, some_domain_names_host}
 use Rattle.sqlite_keyed.specs.Rules.{points_to}
-use Rattle.sqlite_rules.specs.Lists.{Has}
 use Rattle.sqlite_typed.specs.Tests.{bytes_eq}
-use Rattle.objects.specs.Links.{names_contact, names_host}
-use Rattle.sqltables.specs.Content.{Content}
 use Rattle.sqltables.specs.Domain as table
-use Rattle.sqltables.specs.Link.{link_with_contact, link_with_host}
-use Rattle.sqltables.specs.inner.Consistent.{IsConsistent, IsNamedBy}
-use Rattle.sqltables.proofs.RowLemmas.{bytes_same}
-use Rattle.sqlobjects.specs.inner.Stages.{NamedTable, named_contacts, named_hosts}
-use Rattle.sqlobjects.proofs.PutLemmas.{filter-has, has-filter}
-use Rattle.sqldomains.specs.inner.Links.{IsNoContact, IsNumberOf, some_domain_names_contact, some_domain_names_host}
 use Rattle.sqldomains.proofs.LeadingLemmas.{LinksContact, names-contact, names-host}
 use Rattle.sqldomains.proofs.LinkedLemmas.{none-passes}
 

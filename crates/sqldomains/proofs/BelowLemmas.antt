@@ -1,26 +1,15 @@
 -- The hosts below a domain are found among those with its last two labels, if it has two.
 use Rattle.std.proofs.Common.{◌≡◌, inl, inr, ℕ, ◌≤◌, Bool, true, false, cond, List, [], ◌∷◌, map, filter, Option, Some, None, option_map, count_by, is_some, ◌==◌, refl, ap, subst, ◌∙◌}
-use Rattle.std.specs.FinMap.{empty, get, keys}
 use Rattle.std.specs.Str as str
-use Rattle.std.proofs.lemmas.Bool.{ltb-true}
-use Rattle.std.proofs.lemmas.Slice.Eq.{bytes_eq-Decides}
-use Rattle.sqlite_rules.specs.Lists.{Has}
-use Rattle.objects.specs.declared.host.Host.{Host}
-use Rattle.objects.specs.Hosts.{is_below}
+use Rattle.sqldomains.proofs.Words.{addresses_of, bytes_eq-Decides, bytes_is, bytes_same, Content, empty, filter-has, get, Has, has-filter, Host}
+use Rattle.sqldomains.proofs.Words.{host_read, host_standing, HostRow, hosts_below, hosts_of, is_below, is_dotted, keys, ltb-true, Named}
+use Rattle.sqldomains.proofs.Words.{rows_around, statuses_in, with_read, ◌>>=◌}
 use Rattle.sqlcolumns.specs.Above.{above}
 use Rattle.sqlcolumns.specs.Hosts.{columns_in, host_with}
-use Rattle.sqlcolumns.specs.Steps.{◌>>=◌}
-use Rattle.sqlcolumns.specs.Texts.{statuses_in}
 use Rattle.sqlcolumns.proofs.AboveLemmas.{same_above}
 use Rattle.sqlcolumns.proofs.ReadLemmas as reading
-use Rattle.sqltables.specs.Content.{Content}
 use Rattle.sqltables.specs.Host as table
-use Rattle.sqltables.specs.declared.host.HostRow.{HostRow}
-use Rattle.sqltables.proofs.RowLemmas.{bytes_same}
-use Rattle.sqlobjects.specs.Objects.{addresses_of, host_read, hosts_of}
 use Rattle.sqlobjects.proofs.NameLemmas.{host-named}
-use Rattle.sqlobjects.proofs.PutLemmas.{bytes_is, filter-has, has-filter}
-use Rattle.sqldomains.specs.inner.Names.{Named, host_standing, hosts_below, is_dotted, rows_around, with_read}
 use Rattle.sqldomains.proofs.LinkedLemmas.{first-has}
 use Rattle.sqldomains.proofs.NameOrderLemmas.{by-rows, gives, keys-where}
 

@@ -1,23 +1,11 @@
 -- What a zone has of the domains, gathered row by row, is what it has of each.
 use Rattle.std.proofs.Common.{◌≡◌, ℕ, true, List, map, Option, Some, None, option_map, refl, sym, ap, subst, ◌∙◌}
-use Rattle.std.specs.Cmp.Lexicographic.{nat_list_cmp_total, slice_cmp}
-use Rattle.std.specs.FinMap.{entries, get, same_map, values}
-use Rattle.std.specs.Ordering.{nat_cmp}
-use Rattle.sqlite_keyed.proofs.ListLemmas.{map-map}
-use Rattle.sqlite_rules.specs.Lists.{Has}
+use Rattle.sqldomains.proofs.Words.{bytes_same, Content, delegated, delegation_read, delegations_of_rows, Domain, domain_read, DomainRow, domains_of}
+use Rattle.sqldomains.proofs.Words.{entries, entries-map_values, get, get-map_values, Has, IsAllOfRows, IsConsistent, map-map, Named, names_apart}
+use Rattle.sqldomains.proofs.Words.{nat_cmp, nat_list_cmp_total, same_map, same_some, slice_cmp, values}
 use Rattle.basis.specs.Maps.{map_values}
-use Rattle.basis.proofs.MapLemmas.{entries-map_values, get-map_values, names_apart}
-use Rattle.objects.specs.declared.domain.Domain.{Domain}
 use Rattle.objects.specs.declared.zone.Delegation.{Delegation}
 use Rattle.objects.specs.Delegations.{delegation_of}
-use Rattle.sqlcolumns.proofs.ReadLemmas.{same_some}
-use Rattle.sqltables.specs.Content.{Content}
-use Rattle.sqltables.specs.declared.domain.DomainRow.{DomainRow}
-use Rattle.sqltables.specs.inner.Consistent.{IsConsistent}
-use Rattle.sqltables.proofs.RowLemmas.{bytes_same}
-use Rattle.sqldomains.specs.Domains.{domain_read, domains_of}
-use Rattle.sqldomains.specs.inner.Delegations.{IsAllOfRows, delegated, delegation_read, delegations_of_rows}
-use Rattle.sqldomains.specs.inner.Names.{Named}
 use Rattle.sqldomains.proofs.NameOrderLemmas.{by-rows, gives, name-read, row-under, stands-there}
 
 module _ (xs : Content) (consistent : IsConsistent xs) where

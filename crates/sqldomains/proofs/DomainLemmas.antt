@@ -1,42 +1,23 @@
 -- What rows of domains mean after a change.
 use Rattle.std.proofs.Common.{◌≡◌, ℕ, ℤ, pos, false, List, [], ◌∷◌, filter, Option, Some, None, option_map, refl, sym, ap, subst, ◌∙◌, int_eq}
-use Rattle.std.specs.FinMap.{from_entries}
-use Rattle.std.specs.List.{filter_map}
-use Rattle.sqlite_keyed.specs.Lists.{delete_where}
-use Rattle.sqlite_rules.specs.Lists.{Has}
+use Rattle.sqldomains.proofs.Words.{are_dated, AreLinksCleared, AreLinksPut, AreOtherNamesKept, AreOtherPartsKept, bytes_same, columns_with}
+use Rattle.sqldomains.proofs.Words.{contact_entry, contact_name_by_number, contact_read, contacts_of, Content, dated, delete_where, Domain}
+use Rattle.sqldomains.proofs.Words.{domain_of_columns, domain_read, DomainRow, domains_of, domains_to, filter-has, filter_map, from_entries, Has}
+use Rattle.sqldomains.proofs.Words.{host_name_by_number, hosts_of, IsConsistent, IsDomainDropped, IsDomainPlaced, IsDomainPut, IsDomainRemoved}
+use Rattle.sqldomains.proofs.Words.{IsPlaced, IsTransferCleared, IsTransferPut, last_transfer, link_with_domain, maybe_registrar_column}
+use Rattle.sqldomains.proofs.Words.{moment_column, named, passed, registrant_alone, registrar_column, registration_columns, row_beside, row_there}
+use Rattle.sqldomains.proofs.Words.{rows_of, same_some, sponsor_in, step, transfer_with_contact, transfer_with_domain, with_links, with_named, ◌>>=◌}
 use Rattle.sqlite_typed.specs.Tests.{bytes_eq}
-use Rattle.objects.specs.declared.domain.Domain.{Domain}
 use Rattle.objects.specs.declared.roid.ObjectKind.TheVariants as kinds
 use Rattle.sqlcolumns.specs.Contacts.{contact_of_columns}
 use Rattle.sqlcolumns.specs.inner.Domains.{IsDomain, deletion_columns, domain_registration, domain_row_with}
-use Rattle.sqlcolumns.specs.Domains.{domain_of_columns}
-use Rattle.sqlcolumns.specs.Numbers.{maybe_registrar_column, moment_column, registrar_column}
-use Rattle.sqlcolumns.specs.Registrations.{columns_with, registration_columns}
 use Rattle.sqlcolumns.specs.Roids.{roid_columns}
-use Rattle.sqlcolumns.specs.Steps.{◌>>=◌}
 use Rattle.sqlcolumns.proofs.DomainLemmas.{domain_back}
-use Rattle.sqlcolumns.proofs.ReadLemmas.{passed, same_some, step}
 use Rattle.sqltables.specs.declared.contact.ContactRow.{ContactRow}
-use Rattle.sqltables.specs.Content.{Content}
-use Rattle.sqltables.specs.inner.Content.{domains_to}
 use Rattle.sqltables.specs.Domain as table
-use Rattle.sqltables.specs.declared.domain.DomainRow.{DomainRow}
-use Rattle.sqltables.specs.Link.{link_with_domain}
-use Rattle.sqltables.specs.Transfer.{transfer_with_contact, transfer_with_domain}
-use Rattle.sqltables.specs.inner.Consistent.{IsConsistent}
-use Rattle.sqltables.proofs.RowLemmas.{bytes_same}
-use Rattle.sqlrows.specs.Read.{named, rows_of}
-use Rattle.sqlobjects.specs.Changes.{contact_name_by_number, host_name_by_number}
-use Rattle.sqlobjects.specs.inner.Changes.{with_named}
-use Rattle.sqlobjects.specs.Objects.{contact_entry, contact_read, contacts_of, hosts_of, last_transfer}
-use Rattle.sqlobjects.specs.inner.Stages.{AreOtherNamesKept, IsPlaced}
 use Rattle.sqlobjects.specs.declared.transfers.Transferable.TheVariants as transferable
-use Rattle.sqlobjects.specs.inner.Transfers.{IsTransferCleared, IsTransferPut}
-use Rattle.sqlobjects.proofs.PutLemmas.{apart, drop-stands, map_of, none-stands, others-removed, none-removed, put-stands, row_there, filter-has}
+use Rattle.sqlobjects.proofs.PutLemmas.{apart, drop-stands, map_of, none-stands, others-removed, none-removed, put-stands}
 use Rattle.sqldomains.specs.declared.domain_rows.DerivedColumns.{DerivedColumns}
-use Rattle.sqldomains.specs.inner.Changes.{IsDomainPut, sponsor_in}
-use Rattle.sqldomains.specs.Domains.{are_dated, dated, domain_read, domains_of, registrant_alone, with_links}
-use Rattle.sqldomains.specs.inner.Stages.{AreLinksCleared, AreLinksPut, AreOtherPartsKept, IsDomainDropped, IsDomainPlaced, IsDomainRemoved, row_beside}
 use Rattle.sqldomains.proofs.LinkLemmas.{links-alike, name-where, read-where}
 
 abbrev name_of : DomainRow → List ℕ

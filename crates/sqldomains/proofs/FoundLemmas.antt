@@ -2,26 +2,15 @@
 -- that reads has of its rows.
 use Rattle.std.proofs.Common.{◌≡◌, ℕ, List, Option, Some, Result, Ok, Err, true, sym, ap, ◌∙◌}
 use Rattle.std.specs.Prelude.{filter}
-use Rattle.std.specs.FinMap.{get}
-use Rattle.objects.specs.declared.domain.Domain.{Domain}
+use Rattle.sqldomains.proofs.Words.{Content, deletion_in, Domain, domain_read, domain_registration_columns, domain_with, DomainRow, domains_of}
+use Rattle.sqldomains.proofs.Words.{Finds, finds-on, FindsSome, first_read, get, last_transfer, links_of, maybe_moment_in, moment_in_column, Reads}
+use Rattle.sqldomains.proofs.Words.{reads-on, registrar_in, registration_in, same_some, StateOf, statuses_in, stays-on, step, transfer_with_domain}
+use Rattle.sqldomains.proofs.Words.{years_in_column}
 use Rattle.objects.specs.declared.roid.ObjectKind.TheVariants as kinds
-use Rattle.sqlcolumns.specs.Domains.{deletion_in, domain_registration_columns, domain_with}
-use Rattle.sqlcolumns.specs.Numbers.{maybe_moment_in, moment_in_column, registrar_in, years_in_column}
-use Rattle.sqlcolumns.specs.Registrations.{registration_in}
 use Rattle.sqlcolumns.specs.Roids.{roid_in}
-use Rattle.sqlcolumns.specs.Texts.{statuses_in}
-use Rattle.sqlcolumns.proofs.ReadLemmas.{same_some, step}
-use Rattle.sqltables.specs.Content.{Content}
 use Rattle.sqltables.specs.Domain as table
-use Rattle.sqltables.specs.declared.domain.DomainRow.{DomainRow}
-use Rattle.sqltables.specs.Transfer.{transfer_with_domain}
 use Rattle.states.specs.declared.fault.BookFault.{BookFault}
-use Rattle.states.specs.States.{Finds, FindsSome, Reads, StateOf}
-use Rattle.sqlrows.specs.Read.{first_read}
 use Rattle.sqlrows.proofs.NameLemmas.{stands}
-use Rattle.sqlrows.proofs.StateLemmas.{finds-on, reads-on, stays-on}
-use Rattle.sqlobjects.specs.Objects.{last_transfer}
-use Rattle.sqldomains.specs.Domains.{domain_read, domains_of, links_of}
 
 pub domain-named : (xs : Content) (name : List ℕ) → first_read (domain_read xs) (filter (table.domain_with_name name) xs.domains) ≡ get (domains_of xs) name
 domain-named xs name = stands (λ (r : DomainRow). r.name) (domain_read xs) name xs.domains

@@ -1,29 +1,14 @@
 -- Domains are as they were where a contact or a host is put or dropped: what refers to one leads to the
 -- same name as before.
 use Rattle.std.proofs.Common.{◌≡◌, inl, inr, ℕ, ℤ, Bool, true, false, cond, List, [], ◌∷◌, map, filter, Option, Some, None, option_map, refl, ap, ◌∙◌}
-use Rattle.std.specs.FinMap.{from_entries}
-use Rattle.std.specs.List.{cons_option, filter_map}
-use Rattle.sqlite_keyed.specs.Keyed.{get_by}
-use Rattle.sqlite_keyed.proofs.KeyedLemmas.{get_by-update_where}
-use Rattle.sqlite_rules.specs.Lists.{Has}
+use Rattle.sqldomains.proofs.Words.{cons_option, contact_name_by_number, Content, domain_entry, domain_read, DomainRow, domains_of, filter_map}
+use Rattle.sqldomains.proofs.Words.{from_entries, get_by, get_by-update_where, Has, has-filter, Host, host_name_by_number, HostRow, IsContactPut}
+use Rattle.sqldomains.proofs.Words.{IsHostPut, link_with_domain, LinkRow, maybe_registrar_column, named, named_contacts, named_hosts}
+use Rattle.sqldomains.proofs.Words.{transfer_with_domain}
 use Rattle.objects.specs.declared.contact.Contact.{Contact}
-use Rattle.objects.specs.declared.host.Host.{Host}
-use Rattle.sqlcolumns.specs.Numbers.{maybe_registrar_column}
 use Rattle.sqlcolumns.specs.Transfers.{is_same}
-use Rattle.sqltables.specs.Content.{Content}
-use Rattle.sqltables.specs.declared.domain.DomainRow.{DomainRow}
 use Rattle.sqltables.specs.Host as host_table
-use Rattle.sqltables.specs.declared.host.HostRow.{HostRow}
-use Rattle.sqltables.specs.Link.{link_with_domain}
-use Rattle.sqltables.specs.declared.link.LinkRow.{LinkRow}
-use Rattle.sqltables.specs.Transfer.{transfer_with_domain}
-use Rattle.sqlrows.specs.Read.{named}
-use Rattle.sqlobjects.specs.inner.Changes.{IsContactPut, IsHostPut}
-use Rattle.sqlobjects.specs.inner.Stages.{named_contacts, named_hosts}
-use Rattle.sqlobjects.specs.Changes.{contact_name_by_number, host_name_by_number}
 use Rattle.sqlobjects.specs.Sponsors.{IsSponsorSetBelow, sponsor_by_name, takes_sponsor, with_sponsor}
-use Rattle.sqlobjects.proofs.PutLemmas.{has-filter}
-use Rattle.sqldomains.specs.Domains.{domain_entry, domain_read, domains_of}
 use Rattle.sqldomains.proofs.LinkLemmas.{name-where, read-where}
 use Rattle.sqldomains.proofs.NumberLemmas.{name-kept}
 

@@ -1,28 +1,11 @@
 -- What leads from the row of a domain to what the domain names, and when it says that it is due.
 use Rattle.std.proofs.Common.{◌≡◌, ◌⊎◌, ⊎_elim, inl, inr, ℕ, ℤ, true, false, ◌||◌, List, filter, Option, Some, None, refl, sym, ap, ◌∙◌, true≢false}
-use Rattle.std.proofs.lemmas.Bool.{or_cases}
-use Rattle.std.proofs.lemmas.Slice.Eq.{bytes_eq-Decides}
-use Rattle.std.specs.Ordering.{int_eq}
 use Rattle.std.specs.Str as str
-use Rattle.sqlite_keyed.proofs.KeyedLemmas.{same_int}
-use Rattle.sqlite_rules.specs.Lists.{Has}
-use Rattle.objects.specs.declared.domain.Domain.{Domain}
-use Rattle.objects.specs.Links.{has_name, names_contact, names_host}
-use Rattle.sqlcolumns.specs.declared.code.Role.{Role}
+use Rattle.sqldomains.proofs.Words.{alone, bytes_eq-Decides, contact_name_by_number, Content, Domain, domain_read, DomainRow, each-passes, Has}
+use Rattle.sqldomains.proofs.Words.{has-filter, has_name, HasLinkRows, host_name_by_number, HostRow, int_eq, link_with_domain, LinkRow}
+use Rattle.sqldomains.proofs.Words.{named_contacts, named_hosts, names_contact, names_host, or_cases, registrant_alone, Role, same_int, ◌>>=◌}
 use Rattle.sqlcolumns.specs.declared.code.Role.TheVariants as roles
-use Rattle.sqlcolumns.specs.Steps.{◌>>=◌}
 use Rattle.sqltables.specs.declared.contact.ContactRow.{ContactRow}
-use Rattle.sqltables.specs.Content.{Content}
-use Rattle.sqltables.specs.declared.domain.DomainRow.{DomainRow}
-use Rattle.sqltables.specs.declared.host.HostRow.{HostRow}
-use Rattle.sqltables.specs.Link.{link_with_domain}
-use Rattle.sqltables.specs.declared.link.LinkRow.{LinkRow}
-use Rattle.sqlobjects.specs.Changes.{contact_name_by_number, host_name_by_number}
-use Rattle.sqlobjects.specs.inner.Stages.{named_contacts, named_hosts}
-use Rattle.sqlobjects.proofs.PutLemmas.{has-filter}
-use Rattle.sqlobjects.proofs.VerdictLemmas.{each-passes}
-use Rattle.sqldomains.specs.Domains.{alone, domain_read, registrant_alone}
-use Rattle.sqldomains.specs.inner.Stages.{HasLinkRows}
 use Rattle.sqldomains.proofs.FoundLemmas.{parts}
 use Rattle.sqldomains.proofs.LinkedLemmas.{IsLedTo, all-rows, links-led, names_in}
 use Rattle.sqldomains.proofs.NumberLemmas.{row-named}

@@ -14,3 +14,4 @@ pub mod PageLemmas
 pub mod BelowLemmas
 pub mod SponsorLemmas
 pub mod RenamedLemmas
+pub mod Words

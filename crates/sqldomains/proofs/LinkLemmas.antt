@@ -1,20 +1,9 @@
 -- What rows of links lead to, and what they then read as, where their numbers lead to the same names.
 use Rattle.std.proofs.Common.{◌≡◌, ℤ, Bool, true, false, cond, List, [], ◌∷◌, filter, Option, Some, None, inl, inr, refl, ap, ◌∙◌}
-use Rattle.sqlite_rules.specs.Lists.{Has}
-use Rattle.objects.specs.declared.domain.Links.{Links}
-use Rattle.sqlcolumns.specs.declared.code.Role.{Role}
+use Rattle.sqldomains.proofs.Words.{alone, are_dated, contact_name_by_number, Content, dated, domain_of_columns, domain_read, DomainRow, Has}
+use Rattle.sqldomains.proofs.Words.{host_name_by_number, last_transfer, link_with_domain, linked_name, LinkRow, Links, registrant_alone, Role}
+use Rattle.sqldomains.proofs.Words.{role_in, transfer_with_domain, with_linked_name, with_links, ◌>>=◌}
 use Rattle.sqlcolumns.specs.declared.code.Role.TheVariants as roles
-use Rattle.sqlcolumns.specs.Codes.{role_in}
-use Rattle.sqlcolumns.specs.Domains.{domain_of_columns}
-use Rattle.sqlcolumns.specs.Steps.{◌>>=◌}
-use Rattle.sqltables.specs.Content.{Content}
-use Rattle.sqltables.specs.declared.domain.DomainRow.{DomainRow}
-use Rattle.sqltables.specs.Link.{link_with_domain}
-use Rattle.sqltables.specs.declared.link.LinkRow.{LinkRow}
-use Rattle.sqltables.specs.Transfer.{transfer_with_domain}
-use Rattle.sqlobjects.specs.Changes.{contact_name_by_number, host_name_by_number}
-use Rattle.sqlobjects.specs.Objects.{last_transfer}
-use Rattle.sqldomains.specs.Domains.{alone, are_dated, dated, domain_read, linked_name, registrant_alone, with_linked_name, with_links}
 
 alone-alike : {X : Type 0} (number other : Option ℤ) (f g : ℤ → Option X) → ((id : ℤ) → number ≡ Some id → f id ≡ g id) → (alone number other >>= f) ≡ (alone number other >>= g)
 alone-alike None None f g same = refl

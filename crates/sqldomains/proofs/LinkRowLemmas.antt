@@ -1,29 +1,16 @@
 -- Rows that lead from a domain, removed and added.
 use Rattle.std.proofs.Common.{◌≡◌, ◌+◌, ◌<◌, get_or, length, take, inl, inr, ℕ, ℤ, Bool, true, false, true≢false, cond, List, [], ◌∷◌, ◌++◌, map, filter, fold, Option, Some, None, refl, sym, ap, subst, ◌∙◌, append_assoc, int_eq}
 use Rattle.std.proofs.lemmas.Bool.Decides.{Decides-int_eq}
-use Rattle.std.proofs.lemmas.List.{append-nil, take_more}
+use Rattle.sqldomains.proofs.Words.{all-changed, all-pass, append-nil, are_dated, AreLinksCleared, AreLinksPutOver, AreNamesAdded, AreOtherLinksKept}
+use Rattle.sqldomains.proofs.Words.{Content, delete_where, filter-append, filter-append_pass, filter-delete, filter-deleted, filter-map, filter_same}
+use Rattle.sqldomains.proofs.Words.{Has, has-filter, HasLinkRows, in_places, int_eq_apart, IsLinkTo, link_with_domain, linked_name, LinkRow, Links}
+use Rattle.sqldomains.proofs.Words.{links_to, list_all_push, next_key, placed, registrant_alone, Role, role_in, same_int, take_more, update_where}
+use Rattle.sqldomains.proofs.Words.{with_link_read, with_linked_name, with_links, with_names, ◌>>=◌}
 use Rattle.sqlrows.specs.inner.Layouts.{appended}
-use Rattle.sqlite_keyed.specs.Keyed.{next_key}
-use Rattle.sqlite_keyed.specs.Lists.{delete_where, update_where}
-use Rattle.sqlite_keyed.proofs.KeyedLemmas.{int_eq_apart, same_int}
-use Rattle.sqlite_keyed.proofs.ListLemmas.{filter-map, filter_same, list_all_push}
-use Rattle.sqlite_rules.specs.Lists.{Has}
-use Rattle.objects.specs.declared.domain.Links.{Links}
-use Rattle.sqlcolumns.specs.declared.code.Role.{Role}
 use Rattle.sqlcolumns.specs.declared.code.Role.TheVariants as roles
-use Rattle.sqlcolumns.specs.Codes.{role_in}
-use Rattle.sqlcolumns.specs.Steps.{◌>>=◌}
 use Rattle.sqlcolumns.proofs.CodeLemmas.{role_back}
-use Rattle.sqltables.specs.Content.{Content}
-use Rattle.sqltables.specs.inner.Content.{links_to}
 use Rattle.sqltables.specs.Link as table
-use Rattle.sqltables.specs.Link.{link_with_domain}
-use Rattle.sqltables.specs.declared.link.LinkRow.{LinkRow}
-use Rattle.sqlobjects.proofs.PutLemmas.{filter-append, filter-append_pass, filter-delete, filter-deleted, has-filter}
-use Rattle.sqlobjects.proofs.VerdictLemmas.{all-changed, all-pass}
 use Rattle.sqldomains.specs.declared.comparison.LinkComparison.TheVariants as comparisons
-use Rattle.sqldomains.specs.Domains.{are_dated, in_places, linked_name, placed, registrant_alone, with_link_read, with_linked_name, with_links}
-use Rattle.sqldomains.specs.inner.Stages.{AreLinksCleared, AreLinksPutOver, AreNamesAdded, AreOtherLinksKept, IsLinkTo, HasLinkRows, with_names}
 use Rattle.sqldomains.proofs.LinkLemmas.{links-alike}
 use Rattle.sqldomains.proofs.LinkedLemmas.{registrant-more}
 

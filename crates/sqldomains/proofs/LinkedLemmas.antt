@@ -1,39 +1,19 @@
 -- What the domain of a row names, by the rows that lead from it, and whether any domain passes a test.
 use Rattle.std.proofs.Common.{◌≡◌, ◌⊎◌, ⊎_elim, inl, inr, ℕ, Bool, true, false, ◌||◌, cond, List, [], ◌∷◌, ◌++◌, map, filter, Option, Some, None, refl, sym, ap, ◌∙◌}
 use Rattle.std.proofs.Math.Bool.{or-false, or_comm}
-use Rattle.std.proofs.lemmas.Bool.{or_cases}
 use Rattle.std.proofs.lemmas.List.Folds.{list_any-append}
-use Rattle.std.proofs.lemmas.Slice.Eq.{bytes_eq-Decides}
-use Rattle.std.specs.Cmp.Lexicographic.{nat_list_cmp_total, slice_cmp}
-use Rattle.std.specs.FinMap.{entries, get, values}
-use Rattle.std.specs.List.{list_any}
-use Rattle.std.specs.Ordering.{nat_cmp}
 use Rattle.std.specs.Str as str
-use Rattle.sqlite_rules.specs.Lists.{Has}
+use Rattle.sqldomains.proofs.Words.{are_dated, bytes_eq-Decides, contact_name_by_number, Content, dated, Domain, domain_read, DomainRow, domains_of}
+use Rattle.sqldomains.proofs.Words.{entries, first_read, get, Has, has-filter, has_name, HasLinkRows, IsConsistent, link_with_domain, linked_name}
+use Rattle.sqldomains.proofs.Words.{LinkRow, Links, links_of, list_any, names_apart, nat_cmp, nat_list_cmp_total, only_named, or_cases, or_else}
+use Rattle.sqldomains.proofs.Words.{PassesTest, placed, registrant_alone, Role, role_in, same_some, slice_cmp, step, values, with_link_read}
+use Rattle.sqldomains.proofs.Words.{with_linked_name, with_links, ◌>>=◌}
 use Rattle.basis.specs.Bag.{add, precedes}
 use Rattle.basis.proofs.BagLaws.{any-add}
 use Rattle.basis.proofs.EntryLaws.{Each, among_values, each_entry}
-use Rattle.basis.proofs.MapLemmas.{names_apart}
-use Rattle.objects.specs.declared.domain.Domain.{Domain}
-use Rattle.objects.specs.declared.domain.Links.{Links}
-use Rattle.objects.specs.Links.{has_name}
-use Rattle.sqlcolumns.specs.declared.code.Role.{Role}
 use Rattle.sqlcolumns.specs.declared.code.Role.TheVariants as roles
-use Rattle.sqlcolumns.specs.Codes.{role_in}
-use Rattle.sqlcolumns.specs.Steps.{◌>>=◌}
-use Rattle.sqlcolumns.proofs.ReadLemmas.{kept, same_some, step}
-use Rattle.sqltables.specs.Content.{Content}
+use Rattle.sqlcolumns.proofs.ReadLemmas.{kept}
 use Rattle.sqltables.specs.Domain as table
-use Rattle.sqltables.specs.declared.domain.DomainRow.{DomainRow}
-use Rattle.sqltables.specs.Link.{link_with_domain}
-use Rattle.sqltables.specs.declared.link.LinkRow.{LinkRow}
-use Rattle.sqltables.specs.inner.Consistent.{IsConsistent}
-use Rattle.sqlrows.specs.Read.{first_read, or_else}
-use Rattle.sqlobjects.specs.Changes.{contact_name_by_number}
-use Rattle.sqlobjects.proofs.PutLemmas.{has-filter, only_named}
-use Rattle.sqldomains.specs.Domains.{are_dated, dated, domain_read, domains_of, linked_name, links_of, placed, registrant_alone, with_link_read, with_links, with_linked_name}
-use Rattle.sqldomains.specs.inner.Links.{PassesTest}
-use Rattle.sqldomains.specs.inner.Stages.{HasLinkRows}
 use Rattle.sqldomains.proofs.FoundLemmas.{domain-named}
 
 -- ---- the domains that rows mean, one by one

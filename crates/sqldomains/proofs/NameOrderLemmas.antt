@@ -1,29 +1,17 @@
 -- What rows give under names, gathered one by one, is what the names stand for.
 use Rattle.std.proofs.Common.{◌≡◌, inl, inr, ℕ, Bool, true, false, ◌||◌, cond, List, [], ◌∷◌, filter, Option, Some, None, option_map, refl, sym, ap, ◌∙◌, true≢false}
 use Rattle.std.proofs.lemmas.Map.Made.{keys_of-map_values}
-use Rattle.std.specs.Cmp.Lexicographic.{nat_list_cmp_total, slice_cmp}
-use Rattle.std.specs.FinMap.{empty, entries, get, get-empty, get-insert, insert, keys, same_map}
-use Rattle.std.specs.List.{list_any}
 use Rattle.std.specs.Map.{keys_of}
 use Rattle.std.specs.Option.{option_map_or}
-use Rattle.std.specs.Ordering.{eq_by_cmp, nat_cmp}
-use Rattle.sqlite_keyed.proofs.ListLemmas.{none_from_any}
-use Rattle.sqlite_rules.specs.Lists.{Has}
+use Rattle.sqldomains.proofs.Words.{all_at, bytes_is, Content, Domain, domain_read, DomainRow, domains_of, empty, entries, entries-map_values}
+use Rattle.sqldomains.proofs.Words.{eq_by_cmp, get, get-empty, get-insert, get-map_values, Has, has-filter, insert, keys, list_any, Named}
+use Rattle.sqldomains.proofs.Words.{names_apart, nat_cmp, nat_list_cmp_total, none_from_any, same_map, same_some, slice_cmp, with_one, with_read}
+use Rattle.sqldomains.proofs.Words.{◌>>=◌}
 use Rattle.basis.specs.Maps.{map_values}
 use Rattle.basis.specs.Sweeps.{kept, kept_list}
 use Rattle.basis.proofs.ApartLaws.{get-kept}
-use Rattle.basis.proofs.MapLemmas.{entries-map_values, get-map_values, names_apart}
 use Rattle.basis.proofs.SweepLaws.{entries-kept}
-use Rattle.objects.specs.declared.domain.Domain.{Domain}
-use Rattle.sqlcolumns.specs.Steps.{◌>>=◌}
-use Rattle.sqlcolumns.proofs.ReadLemmas.{same_some}
-use Rattle.sqltables.specs.Content.{Content}
 use Rattle.sqltables.specs.Domain as table
-use Rattle.sqltables.specs.declared.domain.DomainRow.{DomainRow}
-use Rattle.sqltables.proofs.RowLemmas.{all_at}
-use Rattle.sqlobjects.proofs.PutLemmas.{bytes_is, has-filter}
-use Rattle.sqldomains.specs.Domains.{domain_read, domains_of}
-use Rattle.sqldomains.specs.inner.Names.{Named, with_one, with_read}
 use Rattle.sqldomains.proofs.FoundLemmas.{domain-named, parts}
 use Rattle.sqldomains.proofs.LinkedLemmas.{first-has}
 pub use Rattle.sqldomains.proofs.LinkedLemmas.{stands-there}

@@ -1,17 +1,9 @@
 -- To a domain's new row no link leads, and no transfer.
 use Rattle.std.proofs.Common.{◌≡◌, [], filter, Some, refl, ap, ◌∙◌}
-use Rattle.sqlite_keyed.proofs.KeyedLemmas.{same_int}
-use Rattle.sqlite_rules.specs.Lists.{Has}
-use Rattle.objects.specs.declared.domain.Domain.{Domain}
-use Rattle.sqlobjects.specs.inner.Stages.{named_domains, rows_named}
+use Rattle.sqldomains.proofs.Words.{Content, Domain, DomainRow, Has, HasNoParts, IsConsistent, IsDomainPlaced, link_with_domain, named_domains}
+use Rattle.sqldomains.proofs.Words.{row_beside, rows_named, same_int, transfer_with_domain}
 use Rattle.sqlobjects.proofs.NewRowLemmas.{fresh, none-pass, points-so}
-use Rattle.sqltables.specs.Content.{Content}
-use Rattle.sqltables.specs.declared.domain.DomainRow.{DomainRow}
-use Rattle.sqltables.specs.Link.{link_with_domain}
-use Rattle.sqltables.specs.Transfer.{transfer_with_domain}
-use Rattle.sqltables.specs.inner.Consistent.{IsConsistent}
 use Rattle.sqldomains.specs.declared.domain_rows.DerivedColumns.{DerivedColumns}
-use Rattle.sqldomains.specs.inner.Stages.{HasNoParts, IsDomainPlaced, row_beside}
 
 module _ (xs m : Content) (beside : DerivedColumns) (d : Domain) (row : DomainRow) (consistent : IsConsistent xs) (still : IsConsistent m) (placed : IsDomainPlaced d beside row xs m)
     (none : rows_named named_domains d.name xs ≡ []) where

@@ -1,14 +1,7 @@
 -- Rows that have names, by their numbers.
 use Rattle.std.proofs.Common.{◌≡◌, ℕ, ℤ, List, Option, Some, None, option_map, refl, sym, ap, subst, ◌∙◌}
-use Rattle.sqlite_keyed.specs.Keyed.{get_by}
-use Rattle.sqlite_keyed.proofs.KeyedLemmas.{key-get_by}
-use Rattle.sqlite_rules.specs.Lists.{Has}
-use Rattle.sqltables.specs.Content.{Content}
-use Rattle.sqltables.specs.inner.Consistent.{IsConsistent, LeadsTo}
-use Rattle.sqlrows.specs.Read.{rows_of}
-use Rattle.sqlobjects.specs.inner.Stages.{NamedTable, rows_named}
-use Rattle.sqlobjects.proofs.PutLemmas.{get_by-has, has-get_by, row_there}
-use Rattle.sqldomains.specs.inner.Links.{IsNumberOf, name_at}
+use Rattle.sqldomains.proofs.Words.{Content, get_by, get_by-has, Has, has-get_by, IsConsistent, IsNumberOf, key-get_by, LeadsTo, name_at, NamedTable}
+use Rattle.sqldomains.proofs.Words.{row_there, rows_named, rows_of}
 
 module _ {R : Type 0} (table : NamedTable R) where
   module _ (xs : Content) where

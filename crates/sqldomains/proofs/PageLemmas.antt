@@ -1,26 +1,14 @@
 -- Rows that are read a page at a time, each page after the last number of the one before, are all rows.
 use Rattle.std.proofs.Common.{◌≡◌, ◌-◌, ◌<ℤ◌, ◌&&◌, ℤ, ℕ, suc, true, false, cond, length, List, [], ◌∷◌, ◌++◌, filter, take, drop, Option, Some, None, option_map, slice_get, int_eq, int_le, int_lt, arith, refl, sym, ap, subst, ◌∙◌}
-use Rattle.std.specs.FinMap.{empty}
-use Rattle.std.specs.List.{AllByRecursion}
 use Rattle.std.proofs.lemmas.Int.{ints}
-use Rattle.std.proofs.lemmas.List.{append_assoc, take-append-drop}
-use Rattle.sqlite_keyed.specs.Keyed.{IsKeyedBy}
+use Rattle.sqldomains.proofs.Words.{all_weaker, AllByRecursion, append_assoc, Content, delegated, delegation_among, delegation_read, domain_after_id}
+use Rattle.sqldomains.proofs.Words.{domain_by, DomainRow, empty, ends_of, filter-filter, filter_all, IsAllOfRows, IsKeyedBy, last_id}
+use Rattle.sqldomains.proofs.Words.{link_of_domains, link_with_domain, LinkRow, Named, same_some, step, take-append-drop, transfer_of_domains}
+use Rattle.sqldomains.proofs.Words.{transfer_with_domain, with_one, with_page, with_read, ◌>>=◌}
 use Rattle.sqlite_keyed.specs.Rules.{points_to}
-use Rattle.sqlite_keyed.proofs.ListLemmas.{all_weaker, filter-filter, filter_all}
 use Rattle.objects.specs.declared.zone.Delegation.{Delegation}
-use Rattle.sqlcolumns.specs.Steps.{◌>>=◌}
-use Rattle.sqlcolumns.proofs.ReadLemmas.{same_some, step}
-use Rattle.sqltables.specs.Content.{Content}
-use Rattle.sqltables.specs.declared.domain.DomainRow.{DomainRow}
-use Rattle.sqltables.specs.Domain.{domain_after_id}
-use Rattle.sqltables.specs.declared.link.LinkRow.{LinkRow}
-use Rattle.sqltables.specs.Link.{link_of_domains, link_with_domain}
 use Rattle.sqltables.specs.declared.transfer.TransferRow.{TransferRow}
-use Rattle.sqltables.specs.Transfer.{transfer_of_domains, transfer_with_domain}
 use Rattle.sqltables.specs.inner.Due.{lies_within}
-use Rattle.sqldomains.specs.Domains.{domain_by}
-use Rattle.sqldomains.specs.inner.Delegations.{IsAllOfRows, delegated, delegation_among, delegation_read, ends_of, last_id, with_page}
-use Rattle.sqldomains.specs.inner.Names.{Named, with_one, with_read}
 
 -- ---- numbers that rise
 

@@ -1,34 +1,15 @@
 -- What domains name where the row of one host was made another's: each names the other in place of the one.
 use Rattle.std.proofs.Common.{◌≡◌, ℕ, ℤ, false, List, [], ◌∷◌, filter, Option, Some, None, option_map, refl, sym, ap, subst, ◌∙◌}
-use Rattle.std.specs.FinMap.{get}
 use Rattle.std.specs.Str.{bytes_eq}
-use Rattle.std.proofs.lemmas.Bool.{false_from_ne_true}
-use Rattle.std.proofs.lemmas.Slice.Eq.{bytes_eq-Decides}
-use Rattle.objects.specs.declared.domain.Domain.{Domain}
-use Rattle.objects.specs.declared.domain.Links.{Links}
-use Rattle.objects.specs.declared.host.Host.{Host}
+use Rattle.sqldomains.proofs.Words.{alone, bytes_eq-Decides, contact_name_by_number, Content, dated, deletion_in, Domain, domain_of_columns}
+use Rattle.sqldomains.proofs.Words.{domain_read, domain_registration_columns, domain_with, DomainRow, domains_of, false_from_ne_true, first_read}
+use Rattle.sqldomains.proofs.Words.{get, Host, host_name_by_number, IsRowRenamed, last_transfer, link_with_domain, linked_name, LinkRow, Links}
+use Rattle.sqldomains.proofs.Words.{links_of, new_name, or_else, placed, registrant_alone, registration_in, Role, role_in, same_some, statuses_in}
+use Rattle.sqldomains.proofs.Words.{step, transfer_with_domain, with_link_read, with_linked_name, with_links, years_in_column, ◌>>=◌}
 use Rattle.objects.specs.declared.roid.ObjectKind.TheVariants as kinds
 use Rattle.objects.specs.declared.transfer.Transfer.{Transfer}
-use Rattle.sqlcolumns.specs.declared.code.Role.{Role}
 use Rattle.sqlcolumns.specs.declared.code.Role.TheVariants as roles
-use Rattle.sqlcolumns.specs.Codes.{role_in}
-use Rattle.sqlcolumns.specs.Domains.{deletion_in, domain_of_columns, domain_registration_columns, domain_with}
-use Rattle.sqlcolumns.specs.Numbers.{years_in_column}
-use Rattle.sqlcolumns.specs.Registrations.{registration_in}
-use Rattle.sqlcolumns.specs.Steps.{◌>>=◌}
-use Rattle.sqlcolumns.specs.Texts.{statuses_in}
-use Rattle.sqlcolumns.proofs.ReadLemmas.{same_some, step}
-use Rattle.sqltables.specs.Content.{Content}
 use Rattle.sqltables.specs.Domain as table
-use Rattle.sqltables.specs.declared.domain.DomainRow.{DomainRow}
-use Rattle.sqltables.specs.Link.{link_with_domain}
-use Rattle.sqltables.specs.declared.link.LinkRow.{LinkRow}
-use Rattle.sqltables.specs.Transfer.{transfer_with_domain}
-use Rattle.sqlrows.specs.Read.{first_read, or_else}
-use Rattle.sqlobjects.specs.inner.Changes.{IsRowRenamed, new_name}
-use Rattle.sqlobjects.specs.Changes.{contact_name_by_number, host_name_by_number}
-use Rattle.sqlobjects.specs.Objects.{last_transfer}
-use Rattle.sqldomains.specs.Domains.{alone, dated, domain_read, domains_of, linked_name, links_of, placed, registrant_alone, with_link_read, with_linked_name, with_links}
 use Rattle.sqldomains.proofs.FoundLemmas.{domain-named}
 
 -- steps that go on alike afterwards

@@ -1,29 +1,15 @@
 -- Whether stored sponsors of hosts are right is the same after a change as before.
 use Rattle.std.proofs.Common.{◌≡◌, inl, ℕ, ℤ, Bool, true, false, not, cond, ◌&&◌, List, [], ◌∷◌, filter, Option, Some, None, is_some, refl, sym, ap, subst, ◌∙◌}
-use Rattle.std.specs.Cmp.Lexicographic.{nat_list_cmp_total}
-use Rattle.std.specs.FinMap.{get, get-insert}
-use Rattle.std.specs.List.{list_all}
-use Rattle.sqlite_rules.specs.Lists.{Has}
+use Rattle.sqldomains.proofs.Words.{all-alike, all-changed, bytes_is, bytes_same, Content, Domain, domain_read, DomainRow, domains_of, first_read}
+use Rattle.sqldomains.proofs.Words.{get, get-insert, Has, has-filter, Host, HostRow, IsContactPut, IsDomainPut, IsHostPut, list_all}
+use Rattle.sqldomains.proofs.Words.{maybe_registrar_column, nat_list_cmp_total, or_else, registrar_column, same-verdict, sponsor_in, with_named}
 use Rattle.sqlite_typed.specs.Tests.{bytes_eq}
 use Rattle.objects.specs.declared.contact.Contact.{Contact}
-use Rattle.objects.specs.declared.domain.Domain.{Domain}
-use Rattle.objects.specs.declared.host.Host.{Host}
-use Rattle.sqlcolumns.specs.Numbers.{maybe_registrar_column, registrar_column}
 use Rattle.sqlcolumns.specs.Transfers.{is_same}
 use Rattle.sqlcolumns.proofs.NumberLemmas.{registrar_written}
-use Rattle.sqltables.specs.Content.{Content}
 use Rattle.sqltables.specs.Domain as table
-use Rattle.sqltables.specs.declared.domain.DomainRow.{DomainRow}
-use Rattle.sqltables.specs.declared.host.HostRow.{HostRow}
-use Rattle.sqltables.proofs.RowLemmas.{bytes_same}
-use Rattle.sqlrows.specs.Read.{first_read, or_else}
-use Rattle.sqlobjects.specs.inner.Changes.{IsContactPut, IsHostPut, with_named}
 use Rattle.sqlobjects.specs.Sponsors.{AreMoved, IsSponsorSetBelow, first_sponsor, is_sponsor_right, sponsor_by_name, sponsors_are_right, takes_sponsor, with_sponsor}
-use Rattle.sqlobjects.proofs.PutLemmas.{bytes_is, has-filter}
 use Rattle.sqlobjects.proofs.SponsorLemmas.{same-from, same-is, sponsor-kept}
-use Rattle.sqlobjects.proofs.VerdictLemmas.{all-alike, all-changed, same-verdict}
-use Rattle.sqldomains.specs.inner.Changes.{IsDomainPut, sponsor_in}
-use Rattle.sqldomains.specs.Domains.{domain_read, domains_of}
 use Rattle.sqldomains.proofs.FoundLemmas.{domain-named}
 pub use Rattle.sqldomains.proofs.FoundLemmas.{parts}
 

@@ -1,19 +1,11 @@
 use Rattle.std.proofs.Common.{◌≡◌, inl, inr, ℕ, true, List, Option, Some, None, refl, sym, ap, subst, ◌∙◌}
-use Rattle.std.specs.FinMap.{get}
-use Rattle.sqlite_rules.specs.Lists.{Has}
-use Rattle.objects.specs.declared.domain.Domain.{Domain}
+use Rattle.sqlderived.proofs.Words.{Content, Domain, domain_read, DomainRow, domains_of, filter-has, get, Has, is_due_right, reads-on}
 use Rattle.policy.specs.declared.schedule.Schedule.{Schedule}
-use Rattle.sqltables.specs.Content.{Content}
 use Rattle.sqltables.specs.Domain.{domain_with_name}
-use Rattle.sqltables.specs.declared.domain.DomainRow.{DomainRow}
 use Rattle.sqltables.proofs.RowLemmas.{bytes_same}
 use Rattle.sqlrows.specs.Read.{first_read, or_else, rows_of}
-use Rattle.sqlrows.proofs.StateLemmas.{reads-on}
 use Rattle.sqlobjects.specs.inner.Stages.{named_domains, rows_named}
-use Rattle.sqlobjects.proofs.PutLemmas.{filter-has}
-use Rattle.sqldomains.specs.Domains.{domain_read, domains_of}
 use Rattle.sqldomains.proofs.FoundLemmas.{domain-named}
-use Rattle.sqlderived.specs.Dues.{is_due_right}
 use Rattle.sqlderived.proofs.checking.checked_domain.Goals as goal
 
 -- what is found by name stands under it, and its column is right

@@ -1,7 +1,5 @@
 use Rattle.std.proofs.Common.{◌≡◌, Some, sym, ap, subst, ◌∙◌}
-use Rattle.sqlrows.proofs.StateLemmas.{reads-on}
-use Rattle.sqltables.specs.Content.{Content}
-use Rattle.sqlderived.specs.inner.Finding.{domain_due_shown, with_rows}
+use Rattle.sqlderived.proofs.Words.{Content, domain_due_shown, reads-on, with_rows}
 use Rattle.sqlderived.proofs.finding.due_of.Goals as goal
 
 pub returns : goal.returns

@@ -1,9 +1,5 @@
 use Rattle.std.proofs.Common.{◌≡◌, ℕ, Bool, ◌∙◌, ap, cond, nat_lt, subst, sym, Some, true, false, arith}
-use Rattle.std.proofs.lemmas.Bool.Decides.{nat_tests}
-use Rattle.sqlrows.proofs.StateLemmas.{reads-same}
-use Rattle.states.specs.States.{FindsSome}
-use Rattle.lifecycle.specs.DueObjects.{due_then}
-use Rattle.lifecycle.specs.Periods.{passed}
+use Rattle.sqlderived.proofs.Words.{due_then, FindsSome, nat_tests, passed, reads-same}
 use Rattle.objects.specs.declared.roid.ObjectKind.TheVariants as kinds
 use Rattle.sqlderived.specs.inner.Finding as spec
 use Rattle.sqlderived.proofs.finding.with_domain.Goals as goal

@@ -1,6 +1,5 @@
 use Rattle.std.proofs.Common.{◌≡◌, ◌++◌, true, drop}
-use Rattle.std.specs.List.{flat_map}
-use Rattle.states.specs.States.{Reads}
+use Rattle.sqlderived.proofs.Words.{flat_map, Reads}
 use Rattle.sqlderived.proofs.joining.each_of.Given as goal
 
 -- with what those that are left give, what all of them do

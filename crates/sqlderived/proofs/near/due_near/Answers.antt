@@ -1,7 +1,5 @@
 use Rattle.std.proofs.Common.{◌≡◌, [], false, Ok, subst, sym, ◌∙◌}
-use Rattle.sqlrows.proofs.StateLemmas.{reads-on}
-use Rattle.sqltables.specs.inner.Consistent.{IsConsistent}
-use Rattle.sqlderived.specs.inner.Finding.{AreDue}
+use Rattle.sqlderived.proofs.Words.{AreDue, IsConsistent, reads-on}
 use Rattle.sqlderived.specs.inner.Near.{HasAllNear, contacts_near, domains_near, is_behind}
 use Rattle.sqlderived.proofs.AnswerLemmas.{with-days}
 use Rattle.sqlderived.proofs.NearLemmas.{near-found, nothing-due}

@@ -1,8 +1,5 @@
 use Rattle.std.proofs.Common.{take, sym, ◌∙◌}
-use Rattle.model.specs.DueBy.{due_by}
-use Rattle.sqltables.specs.Content.{Content}
-use Rattle.sqlderived.specs.Dues.{dues_are_right}
-use Rattle.sqlderived.specs.inner.Finding.{objects_in}
+use Rattle.sqlderived.proofs.Words.{Content, due_by, dues_are_right, objects_in}
 use Rattle.sqlderived.proofs.PageLemmas.{asked-after, full-page}
 use Rattle.sqlderived.proofs.page.first_until.Goals as goal
 

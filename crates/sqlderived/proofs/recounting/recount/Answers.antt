@@ -1,7 +1,5 @@
 use Rattle.std.proofs.Common.{subst, sym}
-use Rattle.sqlrows.proofs.StateLemmas.{then-became}
-use Rattle.sqltables.specs.Content.{Content}
-use Rattle.sqlderived.specs.inner.Recounts.{IsCountedAnew, IsRecounted, counts_own, registrar_of, with_unwritten}
+use Rattle.sqlderived.proofs.Words.{Content, counts_own, IsCountedAnew, IsRecounted, registrar_of, then-became, with_unwritten}
 use Rattle.sqlderived.proofs.LeavingLemmas.{recounted}
 use Rattle.sqlderived.proofs.RecountLemmas.{anew-after, anew-on}
 use Rattle.sqlderived.proofs.recounting.recount.Goals as goal

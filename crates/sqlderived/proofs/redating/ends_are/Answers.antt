@@ -1,7 +1,5 @@
 use Rattle.std.proofs.Common.{◌≡◌, true, List, sym, ap, subst, ◌∙◌}
-use Rattle.std.specs.List.{list_all}
-use Rattle.sqltables.specs.declared.domain.DomainRow.{DomainRow}
-use Rattle.sqlderived.specs.Redates.{is_end, is_timed}
+use Rattle.sqlderived.proofs.Words.{DomainRow, is_end, is_timed, list_all}
 use Rattle.sqlderived.proofs.RedateLemmas.{all-timed}
 use Rattle.sqlderived.proofs.redating.ends_are.Goals as goal
 

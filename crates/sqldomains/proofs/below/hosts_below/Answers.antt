@@ -1,9 +1,5 @@
 use Rattle.std.proofs.Common.{◌≡◌, Some, ap, subst, ◌∙◌, filter, map}
-use Rattle.std.specs.FinMap.{empty}
-use Rattle.objects.specs.Hosts.{is_below}
-use Rattle.sqltables.specs.declared.host.HostRow.{HostRow}
-use Rattle.sqlrows.proofs.StateLemmas.{reads-on}
-use Rattle.sqldomains.specs.inner.Names.{with_hosts}
+use Rattle.sqldomains.proofs.Words.{empty, HostRow, is_below, reads-on, with_hosts}
 use Rattle.sqldomains.proofs.BelowLemmas.{below-listed}
 use Rattle.sqldomains.proofs.below.hosts_below.Goals as goal
 

@@ -1,6 +1,5 @@
 use Rattle.std.proofs.Common.{◌≡◌, ◌++◌, filter, map}
-use Rattle.objects.specs.Hosts.{is_below}
-use Rattle.sqltables.specs.declared.host.HostRow.{HostRow}
+use Rattle.sqldomains.proofs.Words.{HostRow, is_below}
 use Rattle.sqldomains.proofs.below.names_below.Given as goal
 
 -- the names so far and those of the rows that are left

@@ -1,6 +1,5 @@
 use Rattle.std.proofs.Common.{◌≡◌, true}
-use Rattle.std.specs.FinMap.{empty}
-use Rattle.states.specs.States.{Reads}
+use Rattle.sqldomains.proofs.Words.{empty, Reads}
 use Rattle.sqldomains.specs.inner.Names as spec
 use Rattle.sqldomains.proofs.below.with_hosts.Given as goal
 

@@ -1,7 +1,5 @@
 use Rattle.std.proofs.Common.{None}
-use Rattle.sqlobjects.proofs.StepLemmas.{asked-then}
-use Rattle.sqldomains.specs.inner.Changes.{IsDomainPut}
-use Rattle.sqldomains.specs.inner.Stages.{IsDomainDropped}
+use Rattle.sqldomains.proofs.Words.{asked-then, IsDomainDropped, IsDomainPut}
 use Rattle.sqldomains.proofs.DomainLemmas.{dropped}
 use Rattle.sqldomains.proofs.domain_changes.drop_domain.Goals as goal
 

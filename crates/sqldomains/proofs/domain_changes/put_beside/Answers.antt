@@ -1,13 +1,7 @@
 use Rattle.std.proofs.Common.{◌≡◌, true, Some, ◌∙◌}
-use Rattle.sqltables.specs.inner.Consistent.{IsConsistent}
-use Rattle.sqlrows.specs.Read.{rows_of}
-use Rattle.sqlrows.proofs.StateLemmas.{reads-same}
-use Rattle.sqlobjects.specs.Changes.{contact_name_by_number}
-use Rattle.sqlobjects.specs.inner.Stages.{named_domains, rows_named}
+use Rattle.sqldomains.proofs.Words.{ArePartsPut, asked-then, became-consistent, contact_name_by_number, HasNoParts, IsConsistent, IsDomainPlaced}
+use Rattle.sqldomains.proofs.Words.{IsDomainPut, named_domains, reads-same, rows_named, rows_of}
 use Rattle.sqlobjects.proofs.NewRowLemmas.{none-found}
-use Rattle.sqlobjects.proofs.StepLemmas.{asked-then, became-consistent}
-use Rattle.sqldomains.specs.inner.Changes.{IsDomainPut}
-use Rattle.sqldomains.specs.inner.Stages.{ArePartsPut, HasNoParts, IsDomainPlaced}
 use Rattle.sqldomains.proofs.DomainLemmas.{domain-put}
 use Rattle.sqldomains.proofs.NewRowLemmas.{no-parts}
 use Rattle.sqldomains.proofs.domain_changes.put_beside.Goals as goal

@@ -1,13 +1,8 @@
 use Rattle.std.proofs.Common.{◌≡◌, true, [], filter, ap, subst, ◌∙◌}
-use Rattle.sqlrows.specs.Meanings.{HasChanged}
-use Rattle.sqltables.specs.Content.{Content}
-use Rattle.sqltables.specs.Link.{link_with_domain}
-use Rattle.sqltables.specs.Transfer.{transfer_with_domain}
-use Rattle.sqlrows.proofs.StateLemmas.{then-became}
+use Rattle.sqldomains.proofs.Words.{AreLinksPut, ArePartsPut, Content, HasChanged, HasNoParts, is_transfer_of, IsTransferPut, link_with_domain}
+use Rattle.sqldomains.proofs.Words.{then-became, transfer_with_domain}
 use Rattle.sqlobjects.specs.declared.transfers.Transferable.{Transferable}
 use Rattle.sqlobjects.specs.declared.transfers.Transferable.TheVariants as transferable
-use Rattle.sqlobjects.specs.inner.Transfers.{IsTransferPut, is_transfer_of}
-use Rattle.sqldomains.specs.inner.Stages.{AreLinksPut, ArePartsPut, HasNoParts}
 use Rattle.sqldomains.proofs.domain_changes.put_parts.Goals as goal
 
 pub returns : goal.returns

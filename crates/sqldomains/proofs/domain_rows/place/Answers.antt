@@ -1,12 +1,7 @@
 use Rattle.std.proofs.Common.{◌≡◌, Some, pos}
-use Rattle.sqltables.specs.declared.domain.DomainRow.{DomainRow}
-use Rattle.sqltables.specs.inner.Consistent.{IsConsistent}
-use Rattle.sqlrows.specs.Read.{rows_of}
-use Rattle.sqlrows.proofs.StateLemmas.{reads-same}
-use Rattle.sqlobjects.specs.inner.Stages.{IsPlacedAt, named_domains, rows_named}
+use Rattle.sqldomains.proofs.Words.{asked-brings, DomainRow, IsConsistent, IsDomainPlaced, IsPlacedAt, named_domains, reads-same, row_beside}
+use Rattle.sqldomains.proofs.Words.{rows_named, rows_of}
 use Rattle.sqlobjects.proofs.NamedRowLemmas.{placed-as}
-use Rattle.sqlobjects.proofs.StepLemmas.{asked-brings}
-use Rattle.sqldomains.specs.inner.Stages.{IsDomainPlaced, row_beside}
 use Rattle.sqldomains.proofs.DomainLemmas.{written}
 use Rattle.sqldomains.proofs.domain_rows.place.Goals as goal
 

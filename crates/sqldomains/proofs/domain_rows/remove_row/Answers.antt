@@ -1,13 +1,7 @@
 use Rattle.std.proofs.Common.{subst}
-use Rattle.sqlite_keyed.specs.Lists.{delete_where}
-use Rattle.sqltables.specs.Content.{Content}
-use Rattle.sqltables.specs.inner.Content.{domains_to}
-use Rattle.sqltables.specs.Domain.{domain_with_id}
-use Rattle.sqlrows.proofs.StateLemmas.{then-became}
-use Rattle.sqlobjects.proofs.StepLemmas.{became-made}
+use Rattle.sqldomains.proofs.Words.{AreLinksCleared, became-made, Content, delete_where, domain_with_id, domains_to, IsDomainRemoved}
+use Rattle.sqldomains.proofs.Words.{IsTransferCleared, then-became}
 use Rattle.sqlobjects.specs.declared.transfers.Transferable.{Transferable}
-use Rattle.sqlobjects.specs.inner.Transfers.{IsTransferCleared}
-use Rattle.sqldomains.specs.inner.Stages.{AreLinksCleared, IsDomainRemoved}
 use Rattle.sqldomains.proofs.DomainLemmas.{removed-so}
 use Rattle.sqldomains.proofs.domain_rows.remove_row.Goals as goal
 

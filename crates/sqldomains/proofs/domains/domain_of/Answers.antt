@@ -1,8 +1,5 @@
 use Rattle.std.proofs.Common.{sym, ap, ◌∙◌, filter}
-use Rattle.sqlrows.proofs.StateLemmas.{reads-on}
-use Rattle.sqltables.specs.Link.{link_with_domain}
-use Rattle.sqltables.specs.Transfer.{transfer_with_domain}
-use Rattle.sqldomains.specs.Domains.{domain_by}
+use Rattle.sqldomains.proofs.Words.{domain_by, link_with_domain, reads-on, transfer_with_domain}
 use Rattle.sqldomains.proofs.FoundLemmas.{asked-finds}
 use Rattle.sqldomains.proofs.domains.domain_of.Goals as goal
 

@@ -1,10 +1,7 @@
 use Rattle.std.proofs.Common.{subst}
+use Rattle.sqldomains.proofs.Words.{AreLinksPutOver, AreNamesAdded, Content, HasChanged, then-became}
 use Rattle.sqlcolumns.specs.declared.code.Role.TheVariants as roles
-use Rattle.sqltables.specs.Content.{Content}
-use Rattle.sqlrows.specs.Meanings.{HasChanged}
-use Rattle.sqlrows.proofs.StateLemmas.{then-became}
 use Rattle.sqldomains.specs.declared.comparison.LinkComparison.TheVariants as comparisons
-use Rattle.sqldomains.specs.inner.Stages.{AreLinksPutOver, AreNamesAdded}
 use Rattle.sqldomains.proofs.LinkRowLemmas.{links-added}
 use Rattle.sqldomains.proofs.link_rows.add_links.Goals as goal
 

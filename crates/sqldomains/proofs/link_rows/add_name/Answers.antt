@@ -1,9 +1,6 @@
 use Rattle.std.proofs.Common.{[], ◌∷◌}
+use Rattle.sqldomains.proofs.Words.{AreNamesAdded, links, links_to, then-made}
 use Rattle.sqlrows.specs.inner.Layouts.{appended}
-use Rattle.sqltables.specs.inner.Content.{links_to}
-use Rattle.sqltables.specs.Link.{links}
-use Rattle.sqlrows.proofs.StateLemmas.{then-made}
-use Rattle.sqldomains.specs.inner.Stages.{AreNamesAdded}
 use Rattle.sqldomains.proofs.LinkRowLemmas.{name-added}
 use Rattle.sqldomains.proofs.link_rows.add_name.Goals as goal
 

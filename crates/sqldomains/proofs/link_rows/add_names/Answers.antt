@@ -1,9 +1,5 @@
 use Rattle.std.proofs.Common.{◌+◌, [], ◌∷◌, subst, take}
-use Rattle.std.proofs.lemmas.List.{take_all}
-use Rattle.sqlrows.specs.Meanings.{HasChanged}
-use Rattle.sqlrows.proofs.StateLemmas.{then-became}
-use Rattle.sqlobjects.proofs.StepLemmas.{stood}
-use Rattle.sqldomains.specs.inner.Stages.{AreNamesAdded}
+use Rattle.sqldomains.proofs.Words.{AreNamesAdded, HasChanged, stood, take_all, then-became}
 use Rattle.sqldomains.proofs.LinkRowLemmas.{next-named, none-named}
 use Rattle.sqldomains.proofs.link_rows.add_names.Goals as goal
 

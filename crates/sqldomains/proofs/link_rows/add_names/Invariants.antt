@@ -1,6 +1,5 @@
 use Rattle.std.proofs.Common.{take}
-use Rattle.sqlrows.specs.Meanings.{HasChanged}
-use Rattle.sqldomains.specs.inner.Stages.{AreNamesAdded}
+use Rattle.sqldomains.proofs.Words.{AreNamesAdded, HasChanged}
 use Rattle.sqldomains.proofs.link_rows.add_names.Given as goal
 
 -- those so far were added

@@ -1,8 +1,4 @@
-use Rattle.sqlite_keyed.specs.Lists.{delete_where}
-use Rattle.sqltables.specs.inner.Content.{links_to}
-use Rattle.sqltables.specs.Link.{link_with_domain}
-use Rattle.sqlobjects.proofs.StepLemmas.{made}
-use Rattle.sqldomains.specs.inner.Stages.{AreLinksCleared}
+use Rattle.sqldomains.proofs.Words.{AreLinksCleared, delete_where, link_with_domain, links_to, made}
 use Rattle.sqldomains.proofs.LinkRowLemmas.{links-cleared}
 use Rattle.sqldomains.proofs.link_rows.clear_links.Goals as goal
 

@@ -1,8 +1,5 @@
 use Rattle.std.proofs.Common.{◌≡◌, true, [], filter, subst}
-use Rattle.sqltables.specs.Link.{link_with_domain}
-use Rattle.sqlobjects.proofs.StepLemmas.{asked-turns}
-use Rattle.sqldomains.specs.Domains.{in_places}
-use Rattle.sqldomains.specs.inner.Stages.{AreLinksPut, AreLinksPutOver}
+use Rattle.sqldomains.proofs.Words.{AreLinksPut, AreLinksPutOver, asked-turns, in_places, link_with_domain}
 use Rattle.sqldomains.proofs.link_rows.put_links.Goals as goal
 
 pub returns : goal.returns

@@ -1,9 +1,7 @@
 use Rattle.std.proofs.Common.{sym, subst}
-use Rattle.sqlrows.proofs.StateLemmas.{reads-same}
-use Rattle.sqlobjects.proofs.StepLemmas.{asked-turns}
+use Rattle.sqldomains.proofs.Words.{AreDuesSet, AreLinksPutOver, asked-turns, reads-same}
 use Rattle.sqldomains.specs.declared.comparison.LinkComparison.{LinkComparison}
 use Rattle.sqldomains.specs.declared.comparison.LinkComparison.TheVariants as comparisons
-use Rattle.sqldomains.specs.inner.Stages.{AreDuesSet, AreLinksPutOver}
 use Rattle.sqldomains.proofs.LinkRowLemmas.{dues-set}
 use Rattle.sqldomains.proofs.link_rows.put_over.Goals as goal
 

@@ -1,6 +1,5 @@
+use Rattle.sqldomains.proofs.Words.{AreLinksCleared, AreLinksPutOver, then-became}
 use Rattle.sqldomains.specs.declared.comparison.LinkComparison.TheVariants as comparisons
-use Rattle.sqlrows.proofs.StateLemmas.{then-became}
-use Rattle.sqldomains.specs.inner.Stages.{AreLinksCleared, AreLinksPutOver}
 use Rattle.sqldomains.proofs.LinkRowLemmas.{links-replaced}
 use Rattle.sqldomains.proofs.link_rows.replace_links.Goals as goal
 

@@ -1,6 +1,5 @@
 use Rattle.std.proofs.Common.{ap, sym, take, ◌∙◌}
-use Rattle.sqlrows.specs.Read.{rows_of}
-use Rattle.sqltables.specs.Domain.{domain_with_id}
+use Rattle.sqldomains.proofs.Words.{domain_with_id, rows_of}
 use Rattle.sqldomains.proofs.AnswerLemmas.{first-in}
 use Rattle.sqldomains.proofs.linked.domain_at.Goals as goal
 

@@ -1,7 +1,5 @@
 use Rattle.std.proofs.Common.{rules, sym, subst, FitsSigned, w64, to_z-of_z}
-use Rattle.sqlrows.proofs.StateLemmas.{reads-on}
-use Rattle.objects.specs.Links.{names_contact}
-use Rattle.sqlobjects.specs.inner.Stages.{named_contacts}
+use Rattle.sqldomains.proofs.Words.{named_contacts, names_contact, reads-on}
 use Rattle.sqldomains.specs.inner.Links as spec
 use Rattle.sqldomains.proofs.AnswerLemmas.{alike, contact-nowhere, contact-unused}
 use Rattle.sqldomains.proofs.LinkedLemmas.{one-passes}

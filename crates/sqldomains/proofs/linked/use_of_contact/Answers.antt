@@ -1,9 +1,5 @@
 use Rattle.std.proofs.Common.{ap, subst, ◌∙◌}
-use Rattle.sqlite_rules.specs.Lists.{Has}
-use Rattle.sqltables.specs.Content.{Content}
-use Rattle.sqltables.specs.Domain.{domain_with_registrant}
-use Rattle.sqlrows.specs.Read.{rows_of}
-use Rattle.sqlrows.proofs.StateLemmas.{reads-on}
+use Rattle.sqldomains.proofs.Words.{Content, domain_with_registrant, Has, reads-on, rows_of}
 use Rattle.sqldomains.proofs.AnswerLemmas.{first-in}
 use Rattle.sqldomains.proofs.linked.use_of_contact.Goals as goal
 

@@ -1,7 +1,5 @@
 use Rattle.std.proofs.Common.{subst}
-use Rattle.sqlite_rules.specs.Lists.{Has}
-use Rattle.sqltables.specs.Content.{Content}
-use Rattle.sqlrows.proofs.StateLemmas.{reads-on}
+use Rattle.sqldomains.proofs.Words.{Content, Has, reads-on}
 use Rattle.sqldomains.proofs.linked.use_of_host.Goals as goal
 
 pub returns : goal.returns

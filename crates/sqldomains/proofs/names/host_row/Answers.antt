@@ -1,7 +1,6 @@
 use Rattle.std.proofs.Common.{rules, filter, subst, Ok, ◌∙◌, FitsSigned, w64, to_z-of_z}
+use Rattle.sqldomains.proofs.Words.{Finds, one-asked}
 use Rattle.sqltables.specs.Host.{host_with_id}
-use Rattle.states.specs.States.{Finds}
-use Rattle.sqlrows.proofs.StateLemmas.{one-asked}
 use Rattle.sqldomains.proofs.names.host_row.Goals as goal
 
 pub returns : goal.returns

@@ -1,8 +1,5 @@
 use Rattle.std.proofs.Common.{filter, take, ap, subst, sym, ◌∙◌}
-use Rattle.sqlrows.proofs.StateLemmas.{reads-on}
-use Rattle.sqltables.specs.Content.{Content}
-use Rattle.sqltables.specs.Domain.{domain_after_id}
-use Rattle.sqldomains.specs.inner.Delegations.{ends_of, with_page}
+use Rattle.sqldomains.proofs.Words.{Content, domain_after_id, ends_of, reads-on, with_page}
 use Rattle.sqldomains.proofs.PageLemmas.{WalksOn, walk-begins, walk-ends, walk-goes-on}
 use Rattle.sqldomains.proofs.zone_rows.page_by_page.Goals as goal
 

@@ -1,8 +1,5 @@
 use Rattle.std.proofs.Common.{sym, ap, ◌∙◌, filter}
-use Rattle.sqlrows.proofs.StateLemmas.{reads-on}
-use Rattle.sqltables.specs.Content.{Content}
-use Rattle.sqltables.specs.Transfer.{transfer_of_domains}
-use Rattle.sqldomains.specs.inner.Delegations.{with_rows}
+use Rattle.sqldomains.proofs.Words.{Content, reads-on, transfer_of_domains, with_rows}
 use Rattle.sqldomains.proofs.FoundLemmas.{asked-finds}
 use Rattle.sqldomains.proofs.zone_rows.with_page.Goals as goal
 

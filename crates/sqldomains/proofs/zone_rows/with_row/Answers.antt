@@ -1,7 +1,5 @@
 use Rattle.std.proofs.Common.{Some, option_map, sym, ap, ◌∙◌}
-use Rattle.sqldomains.specs.Domains.{domain_by}
-use Rattle.sqldomains.specs.inner.Delegations.{delegated}
-use Rattle.sqldomains.specs.inner.Names.{with_one}
+use Rattle.sqldomains.proofs.Words.{delegated, domain_by, with_one}
 use Rattle.sqldomains.proofs.zone_rows.with_row.Goals as goal
 
 pub returns : goal.returns

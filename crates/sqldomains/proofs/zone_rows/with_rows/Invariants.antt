@@ -1,6 +1,5 @@
 use Rattle.std.proofs.Common.{◌≡◌, true}
-use Rattle.states.specs.States.{Reads}
-use Rattle.sqldomains.specs.inner.Delegations.{with_rows}
+use Rattle.sqldomains.proofs.Words.{Reads, with_rows}
 use Rattle.sqldomains.proofs.zone_rows.with_rows.Given as goal
 
 -- nothing was changed, and the rows that are left give what all of them do
