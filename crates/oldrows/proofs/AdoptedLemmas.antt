@@ -1,9 +1,9 @@
 -- What the rows are over a database that was read anew.
-use Rattle.std.proofs.Common.{◌≡◌, ◌≢◌, ◌&&◌, inl, Bool, true, false, List, [], ◌∷◌, ◌++◌, map, IsTrue, refl, sym, ap, subst, ◌∙◌}
+use Rattle.std.proofs.Common.{◌≡◌, ◌≢◌, ◌&&◌, inl, Bool, true, false, List, [], ◌∷◌, ◌++◌, IsTrue, refl, sym, ap, subst, ◌∙◌}
 use Rattle.std.proofs.lemmas.Bool.{and_parts}
 use Rattle.std.specs.List.{AllByRecursion}
 use Rattle.sqlite_trees.specs.declared.store.Shape.TheVariants as shape
-use Rattle.sqlite_value.specs.Order.{Row}
+use Rattle.sqlite_trees.proofs.ListLemmas.{map-map}
 use Rattle.sqlite_trees.specs.Tree.{Trees}
 use Rattle.sqlite_trees.specs.View.{IsShaped}
 use Rattle.sqlite_schema.specs.declared.schema.Constraint.TheVariants.{Datatype, NotNull}
@@ -21,7 +21,6 @@ use Rattle.sqltables.specs.Domain.{domains}
 use Rattle.sqltables.specs.Host.{hosts}
 use Rattle.sqltables.specs.Address.{addresses}
 use Rattle.sqltables.specs.Link.{links}
-use Rattle.sqltables.specs.declared.line.LineRow.{LineRow}
 use Rattle.sqltables.specs.Message.{messages}
 use Rattle.sqltables.specs.Transfer.{transfers}
 use Rattle.sqltables.specs.Decoding.{meta_in, account_in, contact_in, domain_in, host_in, address_in, link_in, message_in, transfer_in}
@@ -36,10 +35,6 @@ use Rattle.oldrows.specs.Stored.{IsRead, OldState}
 use Rattle.sqltables.specs.Content.{Content}
 use Rattle.states.specs.States.{Has, Remains}
 use Rattle.states.proofs.LeavingLemmas.{has-alone}
-
-endless-read : (rows : List Row) → map without_end (map first_line_in rows) ≡ map first_line_in rows
-endless-read [] = refl
-endless-read (r ∷ rows) = ap (λ (xs : List LineRow). first_line_in r ∷ xs) (endless-read rows)
 
 -- a sound database that lies in order holds the rows that it decodes to
 old_of_sound : (db : Database) → IsDatabase db → db.schema ≡ first_registry → IsInOrder db → IsOld (old_contents db.trees) db
@@ -61,34 +56,42 @@ old_of_sound db sound is in_order =
       lines = holds first_lines first_line_in (after_key first_line) d (λ r. refl) refl refl t.1.1.1.1.1.1.1.0 p.1.1.1.1.1.1.1.0 o.1.1.1.1.1.1.1.0;
       messages = holds messages message_in (after_key message) d (λ r. refl) refl refl t.1.1.1.1.1.1.1.1.0 p.1.1.1.1.1.1.1.1.0 o.1.1.1.1.1.1.1.1.0;
       transfers = holds transfers transfer_in (after_key transfer) d (λ r. refl) refl refl t.1.1.1.1.1.1.1.1.1.0 p.1.1.1.1.1.1.1.1.1.0 o.1.1.1.1.1.1.1.1.1.0;
-      endless = endless-read (d 11);
+      endless = map-map without_end first_line_in (d 11);
       days = refl;
     }
 
-pub fits_found : (s : State) → IsFound s → (is_there : Bool) → (is_there ≡ true → s.now.schema ≡ first_registry) → FitsOld is_there s
-fits_found s found is_there is clean opened there =
-    let it = found clean in
-    record { mode = it.0.autocommit; holds = old_of_sound s.now it.1 (is there) it.2; settled = it.0.clean }
+left-by : (is_there : Bool) (db : Database) (trees : Trees) → db.trees ≡ trees → IsSound db.schema db.trees → (is_there ≡ true → db.schema ≡ first_registry) → (is_there ≡ false → db.schema ≢ first_registry)
+    → IsShapedAsOld (old_readiness is_there) trees × IsSeenAs (old_readiness is_there) trees (old_rows is_there db.trees)
+left-by true db trees e sound is not = (subst (IsSound first_registry) e (subst (λ (s : Schema). IsSound s db.trees) (is refl) sound), ap old_contents e)
+left-by false db trees e sound is not = ((λ ours. not refl (schema_once trees db.schema first_registry (subst (IsSound db.schema) e sound) ours)), refl)
 
-seen : (is_there : Bool) (db trees : Trees) → db ≡ trees → IsSeenAs (old_readiness is_there) trees (old_rows is_there db)
-seen true db trees e = ap old_contents e
-seen false db trees e = refl
+module _ (s : State) (found : IsFound s) (is_there : Bool) (is : is_there ≡ true → s.now.schema ≡ first_registry) where
+  pub fits_found : FitsOld is_there s
+  fits_found clean opened there =
+      let it = found clean in
+      record { mode = it.0.autocommit; holds = old_of_sound s.now it.1 (is there) it.2; settled = it.0.clean }
 
-shaped : (is_there : Bool) (db : Database) (trees : Trees) → db.trees ≡ trees → IsSound db.schema db.trees → (is_there ≡ true → db.schema ≡ first_registry) → (is_there ≡ false → db.schema ≢ first_registry) → IsShapedAsOld (old_readiness is_there) trees
-shaped true db trees e sound is not = subst (IsSound first_registry) e (subst (λ (s : Schema). IsSound s db.trees) (is refl) sound)
-shaped false db trees e sound is not = λ ours. not refl (schema_once trees db.schema first_registry (subst (IsSound db.schema) e sound) ours)
+  module _ (not : is_there ≡ false → s.now.schema ≢ first_registry) where
+    left-as : (trees : Trees) → HasCleanDisk s → s.now.trees ≡ trees → IsLeftAsOld (old_remains is_there s) trees
+    left-as trees clean e = left-by is_there s.now trees e (found clean).1 is not
 
-left-as : (s : State) → IsFound s → (is_there : Bool) → (is_there ≡ true → s.now.schema ≡ first_registry) → (is_there ≡ false → s.now.schema ≢ first_registry)
-    → (trees : Trees) → HasCleanDisk s → s.now.trees ≡ trees → IsLeftAsOld (old_remains is_there s) trees
-left-as s found is_there is not trees clean e = (shaped is_there s.now trees e (found clean).1 is not, seen is_there s.now.trees trees e)
+    -- what is found may be left, and nothing else
+    pub guards_found : ((db : Trees) → IsTrue s.is_open → s.may_leave db → db ≡ s.committed.trees) → GuardsOld s (old_remains is_there s ∷ [])
+    guards_found settled clean db may =
+        let it = (found clean).0 in
+        let same : s.now.trees ≡ db = ap (λ (d : Database). d.trees) it.clean ∙ sym (settled db it.is_open may) in
+        (old_remains is_there s, inl refl, left-as db clean same)
 
--- what is found may be left, and nothing else
-pub guards_found : (s : State) → IsFound s → (is_there : Bool) → (is_there ≡ true → s.now.schema ≡ first_registry) → (is_there ≡ false → s.now.schema ≢ first_registry)
-    → ((db : Trees) → IsTrue s.is_open → s.may_leave db → db ≡ s.committed.trees) → GuardsOld s (old_remains is_there s ∷ [])
-guards_found s found is_there is not settled clean db may =
-    let it = (found clean).0 in
-    let same : s.now.trees ≡ db = ap (λ (d : Database). d.trees) it.clean ∙ sym (settled db it.is_open may) in
-    (old_remains is_there s, inl refl, left-as s found is_there is not db clean same)
+    pub shown : (trees : Trees) → (HasCleanDisk s → s.now.trees ≡ trees) → IsSeen trees (as_found is_there s (old_remains is_there s ∷ []))
+    shown trees same =
+        let left : ((s.is_clean && s.is_open) ≡ true → IsLeftAsOld (old_remains is_there s) trees) =
+        λ e. let clean = honest s (and_parts s.is_clean s.is_open e).0 in left-as trees clean (same clean) in
+        record {
+          content = λ e. (left e).1;
+          shaped = λ e. (left e).0;
+          answers = λ e. ap (λ (b : Bool). b && s.is_open) e ∙ (found (honest s e)).0.is_open;
+          leaves = λ e it h. subst (λ (l : Remains Content). IsLeftAsOld l trees) (sym (has-alone (old_remains is_there s) it h)) (left e);
+        }
 
 pub seen-alone : {C : Type 0} (state-of : C → State) (none notes : List (C × Bool)) (conn : C) (is_there : Bool) → none ≡ [] → notes ≡ none ++ (conn, is_there) ∷ [] → old_leaves state-of notes ≡ old_remains is_there (state-of conn) ∷ []
 seen-alone state-of none notes conn is_there empty is = ap (old_leaves state-of) (is ∙ ap (λ l. l ++ (conn, is_there) ∷ []) empty)
@@ -99,19 +102,6 @@ pub left-alone : (trees : Trees) (was now : OldState) → IsSeen trees was → I
 left-alone trees was now seen-as reads honest-now may_leave covers db may =
     let it = covers db may in
     (it.0, seen-as.leaves (seen-as.answers (reads.honest honest-now)) it.0 (subst (λ (l : List (Remains Content)). Has l it.0) reads.leaves it.1), it.2)
-
-pub shown : (s : State) → IsFound s → (is_there : Bool) → (is_there ≡ true → s.now.schema ≡ first_registry) → (is_there ≡ false → s.now.schema ≢ first_registry)
-    → (trees : Trees) → (HasCleanDisk s → s.now.trees ≡ trees) → IsSeen trees (as_found is_there s (old_remains is_there s ∷ []))
-shown s found is_there is not trees same = record {
-  content = λ e. seen is_there s.now.trees trees (same (honest s (and_parts s.is_clean s.is_open e).0));
-  shaped = λ e.
-      let clean = honest s (and_parts s.is_clean s.is_open e).0 in
-      shaped is_there s.now trees (same clean) (found clean).1 is not;
-  answers = λ e. ap (λ (b : Bool). b && s.is_open) e ∙ (found (honest s e)).0.is_open;
-  leaves = λ e left h.
-      let clean = honest s (and_parts s.is_clean s.is_open e).0 in
-      subst (λ (l : Remains Content). IsLeftAsOld l trees) (sym (has-alone (old_remains is_there s) left h)) (left-as s found is_there is not trees clean (same clean));
-}
 
 -- what always holds of the rows
 pub consistent_of : (s : State) (is_there : Bool) → FitsOld is_there s → (s.is_clean && s.is_open) ≡ true → IsOldContent (old_rows is_there s.now.trees)

@@ -18,7 +18,7 @@ use Rattle.sqlrows.proofs.SoundLemmas.{not_queried_open, queried_open, was_open}
 use Rattle.sqlrows.proofs.StandLemmas.{commits_nothing, same_if_shown, stands_if_not_shown}
 use Rattle.sqltables.specs.Content.{Content}
 use Rattle.sqltables.specs.inner.FirstTables.{first_registry}
-use Rattle.sqltables.proofs.StandingLemmas.{clean-of, honest, leaves-no-more, was-honest}
+use Rattle.sqltables.proofs.StandingLemmas.{answered-open, clean-of, honest, leaves-no-more, was-honest}
 use Rattle.states.specs.declared.fault.BookFault.{BookFault}
 use Rattle.states.specs.States.{Remains}
 use Rattle.oldrows.specs.inner.Stored.{AgreesAsOld, Asks, FindsOld, FitsOld, GuardsOld, IsOld, old_contents, old_rows, as_found}
@@ -26,120 +26,84 @@ use Rattle.oldrows.specs.Stored.{Answers, IsRead, OldState}
 use Rattle.oldrows.proofs.CopyLemmas.{read-on}
 
 -- the database is the same one, and nothing is open
-record IsSame (old new : State) : Type 0 where
-  pub db : new.now ≡ old.now
-  pub mode : new.in_transaction ≡ false
-  pub settled : new.now ≡ new.committed
+agrees-at : (old new : State) → AgreesAsOld old → new.now ≡ old.now → new.in_transaction ≡ false → new.now ≡ new.committed → (new.now ≡ old.now) × AgreesAsOld new
+agrees-at old new it db mode settled = (
+  db,
+  record { mode = mode; holds = subst (λ (db : Database). IsOld (old_contents db.trees) db) (sym db) it.holds; settled = settled },
+)
 
-same-after : (old new : State) → AgreesAsOld old → IsTrue new.is_open → StaysOrUndoes old new → IsSame old new
-same-after old new it opened (inl same) = record {
-  db = same.0.now_is;
-  mode = same.0.mode ∙ it.mode;
-  settled = same.0.now_is ∙ it.settled ∙ sym same.0.committed_is;
-}
-same-after old new it opened (inr back) = let gone = back.undone opened in record {
-  db = gone.0 ∙ sym it.settled;
-  mode = back.autocommit;
-  settled = gone.0 ∙ sym gone.1;
-}
-
-agrees-same : (old new : State) → AgreesAsOld old → IsSame old new → AgreesAsOld new
-agrees-same old new it same = record {
-  mode = same.mode;
-  holds = subst (λ (db : Database). IsOld (old_contents db.trees) db) (sym same.db) it.holds;
-  settled = same.settled;
-}
+agrees-after : (old new : State) → AgreesAsOld old → IsTrue new.is_open → StaysOrUndoes old new → (new.now ≡ old.now) × AgreesAsOld new
+agrees-after old new it opened (inl same) =
+    agrees-at old new it same.0.now_is (same.0.mode ∙ it.mode) (same.0.now_is ∙ it.settled ∙ sym same.0.committed_is)
+agrees-after old new it opened (inr back) = let gone = back.undone opened in
+    agrees-at old new it (gone.0 ∙ sym it.settled) back.autocommit (gone.0 ∙ sym gone.1)
 
 -- the same rows are seen, if the tables are there
 same-rows : (is_there : Bool) (old new : State) → (is_there ≡ true → new.now ≡ old.now) → old_rows is_there new.now.trees ≡ old_rows is_there old.now.trees
 same-rows true old new same = ap (λ (db : Database). old_contents db.trees) (same refl)
 same-rows false old new same = refl
 
--- ---- a text is made ready
+-- ---- a call that changed nothing, or ended what there was
 
-module _ (is_there : Bool) (old new : State) (survives : Survives old new (λ _. ⊥)) (fits : FitsOld is_there old) (stood : HasCleanDisk new → StaysOrUndoes old new) where
-  looked : HasCleanDisk new → IsTrue new.is_open → is_there ≡ true → AgreesAsOld old × IsSame old new
-  looked clean opened there =
-      let it = fits (was-honest old new (λ _. ⊥) survives clean) (was_open old new (stood clean) opened) there in
-      (it, same-after old new it opened (stood clean))
+pub guards-on : (old new : State) (leaves : List (Remains Content)) → (HasCleanDisk new → Survives old new (λ _. ⊥)) → GuardsOld old leaves → GuardsOld new leaves
+guards-on old new leaves survives guards clean db may =
+    guards (was-honest old new (λ _. ⊥) (survives clean) clean) db (leaves-no-more old new (survives clean) clean db may)
 
-  pub fits-looked : FitsOld is_there new
-  fits-looked clean opened there = let it = looked clean opened there in agrees-same old new it.0 it.1
+module _ (is_there : Bool) (old new : State) (P : Trees → Type 0) (survives : Survives old new P) (fits : FitsOld is_there old) (stood : HasCleanDisk new → IsTrue new.is_open → StaysOrUndoes old new) where
+  stayed : HasCleanDisk new → IsTrue new.is_open → is_there ≡ true → (new.now ≡ old.now) × AgreesAsOld new
+  stayed clean opened there =
+      let left = stood clean opened in
+      agrees-after old new (fits (was-honest old new P survives clean) (was_open old new left opened) there) opened left
 
-  pub guards-looked : (leaves : List (Remains Content)) → GuardsOld old leaves → GuardsOld new leaves
-  guards-looked leaves guards clean db may = guards (was-honest old new (λ _. ⊥) survives clean) db (leaves-no-more old new survives clean db may)
+  pub fits-stood : FitsOld is_there new
+  fits-stood clean opened there = (stayed clean opened there).1
 
-  pub reads-looked : (leaves : List (Remains Content)) → IsRead (as_found is_there old leaves) (as_found is_there new leaves)
-  reads-looked leaves = record {
+  pub reads-stood : (leaves : List (Remains Content)) → IsRead (as_found is_there old leaves) (as_found is_there new leaves)
+  reads-stood leaves = record {
     clean = λ c. let parts = and_parts new.is_clean new.is_open c in let clean = honest new parts.0 in
-        ap (λ (b : Bool). b && old.is_open) (clean-of old (was-honest old new (λ _. ⊥) survives clean)) ∙ was_open old new (stood clean) parts.1;
-    honest = λ e. clean-of old (was-honest old new (λ _. ⊥) survives (honest new e));
+        ap (λ (b : Bool). b && old.is_open) (clean-of old (was-honest old new P survives clean)) ∙ was_open old new (stood clean parts.1) parts.1;
+    honest = λ e. clean-of old (was-honest old new P survives (honest new e));
     content = λ c. let parts = and_parts new.is_clean new.is_open c in
-        same-rows is_there old new (λ there. (looked (honest new parts.0) parts.1 there).1.db);
+        same-rows is_there old new (λ there. (stayed (honest new parts.0) parts.1 there).0);
     ready = refl;
     leaves = refl;
   }
 
 -- ---- a query
 
-module _ (sql : List ℕ) (params : Row) (is_there : Bool) (old new : State) (P : Trees → Type 0) (survives : Survives old new P) (fits : FitsOld is_there old) (there : is_there ≡ true) (plain : IsPlain (understood first_registry sql)) where
+module _ (sql : List ℕ) (params : Row) (is_there : Bool) (old new : State) (survives : Survives old new (CommitsShowing sql params old)) (fits : FitsOld is_there old) (there : is_there ≡ true) (plain : IsPlain (understood first_registry sql)) where
+  was : HasCleanDisk new → HasCleanDisk old
+  was = was-honest old new (CommitsShowing sql params old) survives
+
   plain-in : AgreesAsOld old → IsPlain (understood old.now.schema sql)
   plain-in h = subst (λ (s : Schema). IsPlain (understood s sql)) (sym h.holds.schema) plain
 
   agreed : (found : List Row) → HasCleanDisk new → Shown sql params old new found → AgreesAsOld old
-  agreed found clean seen = fits (was-honest old new P survives clean) (queried_open sql params old new found seen) there
+  agreed found clean seen = fits (was clean) (queried_open sql params old new found seen) there
 
   same-if : (found : List Row) → HasCleanDisk new → Shown sql params old new found → IsUnchanged old new
   same-if found clean seen = same_if_shown sql params old new found (plain-in (agreed found clean seen)) seen
 
-  -- after an answer
-  pub fits-shown : (found : List Row) → (HasCleanDisk new → Shown sql params old new found) → FitsOld is_there new
-  fits-shown found seen clean opened _ =
-      let it = agreed found clean (seen clean) in
-      agrees-same old new it (same-after old new it opened (inl (same-if found clean (seen clean))))
+  pub stood-shown : (found : List Row) → (HasCleanDisk new → Shown sql params old new found) → HasCleanDisk new → IsTrue new.is_open → StaysOrUndoes old new
+  stood-shown found seen clean opened = inl (same-if found clean (seen clean))
 
-  pub reads-shown : (leaves : List (Remains Content)) (found : List Row) → (HasCleanDisk new → Shown sql params old new found) → IsRead (as_found is_there old leaves) (as_found is_there new leaves)
-  reads-shown leaves found seen = record {
-    honest = λ e. clean-of old (was-honest old new P survives (honest new e));
-    leaves = refl;
-    clean = λ e. let clean = honest new (and_parts new.is_clean new.is_open e).0 in
-        ap (λ (b : Bool). b && old.is_open) (clean-of old (was-honest old new P survives clean)) ∙ (same-if found clean (seen clean)).0.was_open;
-    content = λ e. ap (λ (db : Database). old_rows is_there db.trees) (same-if found (honest new (and_parts new.is_clean new.is_open e).0) (seen (honest new (and_parts new.is_clean new.is_open e).0))).0.now_is;
-    ready = refl;
-  }
+  pub stood-left : (e : Error) → (HasCleanDisk new → FailsToQuery sql params old new e) → HasCleanDisk new → IsTrue new.is_open → StaysOrUndoes old new
+  stood-left e fails clean opened =
+      stands_if_not_shown sql params old new e (plain-in (fits (was clean) (not_queried_open sql params old new e (fails clean) opened) there)) (fails clean)
+
+  -- it commits nothing, where the database answers
+  pub kept : (leaves : List (Remains Content)) → Answers (as_found is_there old leaves) → (HasCleanDisk new → IsTrue new.is_open → StaysOrUndoes old new) → GuardsOld old leaves → FitsOld is_there new × GuardsOld new leaves
+  kept leaves answers stood guards = (
+    fits-stood is_there old new (CommitsShowing sql params old) survives fits stood,
+    guards-on old new leaves (λ clean. commits_nothing sql params old new
+        (plain-in (fits (was clean) (answered-open old new (CommitsShowing sql params old) survives answers clean) there)) survives) guards,
+  )
 
   -- what answered is open
-  pub answers-shown : (leaves : List (Remains Content)) (found : List Row) → (HasCleanDisk new → Shown sql params old new found) → Answers (as_found is_there new leaves)
+  answers-shown : (leaves : List (Remains Content)) (found : List Row) → (HasCleanDisk new → Shown sql params old new found) → Answers (as_found is_there new leaves)
   answers-shown leaves found seen e =
       let clean = honest new e in
       ap (λ (b : Bool). b && new.is_open) e ∙ (same-if found clean (seen clean)).0.is_open
-
-  -- a query commits nothing, where the connection is open
-  pub guards-asked : Survives old new (CommitsShowing sql params old) → (HasCleanDisk new → IsTrue old.is_open) → (leaves : List (Remains Content)) → GuardsOld old leaves → GuardsOld new leaves
-  guards-asked shows opened leaves guards clean db may =
-      let was = was-honest old new P survives clean in
-      guards was db (leaves-no-more old new (commits_nothing sql params old new (plain-in (fits was (opened clean) there)) shows) clean db may)
-
-  -- after an error
-  left-by : (e : Error) → (HasCleanDisk new → FailsToQuery sql params old new e) → HasCleanDisk new → IsTrue new.is_open → AgreesAsOld old × IsSame old new × IsTrue old.is_open
-  left-by e fails clean opened =
-      let it = fits (was-honest old new P survives clean) (not_queried_open sql params old new e (fails clean) opened) there in
-      let left = stands_if_not_shown sql params old new e (plain-in it) (fails clean) in
-      (it, same-after old new it opened left, was_open old new left opened)
-
-  pub fits-left : (e : Error) → (HasCleanDisk new → FailsToQuery sql params old new e) → FitsOld is_there new
-  fits-left e fails clean opened _ = let it = left-by e fails clean opened in agrees-same old new it.0 it.1
-
-  pub reads-left : (leaves : List (Remains Content)) (e : Error) → (HasCleanDisk new → FailsToQuery sql params old new e) → IsRead (as_found is_there old leaves) (as_found is_there new leaves)
-  reads-left leaves e fails = record {
-    honest = λ c. clean-of old (was-honest old new P survives (honest new c));
-    leaves = refl;
-    clean = λ c. let parts = and_parts new.is_clean new.is_open c in let clean = honest new parts.0 in
-        ap (λ (b : Bool). b && old.is_open) (clean-of old (was-honest old new P survives clean)) ∙ (left-by e fails clean parts.1).2;
-    content = λ c. let parts = and_parts new.is_clean new.is_open c in
-        ap (λ (db : Database). old_rows is_there db.trees) (left-by e fails (honest new parts.0) parts.1).1.db;
-    ready = refl;
-  }
 
 -- the records that an answer shows
 answered : {R : Type 0} (shown : R → Row) (sql : List ℕ) (f : Content → List R) → Asks shown sql f → (old new : State) → IsOld (old_contents old.now.trees) old.now → (found : List Row) → Shown sql [] old new found
@@ -152,17 +116,17 @@ finds-by : {A : Type 0} (result : Result A BookFault) (v : A) (old new : OldStat
 finds-by (Ok it) v old new reads answers same = (record { reads = reads; answers = λ was. answers }, same)
 finds-by (Err fault) v old new reads answers same = reads
 
-pub asked : {R : Type 0} (shown : R → Row) (sql : List ℕ) (is_there : Bool) (old new : State) (P : Trees → Type 0) (leaves : List (Remains Content)) → Survives old new P → FitsOld is_there old → is_there ≡ true
+pub asked : {R : Type 0} (shown : R → Row) (sql : List ℕ) (is_there : Bool) (old new : State) (leaves : List (Remains Content)) → Survives old new (CommitsShowing sql [] old) → FitsOld is_there old → is_there ≡ true
     → (f : Content → List R) → Asks shown sql f → (found : List Row) → (HasCleanDisk new → Shown sql [] old new found) → (result : Result (List R) BookFault)
     → ((xs : List R) → found ≡ map shown xs → IfOk result (λ out. out ≡ xs)) → FindsOld result (f (old_rows is_there old.now.trees)) (as_found is_there old leaves) (as_found is_there new leaves)
-asked shown sql is_there old new P leaves survives fits there f asks found seen result read =
+asked shown sql is_there old new leaves survives fits there f asks found seen result read =
     let plain = asks.is.plain in
     finds-by result (f (old_rows is_there old.now.trees)) (as_found is_there old leaves) (as_found is_there new leaves)
-    (reads-shown sql [] is_there old new P survives fits there plain leaves found seen)
-    (answers-shown sql [] is_there old new P survives fits there plain leaves found seen)
+    (reads-stood is_there old new (CommitsShowing sql [] old) survives fits (stood-shown sql [] is_there old new survives fits there plain found seen) leaves)
+    (answers-shown sql [] is_there old new survives fits there plain leaves found seen)
     (λ e. let clean = honest new (and_parts new.is_clean new.is_open e).0 in
     read (f (old_rows is_there old.now.trees))
-    (answered shown sql f asks old new (agreed sql [] is_there old new P survives fits there plain found clean (seen clean)).holds found (seen clean)
+    (answered shown sql f asks old new (agreed sql [] is_there old new survives fits there plain found clean (seen clean)).holds found (seen clean)
     ∙ ap (λ (b : Bool). map shown (f (old_rows b old.now.trees))) (sym there)))
 
 -- a question behind a look at the database that found it answering
@@ -172,7 +136,3 @@ asked-behind (Ok it) s m t f reads answers found = (
   λ e. found.1 e ∙ ap f (reads.content (found.0.reads.clean e)),
 )
 asked-behind (Err fault) s m t f reads answers found = read-on s m t reads found
-
--- what answers as long as the disk is clean was open
-pub open-if-asked : (is_there : Bool) (old new : State) (P : Trees → Type 0) (leaves : List (Remains Content)) → Survives old new P → Answers (as_found is_there old leaves) → HasCleanDisk new → IsTrue old.is_open
-open-if-asked is_there old new P leaves survives answers clean = (and_parts old.is_clean old.is_open (answers (clean-of old (was-honest old new P survives clean)))).1

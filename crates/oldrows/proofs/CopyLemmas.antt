@@ -1,19 +1,19 @@
 -- Rows put one after another.
-use Rattle.std.proofs.Common.{◌≡◌, ℕ, zero, suc, ◌+◌, ℤ, ◌<ℤ◌, true, Some, slice_get, List, [], ◌∷◌, ◌++◌, drop, Result, Ok, Err, refl, sym, ap, ◌∙◌, append-nil}
-use Rattle.std.proofs.lemmas.List.{append_assoc, drop-drop}
+use Rattle.std.proofs.Common.{◌≡◌, ℕ, ◌+◌, ◌<◌, ℤ, ◌<ℤ◌, true, get_or, length, List, [], ◌∷◌, ◌++◌, drop, Result, Ok, Err, refl, sym, ap, ap₂, ◌∙◌, add-one, append-nil, drop-cons}
+use Rattle.std.proofs.lemmas.List.{append_assoc}
 use Rattle.std.specs.List.{AllByRecursion}
 use Rattle.std.specs.Ordering.{match_ordering}
 use Rattle.std.specs.declared.cmp.Ordering.{Ordering}
 use Rattle.sqlite_keyed.specs.Keyed.{IsKeyedBy, insert_by}
 use Rattle.sqlite_keyed.proofs.KeyedLemmas.{Less-from_lt}
-use Rattle.sqlite_keyed.proofs.ListLemmas.{all-append, all_both}
-use Rattle.sqlrows.specs.Meanings.{HasChanged}
+use Rattle.sqlite_keyed.proofs.ListLemmas.{all-append, all_both, all_of}
 use Rattle.states.specs.declared.fault.BookFault.{BookFault}
 use Rattle.states.specs.States.{Makes, StateOf, Writes}
 use Rattle.states.proofs.LeavingLemmas.{leaves-on}
 use Rattle.sqltables.specs.Content.{Content}
 use Rattle.oldrows.specs.Stored.{IsAsked, IsRead, OldState}
-use Rattle.oldrows.specs.inner.Copies.{Copies, IsCopyLeft, IsOnItsWay, put_rows}
+use Rattle.oldrows.specs.inner.Copies.{Copies, IsCopyLeft, IsOnItsWay, IsToPut, put_rows}
+use Rattle.oldrows.specs.inner.Tables.{Table}
 
 -- ---- rows in the order of their numbers
 
@@ -33,21 +33,11 @@ module _ {X : Type 0} (key : X → ℤ) where
       (all_both (λ z. AllByRecursion (λ x. key x <ℤ key z) xs) (λ z. key y <ℤ key z) (λ z. AllByRecursion (λ x. key x <ℤ key z) (xs ++ y ∷ [])) (λ z p q. all-append (λ x. key x <ℤ key z) xs (y ∷ []) p (q, tt)) ys low.1 up.0)
       ∙ append_assoc xs (y ∷ []) ys
 
-  nothing-below : (ys : List X) → AllByRecursion (λ y. AllByRecursion (λ x. key x <ℤ key y) []) ys
-  nothing-below [] = tt
-  nothing-below (y ∷ ys) = (tt, nothing-below ys)
-
   pub put-keyed : (ys : List X) → IsKeyedBy key ys → put_rows key ys [] ≡ ys
-  put-keyed ys up = put-rising [] ys up (nothing-below ys)
+  put-keyed ys up = put-rising [] ys up (all_of (λ y. AllByRecursion (λ x. key x <ℤ key y) []) (λ y. tt) ys)
 
-there : {X : Type 0} (xs : List X) (i : ℕ) (x : X) → slice_get xs i ≡ Some x → drop i xs ≡ x ∷ drop 1 (drop i xs)
-there [] zero x e = cc
-there [] (suc i) x e = cc
-there (y ∷ ys) zero x e = let same : y ≡ x = cc in ap (λ a. a ∷ ys) same
-there (y ∷ ys) (suc i) x e = there ys i x e
-
-pub drop-there : {X : Type 0} (xs : List X) (i : ℕ) (x : X) → slice_get xs i ≡ Some x → drop i xs ≡ x ∷ drop (i + 1) xs
-drop-there xs i x e = there xs i x e ∙ ap (λ rest. x ∷ rest) (drop-drop 1 i xs)
+pub drop-there : {X : Type 0} (xs : List X) (i : ℕ) (x : X) → i < length xs → x ≡ get_or xs i x → drop i xs ≡ x ∷ drop (i + 1) xs
+drop-there xs i x within is = drop-cons xs i x within ∙ ap₂ ◌∷◌ (sym is) (ap (λ n. drop n xs) (sym (add-one i)))
 
 -- ---- what calls leave
 
@@ -76,33 +66,31 @@ copied-so (Ok done) put rows of from read store written asked same makes = recor
 }
 copied-so (Err fault) put rows of from read store written asked same makes = record { source = asked.reads; target = makes }
 
--- one more row
-pub put-more : {X : Type 0} (key : X → ℤ) (to : (List X → List X) → Content → Content) → ((f g : List X → List X) (c : Content) → to g (to f c) ≡ to (λ xs. g (f xs)) c)
-    → (all rest : List X) (row : X) (a b c : StateOf Content) → HasChanged (λ was is. to (put_rows key (row ∷ rest)) is ≡ to (put_rows key all) was) a b → Writes (to (λ xs. insert_by key xs row) b.content) b c
-    → HasChanged (λ was is. to (put_rows key rest) is ≡ to (put_rows key all) was) a c
-put-more key to together all rest row a b c on wrote = record {
-  clean = λ e. on.clean (wrote.clean e);
-  before = λ e. wrote.before e ∙ on.before (wrote.clean e);
-  opened = wrote.opened;
-  answers = λ was. wrote.answers (on.answers was);
-  leaves = leaves-on a b c on.leaves wrote.leaves;
-  content = λ e.
-      ap (to (put_rows key rest)) (wrote.content e)
-      ∙ together (λ xs. insert_by key xs row) (put_rows key rest) b.content
-      ∙ on.content (wrote.clean e);
-}
+module _ {X : Type 0} (table : Table X) (all : List X) where
+  -- one more row
+  pub put-more : (rest : List X) (row : X) (a b c : StateOf Content) → IsToPut table all (row ∷ rest) a b → Writes (table.rows_to (λ xs. insert_by table.key xs row) b.content) b c → IsToPut table all rest a c
+  put-more rest row a b c on wrote = record {
+    clean = λ e. on.clean (wrote.clean e);
+    before = λ e. wrote.before e ∙ on.before (wrote.clean e);
+    opened = wrote.opened;
+    answers = λ was. wrote.answers (on.answers was);
+    leaves = leaves-on a b c on.leaves wrote.leaves;
+    content = λ e.
+        ap (table.rows_to (put_rows table.key rest)) (wrote.content e)
+        ∙ table.together (λ xs. insert_by table.key xs row) (put_rows table.key rest) b.content
+        ∙ on.content (wrote.clean e);
+  }
 
--- after the last one
-pub all-put : {X : Type 0} (key : X → ℤ) (to : (List X → List X) → Content → Content) → ((c : Content) → to (λ xs. xs) c ≡ c)
-    → (all : List X) (a b : StateOf Content) → HasChanged (λ was is. to (put_rows key []) is ≡ to (put_rows key all) was) a b → Writes (to (put_rows key all) a.content) a b
-all-put key to none all a b on = record {
-  clean = on.clean;
-  before = on.before;
-  opened = on.opened;
-  answers = on.answers;
-  leaves = on.leaves;
-  content = λ e. sym (none b.content) ∙ on.content e;
-}
+  -- after the last one
+  pub all-put : (a b : StateOf Content) → IsToPut table all [] a b → Writes (table.rows_to (put_rows table.key all) a.content) a b
+  all-put a b on = record {
+    clean = on.clean;
+    before = on.before;
+    opened = on.opened;
+    answers = on.answers;
+    leaves = on.leaves;
+    content = λ e. sym (table.none b.content) ∙ on.content e;
+  }
 
 -- a table that wasn't copied
 pub left-on : (put rest : Content → Content → Content) (from read more : OldState) (to written wrote : StateOf Content) → IsOnItsWay put rest from read to written → IsCopyLeft read more written wrote → IsCopyLeft from more to wrote

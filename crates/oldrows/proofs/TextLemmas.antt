@@ -1,8 +1,9 @@
 -- What the texts ask for.
-use Rattle.std.proofs.Common.{◌≡◌, ℕ, zero, suc, ap, map, ◌∙◌, refl, List, [], ◌∷◌, true}
+use Rattle.std.proofs.Common.{◌≡◌, ℕ, ap, map, sym, ◌∙◌, refl, List, [], ◌∷◌, true}
 use Rattle.sqlite_value.specs.declared.value.Value.TheVariants.{Null}
 use Rattle.sqlite_value.specs.Order.{Row}
 use Rattle.sqlite_sql.specs.Term.{Term, col, eval_all, lit}
+use Rattle.sqlite_trees.proofs.ListLemmas.{map-map}
 use Rattle.sqlite_keyed.proofs.ListLemmas.{filter_all, all_of}
 use Rattle.sqlite.specs.Effect.{Database}
 use Rattle.sqlite.specs.Listing.{understood}
@@ -23,17 +24,10 @@ use Rattle.sqltables.specs.Line.{line_shown}
 use Rattle.sqltables.specs.declared.line.LineRow.{LineRow}
 use Rattle.sqltables.specs.Message.{message_shown, messages}
 use Rattle.sqltables.specs.Transfer.{transfer_shown, transfers}
+use Rattle.sqltables.proofs.StatementLemmas.{all_columns}
 use Rattle.oldrows.specs.inner.Stored.{Asks, IsOld}
 use Rattle.oldrows.specs.inner.Lines.{first_lines, without_end}
 use Rattle.oldrows.specs.inner.Texts.{meta_query, account_query, contact_query, domain_query, host_query, address_query, link_query, line_query, message_query, transfer_query}
-
--- so many columns of a table, from one on; and all of them, the key first, whose own column is NULL
-abbrev columns_from : ℕ → ℕ → List Term
-columns_from at zero = []
-columns_from at (suc more) = col 1 at ∷ columns_from (suc at) more
-
-abbrev key_and : ℕ → List Term
-key_and others = col 1 0 ∷ columns_from 2 others
 
 -- a text that selects these columns of all rows of a table asks for the records that they show
 of-all : {R : Type 0} (L : Layout R) (columns : List Term) (shown : R → Row) (sql : List ℕ) (f : Content → List R)
@@ -50,52 +44,48 @@ of-all L columns shown sql f shows held is = record {
 pub meta_asks : Asks meta_shown meta_query (λ c. c.metas)
 unfolding understood everything
 meta_asks =
-    of-all metas (key_and 16) meta_shown meta_query (λ c. c.metas) (λ x. refl) (λ xs db h. h.metas)
+    of-all metas (all_columns 16) meta_shown meta_query (λ c. c.metas) (λ x. refl) (λ xs db h. h.metas)
     (record { names = _; command = refl; plain = (refl, refl); unlisted = refl })
 
 pub account_asks : Asks account_shown account_query (λ c. c.accounts)
 unfolding understood everything
 account_asks =
-    of-all accounts (key_and 7) account_shown account_query (λ c. c.accounts) (λ x. refl) (λ xs db h. h.accounts)
+    of-all accounts (all_columns 7) account_shown account_query (λ c. c.accounts) (λ x. refl) (λ xs db h. h.accounts)
     (record { names = _; command = refl; plain = (refl, refl); unlisted = refl })
 
 pub contact_asks : Asks contact_shown contact_query (λ c. c.contacts)
 unfolding understood everything
 contact_asks =
-    of-all contacts (key_and 19) contact_shown contact_query (λ c. c.contacts) (λ x. refl) (λ xs db h. h.contacts)
+    of-all contacts (all_columns 19) contact_shown contact_query (λ c. c.contacts) (λ x. refl) (λ xs db h. h.contacts)
     (record { names = _; command = refl; plain = (refl, refl); unlisted = refl })
 
 pub domain_asks : Asks domain_shown domain_query (λ c. c.domains)
 unfolding understood everything
 domain_asks =
-    of-all domains (key_and 14) domain_shown domain_query (λ c. c.domains) (λ x. refl) (λ xs db h. h.domains)
+    of-all domains (all_columns 14) domain_shown domain_query (λ c. c.domains) (λ x. refl) (λ xs db h. h.domains)
     (record { names = _; command = refl; plain = (refl, refl); unlisted = refl })
 
 pub host_asks : Asks host_shown host_query (λ c. c.hosts)
 unfolding understood everything
 host_asks =
-    of-all hosts (key_and 9) host_shown host_query (λ c. c.hosts) (λ x. refl) (λ xs db h. h.hosts)
+    of-all hosts (all_columns 9) host_shown host_query (λ c. c.hosts) (λ x. refl) (λ xs db h. h.hosts)
     (record { names = _; command = refl; plain = (refl, refl); unlisted = refl })
 
 pub address_asks : Asks address_shown address_query (λ c. c.addresses)
 unfolding understood everything
 address_asks =
-    of-all addresses (key_and 2) address_shown address_query (λ c. c.addresses) (λ x. refl) (λ xs db h. h.addresses)
+    of-all addresses (all_columns 2) address_shown address_query (λ c. c.addresses) (λ x. refl) (λ xs db h. h.addresses)
     (record { names = _; command = refl; plain = (refl, refl); unlisted = refl })
 
 pub link_asks : Asks link_shown link_query (λ c. c.links)
 unfolding understood everything
 link_asks =
-    of-all links (key_and 5) link_shown link_query (λ c. c.links) (λ x. refl) (λ xs db h. h.links)
+    of-all links (all_columns 5) link_shown link_query (λ c. c.links) (λ x. refl) (λ xs db h. h.links)
     (record { names = _; command = refl; plain = (refl, refl); unlisted = refl })
 
 -- a line that shows no end of its grace
 abbrev endless_shown : LineRow → Row
 endless_shown x = line_shown (without_end x)
-
-shown-endless : (xs : List LineRow) → map endless_shown xs ≡ map line_shown (map without_end xs)
-shown-endless [] = refl
-shown-endless (x ∷ xs) = ap (λ rows. endless_shown x ∷ rows) (shown-endless xs)
 
 abbrev line_columns : List Term
 line_columns = col 1 0 ∷ col 1 2 ∷ col 1 3 ∷ col 1 4 ∷ col 1 5 ∷ col 1 6 ∷ col 1 7 ∷ col 1 8 ∷ lit Null ∷ col 1 9 ∷ col 1 10 ∷ []
@@ -110,17 +100,17 @@ pub line_asks : Asks line_shown line_query (λ c. c.lines)
 line_asks = record {
   query = line_asked.query;
   is = line_asked.is;
-  means = λ db xs rows h answer. line_asked.means db xs rows h answer ∙ shown-endless xs.lines ∙ ap (map line_shown) h.endless;
+  means = λ db xs rows h answer. line_asked.means db xs rows h answer ∙ sym (map-map line_shown without_end xs.lines) ∙ ap (map line_shown) h.endless;
 }
 
 pub message_asks : Asks message_shown message_query (λ c. c.messages)
 unfolding understood everything
 message_asks =
-    of-all messages (key_and 7) message_shown message_query (λ c. c.messages) (λ x. refl) (λ xs db h. h.messages)
+    of-all messages (all_columns 7) message_shown message_query (λ c. c.messages) (λ x. refl) (λ xs db h. h.messages)
     (record { names = _; command = refl; plain = (refl, refl); unlisted = refl })
 
 pub transfer_asks : Asks transfer_shown transfer_query (λ c. c.transfers)
 unfolding understood everything
 transfer_asks =
-    of-all transfers (key_and 8) transfer_shown transfer_query (λ c. c.transfers) (λ x. refl) (λ xs db h. h.transfers)
+    of-all transfers (all_columns 8) transfer_shown transfer_query (λ c. c.transfers) (λ x. refl) (λ xs db h. h.transfers)
     (record { names = _; command = refl; plain = (refl, refl); unlisted = refl })

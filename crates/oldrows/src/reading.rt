@@ -167,16 +167,8 @@ impl<S: Alter + Drop> OldRows<S> {
     ghost use Rattle.sqlite_trees.specs.View.{IsClean};
     ghost use Rattle.std.specs.Prelude.{IsTrue};
     ghost use Rattle.sqltables.specs.Adoption.{IsFound};
-    ghost use Rattle.oldrows.specs.inner.Stored.{CoversOld, LeavesAlone};
+    ghost use Rattle.oldrows.specs.inner.Stored.{LeavesAlone};
     ghost use Rattle.oldrows.specs.inner.Adoption.{IsOldAdopted, IsSeen};
-
-    /// Gives back what the connection is over.
-    fn into_store(self) -> S
-        ensures { IsClean (S.Store.view result) → (self.is_honest ≡ true)
-            × CoversOld self.crash_leaves (S.Store.recovers result) }
-    {
-        self.into_connection().into_store()
-    }
 
     /// The rows of a database that was read anew, by its tables alone.
     fn over(conn: Connection<S>, alloc: Global) -> Result<OldRows<S>, (BookFault, S)>
@@ -212,7 +204,7 @@ impl<S: Alter + Drop> OldRows<S> {
         let mut old = old;
         let metas = match old.metas() {
             Ok(metas) => metas,
-            Err(fault) => return Err((fault, old.into_store())),
+            Err(fault) => return Err((fault, old.into_connection().into_store())),
         };
         if !is_first(metas.as_slice()) {
             old.is_there = false;

@@ -1,6 +1,7 @@
 -- Rows that are copied.
 use Rattle.std.specs.Prelude.{◌≡◌, ℤ, true, List, Result, Ok, Err, fold}
 use Rattle.sqlite_keyed.specs.Keyed.{insert_by}
+use Rattle.sqlrows.specs.Meanings.{HasChanged}
 use Rattle.states.specs.declared.fault.BookFault.{BookFault}
 use Rattle.states.specs.States.{LeavesSame, StateOf, Stays}
 use Rattle.sqltables.specs.Content.{Content}
@@ -16,6 +17,11 @@ put_rows key new rows = fold (insert_by key) rows new
 -- the rows of a table, put with those of another database
 abbrev pub put_from : {R : Type 0} → Table R → Content → Content → Content
 put_from table from = table.rows_to (put_rows table.key (table.rows_of from))
+
+-- what is put of all these rows, when the rest is put as well
+abbrev pub IsToPut : {R : Type 0} → Table R → List R → List R → StateOf Content → StateOf Content → Type 0
+IsToPut table all rest old new =
+    HasChanged (λ was is. table.rows_to (put_rows table.key rest) is ≡ table.rows_to (put_rows table.key all) was) old new
 
 abbrev pub put_of : TableName → Content → Content → Content
 put_of Metas = put_from meta_table

@@ -6,18 +6,17 @@ use Rattle.sqltables.proofs.StandingLemmas.{honest, prepared}
 use Rattle.states.specs.declared.fault.BookFault.{BookFault}
 use Rattle.oldrows.specs.inner.Stored.{old_leaves, as_found}
 use Rattle.oldrows.specs.Stored.{IsRead, OldState}
-use Rattle.oldrows.proofs.AskingLemmas.{fits-looked, guards-looked, reads-looked}
+use Rattle.oldrows.proofs.AskingLemmas.{fits-stood, guards-on, reads-stood}
 use Rattle.oldrows.proofs.reading.OldRows.look.Goals as goal
 use Rattle.oldrows.proofs.reading.OldRows.look.Goals.{in-Ok, in-Err}
 
 pub invariant_of-self : goal.invariant_of-self
 invariant_of-self g c =
-    let is_there = c.self.inside.is_there in
     let old = state g.S.Store c.self.inside.conn in
     let new = state g.S.Store c.prepare.new.self in
     let stood : (HasCleanDisk new → StaysOrUndoes old new) = prepared _ old new c.args.sql.now c.prepare.result c.prepare.ensures.ok c.prepare.ensures.err in (
-      fits-looked is_there old new c.prepare.ensures.survives c.self.invariant.0 stood,
-      guards-looked is_there old new c.prepare.ensures.survives c.self.invariant.0 stood (old_leaves (state g.S.Store) c.self.inside.seen.items) c.self.invariant.1,
+      fits-stood c.self.inside.is_there old new _ c.prepare.ensures.survives c.self.invariant.0 (λ clean opened. stood clean),
+      guards-on old new (old_leaves (state g.S.Store) c.self.inside.seen.items) (λ clean. c.prepare.ensures.survives) c.self.invariant.1,
     )
 
 pub returns-clause-same : goal.returns-clause-same
@@ -27,7 +26,7 @@ returns-clause-same g c =
     let new = state g.S.Store c.prepare.new.self in
     let leaves = old_leaves (state g.S.Store) c.self.inside.seen.items in
     let stood : (HasCleanDisk new → StaysOrUndoes old new) = prepared _ old new c.args.sql.now c.prepare.result c.prepare.ensures.ok c.prepare.ensures.err in
-    subst (λ (s : OldState). IsRead s (as_found is_there new leaves)) c.self.view_is (reads-looked is_there old new c.prepare.ensures.survives c.self.invariant.0 stood leaves)
+    subst (λ (s : OldState). IsRead s (as_found is_there new leaves)) c.self.view_is (reads-stood is_there old new _ c.prepare.ensures.survives c.self.invariant.0 (λ clean opened. stood clean) leaves)
 
 pub returns-clause-answers : goal.returns-clause-answers
 returns-clause-answers g c =
