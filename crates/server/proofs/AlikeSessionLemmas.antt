@@ -1,5 +1,5 @@
 -- Two sessions over one input, with registries that are alike, are sent the same, and stay alike.
-use Rattle.std.proofs.Common.{◌≡◌, ◌⊎◌, inl, inr, ℕ, true, false, true≢false, List, [], ◌∷◌, ◌++◌, map, drop, Option, Some, None, refl, sym, ap, subst, ◌∙◌, append_assoc}
+use Rattle.std.proofs.Common.{◌≡◌, ◌⊎◌, inl, inr, ℕ, true, false, true≢false, List, [], ◌∷◌, ◌++◌, map, drop, Option, Some, None, refl, sym, ap, subst, ◌∙◌, append_assoc, append-nil}
 use Rattle.std.specs.Prelude.{IfSome}
 use Rattle.std.specs.List.{list_all}
 use Rattle.std.proofs.lemmas.Bool.{and_parts}
@@ -22,8 +22,8 @@ use Rattle.policy.specs.Rules.{PolicyRules}
 use Rattle.runs.specs.Runs.{IsRun}
 use Rattle.runs.proofs.SettlementLemmas.{answers-are-determined, found-alike}
 use Rattle.server.specs.Connections.{AnswersAt, Desk}
-use Rattle.server.specs.SessionRuns.{AreAnswered, AreOneFor, IsUndisturbed, SessionsAreAlike, SessionsAreSentTheSame, SessionsTellTheSame, are_sent, asked_in, asked_over, caller_after, has_failed, has_text, is_calm, logout_of, outcome_by, questions_by_turn, questions_said, sames}
-use Rattle.server.proofs.SessionRunLemmas.{IsOne, asked-some, one-turn, run-follows, turn-follows}
+use Rattle.server.specs.SessionRuns.{AreAnswered, AreOneFor, IsUndisturbed, SessionsAreAlike, SessionsAreSentTheSame, SessionsTellTheSame, are_sent, asked_in, asked_over, caller_after, has_failed, has_text, is_calm, logout_of, outcome_by, questions_by_turn, questions_said, said, sames}
+use Rattle.server.proofs.SessionRunLemmas.{IsOne, one-turn, run-follows, turn-follows}
 
 -- ---- what is known of one session
 
@@ -50,7 +50,9 @@ tells-once : (clock : List ℕ) (m n : ℕ) (c d : Option (List ℕ)) → clocks
 tells-once [] m n c d one two = (one.0 ∙ sym two.0, [], one.1, two.1)
 tells-once (next ∷ later) m n c d one two = (one.0 ∙ sym two.0, later, one.1, two.1)
 
--- how a session ends that isn't disturbed: by its input, or by this logout
+-- ---- a session that isn't disturbed
+
+-- what it sends last, and how it ends, where its input ends it
 abbrev last_text : Ending → List ℕ
 last_text closed = []
 last_text cut = []
@@ -61,43 +63,64 @@ end_at closed = End
 end_at cut = Cut
 end_at bad_length = Length
 
-record IsOver (logout : List Turn) (mid : SessionState Desk) (last : List ℕ) (end : SessionEnd) (new : SessionState Desk) : Type 0 where
+record IsOver (mid : SessionState Desk) (last : List ℕ) (end : SessionEnd) (new : SessionState Desk) : Type 0 where
   pub ending : Ending
-  pub none : logout ≡ []
   pub at : IsAtEnding ending mid
   pub last_is : last ≡ last_text ending
   pub end_is : end ≡ end_at ending
   pub rests : Rests mid new
 
-record IsLoggedOut (p : PolicyRules) (g : List (List ℕ)) (logout : List Turn) (mid : SessionState Desk) (last : List ℕ) (end : SessionEnd) (new : SessionState Desk) : Type 0 where
-  pub turn : Turn
-  pub one : logout ≡ turn ∷ []
-  pub is : IsTurn (AnswersAt p g) turn mid new
-  pub ends : end_with turn.outcome ≡ Some Logout
-  pub last_is : last ≡ frame (sent turn.outcome)
-  pub end_is : end ≡ Logout
+-- nothing comes after a logout, with which it ends
+abbrev IsDone : List Turn → List ℕ → SessionState Desk → SessionEnd → SessionState Desk → Type 0
+IsDone turns rest next end new = (turns ≡ []) × (rest ≡ []) × (end ≡ Logout) × (new ≡ next)
 
-abbrev IsCalmEnd : PolicyRules → List (List ℕ) → List Turn → SessionState Desk → List ℕ → SessionEnd → SessionState Desk → Type 0
-IsCalmEnd p g logout mid last end new = IsOver logout mid last end new ⊎ IsLoggedOut p g logout mid last end new
-
-calm-end : (p : PolicyRules) (g : List (List ℕ)) (old new : SessionState Desk) (written : List ℕ) (end : SessionEnd) (s : Session (AnswersAt p g) old written new end) → is_calm end ≡ true → IsCalmEnd p g (logout_of end s) s.reached s.last end new
-calm-end p g old new written End s calm = inl (record { ending = closed; none = refl; at = s.ends.0; last_is = s.ends.1; end_is = refl; rests = s.ends.2 })
-calm-end p g old new written Cut s calm = inl (record { ending = cut; none = refl; at = s.ends.0; last_is = s.ends.1; end_is = refl; rests = s.ends.2 })
-calm-end p g old new written Length s calm = inl (record { ending = bad_length; none = refl; at = s.ends.0; last_is = s.ends.1; end_is = refl; rests = s.ends.2 })
-calm-end p g old new written Logout s calm = inr (record { turn = s.ends.0; one = refl; is = s.ends.1; ends = s.ends.2; last_is = s.ends.3; end_is = refl })
-calm-end p g old new written ReadFault s calm = absurd (true≢false (sym calm))
-calm-end p g old new written WriteFault s calm = absurd (true≢false (sym calm))
-calm-end p g old new written Lost s calm = absurd (true≢false (sym calm))
-
-calm-follows : (p : PolicyRules) (g : List (List ℕ)) (logout : List Turn) (mid new : SessionState Desk) (last : List ℕ) (end : SessionEnd) → IsCalmEnd p g logout mid last end new → new.peer.book.is_clean ≡ true → mid.peer.book.is_clean ≡ true
-calm-follows p g logout mid new last end (inl o) clean = ap (λ (d : Desk). d.book.is_clean) (sym o.rests.peer) ∙ clean
-calm-follows p g logout mid new last end (inr o) clean = (turn-follows p g o.turn mid new o.is).clean clean
+-- What it writes from a state on, and how it ends: it is sent a text for each of its frames, its logout among them.
+abbrev Goes : PolicyRules → List (List ℕ) → List Turn → SessionState Desk → List ℕ → SessionEnd → SessionState Desk → Type 0
+Goes p g [] a written end new = IsOver a written end new
+Goes p g (turn ∷ turns) a written end new =
+    (next : SessionState Desk) × (rest : List ℕ) × IsTurn (AnswersAt p g) turn a next × (next.peer.book.is_clean ≡ true) × (has_text turn.outcome ≡ true)
+    × (written ≡ frame (sent turn.outcome) ++ rest)
+    × (((end_with turn.outcome ≡ None) × Goes p g turns next rest end new) ⊎ ((end_with turn.outcome ≡ Some Logout) × IsDone turns rest next end new))
 
 logout-text : (o : Outcome) → end_with o ≡ Some Logout → has_text o ≡ true
 logout-text (replied text) e = refl
 logout-text (ended text) e = refl
 logout-text failed e = absurd cc
 logout-text lost e = absurd cc
+
+calm-end : (p : PolicyRules) (g : List (List ℕ)) (old new : SessionState Desk) (written : List ℕ) (end : SessionEnd) (s : Session (AnswersAt p g) old written new end)
+    → new.peer.book.is_clean ≡ true → is_calm end ≡ true → Goes p g (logout_of end s) s.reached s.last end new
+calm-end p g old new written End s clean calm = record { ending = closed; at = s.ends.0; last_is = s.ends.1; end_is = refl; rests = s.ends.2 }
+calm-end p g old new written Cut s clean calm = record { ending = cut; at = s.ends.0; last_is = s.ends.1; end_is = refl; rests = s.ends.2 }
+calm-end p g old new written Length s clean calm = record { ending = bad_length; at = s.ends.0; last_is = s.ends.1; end_is = refl; rests = s.ends.2 }
+calm-end p g old new written Logout s clean calm =
+    let bytes : s.last ≡ frame (sent (s.ends.0).outcome) ++ [] = s.ends.3 ∙ sym (append-nil (frame (sent (s.ends.0).outcome))) in
+    (new, [], s.ends.1, clean, logout-text (s.ends.0).outcome s.ends.2, bytes, inr (s.ends.2, (refl, refl, refl, refl)))
+calm-end p g old new written ReadFault s clean calm = absurd (true≢false (sym calm))
+calm-end p g old new written WriteFault s clean calm = absurd (true≢false (sym calm))
+calm-end p g old new written Lost s clean calm = absurd (true≢false (sym calm))
+
+goes-clean : (p : PolicyRules) (g : List (List ℕ)) (turns : List Turn) (a new : SessionState Desk) (written : List ℕ) (end : SessionEnd)
+    → Goes p g turns a written end new → new.peer.book.is_clean ≡ true → a.peer.book.is_clean ≡ true
+goes-clean p g [] a new written end o clean = ap (λ (d : Desk). d.book.is_clean) (sym o.rests.peer) ∙ clean
+goes-clean p g (turn ∷ turns) a new written end (next, rest, is, still, text, bytes, how) clean = (turn-follows p g turn a next is).clean still
+
+run-goes : (p : PolicyRules) (g : List (List ℕ)) (turns more : List Turn) (a mid new : SessionState Desk) (last : List ℕ) (end : SessionEnd)
+    → Run (AnswersAt p g) turns a mid → mid.peer.book.is_clean ≡ true → are_sent turns ≡ true
+    → Goes p g more mid last end new → Goes p g (turns ++ more) a (frames turns ++ last) end new
+run-goes p g [] more a mid new last end same still all go = subst (λ (s : SessionState Desk). Goes p g more s last end new) same go
+run-goes p g (turn ∷ turns) more a mid new last end (goes, next, is, run) still all go =
+    let both = and_parts (has_text turn.outcome) (are_sent turns) all in
+    let bytes = append_assoc (frame (sent turn.outcome)) (frames turns) last in
+    (next, frames turns ++ last, is, (run-follows p g turns next mid run).clean still, both.0, bytes, inl (goes, run-goes p g turns more next mid new last end run still both.1 go))
+
+undisturbed-goes : (p : PolicyRules) (g : List (List ℕ)) (input clock : List ℕ) (old new : SessionState Desk) (written : List ℕ) (end : SessionEnd)
+    (one : IsUndisturbed p g input clock old written new end) → Goes p g (one.session.turns ++ logout_of end one.session) old written end new
+undisturbed-goes p g input clock old new written end one =
+    let s = one.session in
+    let last = calm-end p g old new written end s one.clean one.calm in
+    subst (λ (w : List ℕ). Goes p g (s.turns ++ logout_of end s) old w end new) (sym s.bytes)
+    (run-goes p g s.turns (logout_of end s) old s.reached new s.last end s.run (goes-clean p g (logout_of end s) s.reached new s.last end last one.clean) one.texts last)
 
 never-both : (o : Outcome) → end_with o ≡ Some Logout → end_with o ≡ None → ⊥
 never-both o some none = let never : Some Logout ≡ None = sym some ∙ none in absurd cc
@@ -131,7 +154,7 @@ module _ (p : PolicyRules) (g : List (List ℕ)) (Held : List (ℕ × Question) 
       let carried : has_failed x.outcome ≡ false = text-carried-out x.outcome text in
       let carried2 : has_failed y.outcome ≡ false = text-carried-out y.outcome text2 in
       let asked : questions_by_turn caller y ≡ questions_by_turn caller x =
-      asked-some caller y carried2 ∙ sym (λ i. map (λ (q : Question). (moments i, q)) (questions_said caller (payloads i))) ∙ sym (asked-some caller x carried) in
+      rw (carried, carried2) (sym (λ i. map (λ (q : Question). (moments i, q)) (questions_said caller (payloads i)))) in
       let answered : (one.answers ≡ two.answers) × Held rest u v =
       stay (questions_by_turn caller x) rest one.answers two.answers s t u v held one.run (subst (λ (qs : List (ℕ × Question)). IsRun p qs two.answers t v) asked two.run) in
       let outcomes : x.outcome ≡ y.outcome =
@@ -160,8 +183,8 @@ module _ (p : PolicyRules) (g : List (List ℕ)) (Held : List (ℕ × Question) 
       let moment-told = tells-once even.clock x.moment y.moment c.clock d.clock
       (subst (λ (i : Option (List ℕ)). clocks.Tells i c.clock x.moment) even.first_clock one.moment)
       (subst (λ (i : Option (List ℕ)). clocks.Tells i d.clock y.moment) even.second_clock two.moment) in
-      let first = one-turn p g a.peer.caller c.peer.caller x a.peer.book c.peer.book one.outcome clean in
-      let second = one-turn p g b.peer.caller d.peer.caller y b.peer.book d.peer.book two.outcome clean2 in
+      let first = one-turn p g x a.peer.book c.peer.book clean a.peer.caller c.peer.caller one.outcome in
+      let second = one-turn p g y b.peer.book d.peer.book clean2 b.peer.caller d.peer.caller two.outcome in
       let both = same-turn a.peer.caller c.peer.caller d.peer.caller x y (asked_over p g (caller_after p g a.peer.caller x) turns) _ _ _ _ even.held first
       (subst (λ (r : Option ℕ). IsOne p g r y b.peer.book.content.registry d.peer.book.content.registry d.peer.caller) (sym even.caller) second) moment-told.0 frame-taken.0 text text2 in (
         both.0,
@@ -177,83 +200,46 @@ module _ (p : PolicyRules) (g : List (List ℕ)) (Held : List (ℕ × Question) 
         },
       )
 
-  module _ (new new2 : SessionState Desk) (last last2 : List ℕ) (end end2 : SessionEnd) (logout logout2 : List Turn) (clean : new.peer.book.is_clean ≡ true) (clean2 : new2.peer.book.is_clean ≡ true) where
-    record EndAlike (written sent : List ℕ) : Type 0 where
-      pub written_is : written ≡ sent
-      pub end_is : end ≡ end2
-      pub held : HeldIn [] new new2
+  module _ (new new2 : SessionState Desk) (end end2 : SessionEnd) where
+    abbrev EndAlike : List ℕ → List ℕ → Type 0
+    EndAlike written told = (written ≡ told) × (end ≡ end2) × HeldIn [] new new2
 
-    both-over : (a b : SessionState Desk) → AreEven logout a b → IsOver logout a last end new → IsOver logout2 b last2 end2 new2 → EndAlike last last2
-    both-over a b even o q =
+    both-over : (a b : SessionState Desk) (last last2 : List ℕ) → AreEven [] a b → IsOver a last end new → IsOver b last2 end2 new2 → EndAlike last last2
+    both-over a b last last2 even o q =
         let overs : over o.ending ≡ over q.ending = sym (front-is a even.input o.ending even.first_input o.at) ∙ front-is b even.input q.ending even.second_input q.at in
         let endings : o.ending ≡ q.ending = cc in
-        let held : HeldIn [] a b = subst (λ (turns : List Turn). HeldIn (asked_over p g a.peer.caller turns) a b) o.none even.held in
-        record {
-          written_is = o.last_is ∙ ap last_text endings ∙ sym q.last_is;
-          end_is = o.end_is ∙ ap end_at endings ∙ sym q.end_is;
-          held = subst (λ (d : Desk). Held [] new.peer.book.content.registry d.book.content.registry) (sym q.rests.peer)
-              (subst (λ (d : Desk). Held [] d.book.content.registry b.peer.book.content.registry) (sym o.rests.peer) held);
-        }
+        (o.last_is ∙ ap last_text endings ∙ sym q.last_is, o.end_is ∙ ap end_at endings ∙ sym q.end_is, rw (o.rests.peer, q.rests.peer) even.held)
 
-    -- the first logs out, and the second has a frame
-    first-out : (a b c : SessionState Desk) (y : Turn) → AreEven logout a b → (o : IsLoggedOut p g logout a last end new) → IsTurn (AnswersAt p g) y b c → c.peer.book.is_clean ≡ true → has_text y.outcome ≡ true → (o.turn ≡ y) × AreEven [] new c
-    first-out a b c y even o is clean3 text =
-        even-turn o.turn y [] a b new c (subst (λ (turns : List Turn). AreEven turns a b) o.one even) o.is is clean clean3 (logout-text o.turn.outcome o.ends) text
+    both-done : (xs ys : List Turn) (a b : SessionState Desk) (rest rest2 : List ℕ) → AreEven xs a b → IsDone xs rest a end new → IsDone ys rest2 b end2 new2 → EndAlike rest rest2
+    both-done xs ys a b rest rest2 even (none, nothing, ends, same) (none2, nothing2, ends2, same2) =
+        let held : HeldIn [] a b = subst (λ (turns : List Turn). HeldIn (asked_over p g a.peer.caller turns) a b) none even.held in
+        (nothing ∙ sym nothing2, ends ∙ sym ends2, rw (same, same2) held)
 
-    both-end : (a b : SessionState Desk) → AreEven logout a b → IsCalmEnd p g logout a last end new → IsCalmEnd p g logout2 b last2 end2 new2 → EndAlike last last2
-    both-end a b even (inl o) (inl q) = both-over a b even o q
-    both-end a b even (inl o) (inr q) = absurd (over-takes a b even.input o.ending q.turn.payload new2.input even.first_input even.second_input o.at (q.is).payload)
-    both-end a b even (inr o) (inl q) = absurd (over-takes b a even.input q.ending o.turn.payload new.input even.second_input even.first_input q.at (o.is).payload)
-    both-end a b even (inr o) (inr q) =
-        let it = first-out a b new2 q.turn even o q.is clean2 (logout-text q.turn.outcome q.ends) in
-        record {
-          written_is = o.last_is ∙ ap (λ (t : Turn). frame (sent t.outcome)) it.0 ∙ sym q.last_is;
-          end_is = o.end_is ∙ sym q.end_is;
-          held = (it.1).held;
-        }
-
-    -- one ends where the other goes on
-    first-ends : (a b c : SessionState Desk) (y : Turn) → AreEven logout a b → IsCalmEnd p g logout a last end new → IsTurn (AnswersAt p g) y b c → c.peer.book.is_clean ≡ true → has_text y.outcome ≡ true → end_with y.outcome ≡ None → ⊥
-    first-ends a b c y even (inl o) is clean3 text goes = over-takes a b even.input o.ending y.payload c.input even.first_input even.second_input o.at is.payload
-    first-ends a b c y even (inr o) is clean3 text goes =
-        let it = first-out a b c y even o is clean3 text in
-        never-both o.turn.outcome o.ends (ap (λ (t : Turn). end_with t.outcome) it.0 ∙ goes)
-
-    second-ends : (turns : List Turn) (a b c : SessionState Desk) (x : Turn) → AreEven (x ∷ turns) a b → IsTurn (AnswersAt p g) x a c → c.peer.book.is_clean ≡ true → has_text x.outcome ≡ true → end_with x.outcome ≡ None → IsCalmEnd p g logout2 b last2 end2 new2 → ⊥
-    second-ends turns a b c x even is clean3 text goes (inl q) = over-takes b a even.input q.ending x.payload c.input even.second_input even.first_input q.at is.payload
-    second-ends turns a b c x even is clean3 text goes (inr q) =
-        let it = even-turn x q.turn turns a b c new2 even is q.is clean3 clean2 text (logout-text q.turn.outcome q.ends) in
-        never-both q.turn.outcome q.ends (sym (ap (λ (t : Turn). end_with t.outcome) it.0) ∙ goes)
-
-    runs-alike : (xs ys : List Turn) (a b mid mid2 : SessionState Desk) → Run (AnswersAt p g) xs a mid → Run (AnswersAt p g) ys b mid2 → AreEven (xs ++ logout) a b → mid.peer.book.is_clean ≡ true → mid2.peer.book.is_clean ≡ true
-        → IsCalmEnd p g logout mid last end new → IsCalmEnd p g logout2 mid2 last2 end2 new2 → are_sent xs ≡ true → are_sent ys ≡ true → EndAlike (frames xs ++ last) (frames ys ++ last2)
-    runs-alike [] [] a b mid mid2 run run2 even still still2 stop stop2 all every =
-        both-end a b even (subst (λ (s : SessionState Desk). IsCalmEnd p g logout s last end new) run stop) (subst (λ (s : SessionState Desk). IsCalmEnd p g logout2 s last2 end2 new2) run2 stop2)
-    runs-alike [] (y ∷ ys) a b mid mid2 run (goes2, next2, is2, more2) even still still2 stop stop2 all every =
-        let both2 = and_parts (has_text y.outcome) (are_sent ys) every in
-        absurd (first-ends a b next2 y even (subst (λ (s : SessionState Desk). IsCalmEnd p g logout s last end new) run stop) is2 ((run-follows p g ys next2 mid2 more2).clean still2) both2.0 goes2)
-    runs-alike (x ∷ xs) [] a b mid mid2 (goes, next, is, more) run2 even still still2 stop stop2 all every =
-        let both = and_parts (has_text x.outcome) (are_sent xs) all in
-        absurd (second-ends (xs ++ logout) a b next x even is ((run-follows p g xs next mid more).clean still) both.0 goes (subst (λ (s : SessionState Desk). IsCalmEnd p g logout2 s last2 end2 new2) run2 stop2))
-    runs-alike (x ∷ xs) (y ∷ ys) a b mid mid2 (goes, next, is, more) (goes2, next2, is2, more2) even still still2 stop stop2 all every =
-        let both = and_parts (has_text x.outcome) (are_sent xs) all in
-        let both2 = and_parts (has_text y.outcome) (are_sent ys) every in
-        let it = even-turn x y (xs ++ logout) a b next next2 even is is2 ((run-follows p g xs next mid more).clean still) ((run-follows p g ys next2 mid2 more2).clean still2) both.0 both2.0 in
-        let rest = runs-alike xs ys next next2 mid mid2 more more2 it.1 still still2 stop stop2 both.1 both2.1 in
-        record {
-          written_is = append_assoc (frame (sent x.outcome)) (frames xs) last ∙ (λ i. frame (sent (it.0 i).outcome) ++ rest.written_is i) ∙ sym (append_assoc (frame (sent y.outcome)) (frames ys) last2);
-          end_is = rest.end_is;
-          held = rest.held;
-        }
+    goes-alike : (xs ys : List Turn) (a b : SessionState Desk) (written told : List ℕ) → AreEven xs a b → Goes p g xs a written end new → Goes p g ys b told end2 new2 → EndAlike written told
+    goes-alike [] [] a b written told even o q = both-over a b written told even o q
+    goes-alike [] (y ∷ ys) a b written told even o (next2, rest2, is2, still2, text2, bytes2, how2) =
+        absurd (over-takes a b even.input o.ending y.payload next2.input even.first_input even.second_input o.at is2.payload)
+    goes-alike (x ∷ xs) [] a b written told even (next, rest, is, still, text, bytes, how) q =
+        absurd (over-takes b a even.input q.ending x.payload next.input even.second_input even.first_input q.at is.payload)
+    goes-alike (x ∷ xs) (y ∷ ys) a b written told even (next, rest, is, still, text, bytes, how) (next2, rest2, is2, still2, text2, bytes2, how2) =
+        let it = even-turn x y xs a b next next2 even is is2 still still2 text text2 in
+        let ends : end_with x.outcome ≡ end_with y.outcome = ap (λ (t : Turn). end_with t.outcome) it.0 in
+        let more : EndAlike rest rest2 = elim how [
+          | inl (on, go) ↦ elim how2 [
+            | inl (on2, go2) ↦ goes-alike xs ys next next2 rest rest2 it.1 go go2
+            | inr (out2, done2) ↦ absurd (never-both y.outcome out2 (sym ends ∙ on))
+          ]
+          | inr (out, done) ↦ elim how2 [
+            | inl (on2, go2) ↦ absurd (never-both x.outcome out (ends ∙ on2))
+            | inr (out2, done2) ↦ both-done xs ys next next2 rest rest2 it.1 done done2
+          ]
+        ] in
+        (bytes ∙ (λ i. frame (sent (it.0 i).outcome) ++ more.0 i) ∙ sym bytes2, more.1, more.2)
 
   undisturbed-alike : (input clock : List ℕ) (old other new another : SessionState Desk) (written sent : List ℕ) (end ending : SessionEnd) (one : IsUndisturbed p g input clock old written new end) → IsUndisturbed p g input clock other sent another ending → old.peer.caller ≡ other.peer.caller
       → HeldIn (asked_in one) old other → (written ≡ sent) × (end ≡ ending) × HeldIn [] new another
   undisturbed-alike input clock old other new another written sent end ending one two caller held =
-      let s = one.session in
-      let t = two.session in
-      let stop = calm-end p g old new written end s one.calm in
-      let stop2 = calm-end p g other another sent ending t two.calm in
-      let even : AreEven (s.turns ++ logout_of end s) old other = record {
+      let even : AreEven (one.session.turns ++ logout_of end one.session) old other = record {
         input = input;
         clock = clock;
         first_input = one.input_is;
@@ -263,9 +249,8 @@ module _ (p : PolicyRules) (g : List (List ℕ)) (Held : List (ℕ × Question) 
         caller = caller;
         held = held;
       } in
-      let it = runs-alike new another s.last t.last end ending (logout_of end s) (logout_of ending t) one.clean two.clean s.turns t.turns old other s.reached t.reached s.run t.run even
-      (calm-follows p g (logout_of end s) s.reached new s.last end stop one.clean) (calm-follows p g (logout_of ending t) t.reached another t.last ending stop2 two.clean) stop stop2 one.texts two.texts in
-      (s.bytes ∙ it.written_is ∙ sym t.bytes, it.end_is, it.held)
+      goes-alike new another end ending (one.session.turns ++ logout_of end one.session) (two.session.turns ++ logout_of ending two.session) old other written sent even
+      (undisturbed-goes p g input clock old new written end one) (undisturbed-goes p g input clock other another sent ending two)
 
 -- ---- registries that are the same now
 
@@ -275,10 +260,6 @@ AreSame p questions s t = now p s ≡ now p t
 stay-same : (p : PolicyRules) → StayAlike p (AreSame p)
 stay-same p xs rest = answers-are-determined p xs
 
-abbrev first_said : List (ℕ × List ℕ) → ℕ × List ℕ
-first_said [] = (0, [])
-first_said (x ∷ xs) = x
-
 pub sessions-are-sent-the-same : SessionsAreSentTheSame
 sessions-are-sent-the-same p g caller [] [] s t x y same one other alike all every = (refl, ap (now p) one ∙ same ∙ sym (ap (now p) other))
 sessions-are-sent-the-same p g caller [] (b ∷ ys) s t x y same one other alike all every = absurd cc
@@ -286,7 +267,8 @@ sessions-are-sent-the-same p g caller (a ∷ xs) [] s t x y same one other alike
 sessions-are-sent-the-same p g caller (a ∷ xs) (b ∷ ys) s t x y same (firsts, u, run, answer_is, more) (seconds, v, run2, answer_is2, more2) alike all every =
     let both = and_parts (has_text a.outcome) (are_sent xs) all in
     let both2 = and_parts (has_text b.outcome) (are_sent ys) every in
-    let here : (a.moment, a.payload) ≡ (b.moment, b.payload) = ap first_said alike in
+    let both_said : (a.moment, a.payload) ∷ said xs ≡ (b.moment, b.payload) ∷ said ys = alike in
+    let here : (a.moment, a.payload) ≡ (b.moment, b.payload) = cc in
     let turns = same-turn p g (AreSame p) (stay-same p) caller (caller_after p g caller a) (caller_after p g caller b) a b [] s t u v same
     (record { answers = firsts; run = run; answer_is = answer_is; sender = refl }) (record { answers = seconds; run = run2; answer_is = answer_is2; sender = refl })
     (ap (λ (z : ℕ × List ℕ). z.0) here) (ap (λ (z : ℕ × List ℕ). z.1) here) both.0 both2.0 in

@@ -1,15 +1,15 @@
 -- The first byte of a connection, which is read and given back; and its session.
-use Rattle.std.proofs.Common.{◌≡◌, inl, inr, ℕ, zero, suc, ◌+◌, ◌/◌, ◌<◌, Option, Some, None, List, [], ◌∷◌, length, take, Bool, true, false, refl, sym, ap, ◌∙◌, subst, arith}
+use Rattle.std.proofs.Common.{◌≡◌, inl, inr, ℕ, zero, suc, ◌+◌, ◌/◌, ◌<◌, Option, Some, None, List, [], ◌∷◌, length, take, Bool, refl, sym, ap, ◌∙◌, subst, arith}
 use Rattle.std.specs.Prelude.{IfSome}
 use Rattle.std.specs.Fmt.{option_append}
 use Rattle.std.specs.Io.KnownBytes.{Consumes, IsAtEnd}
 use Rattle.policy.specs.Rules.{PolicyRules}
 use Rattle.frames.specs.Outcomes.{Outcome}
-use Rattle.frames.specs.Sessions.{Session, SessionState, WritesFrames}
+use Rattle.frames.specs.Sessions.{Session, SessionState}
 use Rattle.frames.specs.declared.session.SessionEnd.{SessionEnd}
 use Rattle.server.specs.Connections.{Agrees, AnswersAt, Desk, FramesBeginConnections, IsServed, Serves, begins_frame}
 use Rattle.eppwire.proofs.FollowLemmas.{answers_follow, follows_on, same_follows}
-use Rattle.server.specs.Http.{AnswersHttp, MayAsk}
+use Rattle.server.specs.Http.{AnswersHttp}
 use Rattle.server.specs.declared.connection.ConnectionEnd.{ConnectionEnd}
 use Rattle.server.specs.declared.connection.ConnectionEnd.TheVariants as ends
 use Rattle.server.specs.declared.http.HttpEnd.{HttpEnd}
@@ -17,20 +17,15 @@ use Rattle.server.specs.declared.http.HttpEnd.TheVariants as http
 use Rattle.server.proofs.PeerLemmas.{session_taken, taken_for}
 use Rattle.books.specs.Book.{BookState, Follows}
 
--- what was read and the rest are the input
-pub given_back : (input rest : Option (List ℕ)) (first : List ℕ) → Consumes input rest first → Agrees input (option_append (Some first) rest)
-given_back None rest first c = tt
-given_back (Some bytes) None first c = absurd c
-given_back (Some bytes) (Some rest) first c = ap Some (sym c)
-
--- the one byte that is asked for decides, or the end
-pub decides : (is : Bool) (input rest : Option (List ℕ)) (count : ℕ) (buffer : List ℕ) → length buffer ≡ 1 → Consumes input rest (take count buffer) → (count < length buffer → IsAtEnd rest)
-    → begins_frame (take count buffer) ≡ is → IfSome input (λ bytes. begins_frame bytes ≡ is)
-decides is None rest count buffer one c end e = tt
-decides is (Some bytes) None count buffer one c end e = absurd c
-decides is (Some bytes) (Some rest) count [] one c end e = absurd cc
-decides is (Some bytes) (Some rest) zero (byte ∷ more) one c end e = rw (c, end (omega arith)) e
-decides is (Some bytes) (Some rest) (suc count) (byte ∷ more) one c end e = rw c e
+-- The one byte that is asked for decides, or the end; and what was read and the rest are the input.
+pub begun : (is : Bool) (input rest taken : Option (List ℕ)) (count : ℕ) (buffer : List ℕ)
+    → length buffer ≡ 1 → Consumes input rest (take count buffer) → (count < length buffer → IsAtEnd rest)
+    → begins_frame (take count buffer) ≡ is → taken ≡ option_append (Some (take count buffer)) rest → IfSome input (λ bytes. begins_frame bytes ≡ is) × Agrees input taken
+begun is None rest taken count buffer one c end e all = (tt, tt)
+begun is (Some bytes) None taken count buffer one c end e all = absurd c
+begun is (Some bytes) (Some rest) taken count [] one c end e all = absurd cc
+begun is (Some bytes) (Some rest) taken zero (byte ∷ more) one c end e all = (rw (c, end (omega arith)) e, all ∙ ap Some (sym c))
+begun is (Some bytes) (Some rest) taken (suc count) (byte ∷ more) one c end e all = (rw c e, all ∙ ap Some (sym c))
 
 -- a session of a peer that answers as a registry does, from when nobody is logged in
 pub served : {S : Type 0} (policy : S → PolicyRules) (passwords : S → List (List ℕ)) (desk : S → Desk) (answers : S → ℕ → List ℕ → Outcome → S → Type 0)
@@ -61,25 +56,12 @@ served {S} policy passwords desk answers are p g old new before written after en
               (subst (λ (q : PolicyRules). AnswersAt q (passwords x) (desk x) moment payload outcome (desk y)) k.0 a.0),
         )
 
--- a connection whose input begins as a frame does
-pub serves_session : (p : PolicyRules) (g : List (List ℕ)) (input taken clock : Option (List ℕ)) (old : BookState) (before after later : Option (List ℕ)) (new : BookState) (end : ConnectionEnd) → IfSome input (λ bytes. begins_frame bytes ≡ true) → Agrees input taken
-    → (how : SessionEnd) × (end ≡ ends.Session how) × WritesFrames before after (λ written. IsServed p g taken clock old written later new how) → Serves p g input clock old before after later new end
-serves_session p g input taken clock old before after later new end begins agrees s = rw s.1 (begins, taken, agrees, s.2)
-
--- one whose input doesn't
-pub serves_request : (p : PolicyRules) (g : List (List ℕ)) (input taken clock : Option (List ℕ)) (old : BookState) (before after later : Option (List ℕ)) (new : BookState) (end : ConnectionEnd) → IfSome input (λ bytes. begins_frame bytes ≡ false) → Agrees input taken
-    → (how : HttpEnd) × (end ≡ ends.Http how) × AnswersHttp p taken clock old before after later new how → Serves p g input clock old before after later new end
-serves_request p g input taken clock old before after later new end begins agrees s = rw s.1 (begins, taken, agrees, s.2)
-
 -- ---- what was taken wrongly isn't forgotten
-
-ask_follows : (p : PolicyRules) (clock : Option (List ℕ)) (old : BookState) (later : Option (List ℕ)) (new : BookState) → MayAsk p clock old later new → Follows old new
-ask_follows p clock old later new (inl none) = same_follows old new none.1
-ask_follows p clock old later new (inr asked) = asked.2.follows
 
 answer_follows : (p : PolicyRules) (input clock : Option (List ℕ)) (old : BookState) (before after later : Option (List ℕ)) (new : BookState) (end : HttpEnd) → AnswersHttp p input clock old before after later new end → Follows old new
 answer_follows p input clock old before after later new http.Answered answers = answers.2.passes.follows
-answer_follows p input clock old before after later new http.Unanswered answers = ask_follows p clock old later new answers.1
+answer_follows p input clock old before after later new http.Unanswered (nothing, inl none) = same_follows old new none.1
+answer_follows p input clock old before after later new http.Unanswered (nothing, inr asked) = asked.2.follows
 answer_follows p input clock old before after later new http.WriteFault answers = answers.2.1.passes.follows
 
 pub connection_follows : (p : PolicyRules) (g : List (List ℕ)) (input clock : Option (List ℕ)) (old : BookState) (before after later : Option (List ℕ)) (new : BookState) (end : ConnectionEnd) → Serves p g input clock old before after later new end → Follows old new

@@ -1,12 +1,14 @@
 -- What a look-up leaves of a registry, and what is written to a connection of HTTP.
-use Rattle.std.proofs.Common.{◌≡◌, ◌+◌, ◌≤◌, ℕ, true, inl, inr, ◌⊎◌, Option, Some, None, List, [], length, take, drop, ◌++◌, Result, Ok, Err, refl, sym, ap, subst, ◌∙◌, le_refl, append-nil, take-take, arith}
+use Rattle.std.proofs.Common.{◌≡◌, ◌+◌, ◌<◌, ◌≤◌, ◌↔◌, ℕ, true, inl, inr, ◌⊎◌, Option, Some, None, List, [], length, take, drop, ◌++◌, Result, Ok, Err, refl, sym, ap, subst, ◌∙◌, le_refl, append-nil, take-take}
 use Rattle.std.proofs.lemmas.List.{take-append-le}
 use Rattle.std.proofs.KnownBytes.{Consumes-trans}
 use Rattle.std.proofs.lemmas.Slice.{take-put_mid_below}
 use Rattle.std.specs.Io.KnownBytes.{Consumes, ReadConsumes}
 use borrow.Rule.Slice.PartMut.{put_mid}
 use lib.Seq.{take-add}
-use Rattle.std.specs.Prelude.{IfOk, OnOk}
+use Rattle.std.specs.Prelude.{IfOk}
+use Rattle.eppwire.proofs.FollowLemmas.{stays_followed}
+use Rattle.eppwire.proofs.LateLemmas.{in_time}
 use Rattle.frames.specs.Clocks.{Tells}
 use Rattle.model.specs.Lapse.{lapsed}
 use Rattle.model.specs.Registry.{Registry}
@@ -15,6 +17,7 @@ use Rattle.rdap.specs.Answering.{Faces, IsAnswer}
 use Rattle.rdap.specs.Heads.{IsCut}
 use Rattle.rdap.proofs.AnswerLemmas.{stands}
 use Rattle.registry.specs.declared.fault.Fault.{Fault}
+use Rattle.registry.specs.declared.fault.Fault.TheVariants as faults
 use Rattle.registry.specs.Execution.{last_call}
 use Rattle.registry.specs.Faces.{LooksUp}
 use Rattle.registry.proofs.PassingSteps.{same_then}
@@ -26,65 +29,50 @@ use Rattle.books.specs.Book.{BookState}
 -- ---- what a look-up leaves
 
 -- time that passes up to a moment changes nothing of that moment
-pub at_that_moment : (p : PolicyRules) (moment : ℕ) (old new : BookState) → Passes p moment old new → new.is_clean ≡ true → lapsed p moment new.content.registry ≡ lapsed p moment old.content.registry
+at_that_moment : (p : PolicyRules) (moment : ℕ) (old new : BookState)
+    → Passes p moment old new → new.is_clean ≡ true → lapsed p moment new.content.registry ≡ lapsed p moment old.content.registry
 at_that_moment p moment old new passes clean = elim (passes.registry clean) [
   | inl same ↦ ap (λ (s : Registry). lapsed p moment s) same
   | inr left ↦ same_then p moment old.content.registry new.content.registry left
 ]
 
--- where nothing is looked up, nothing passes
-pub stays : (p : PolicyRules) (moment : ℕ) (state : BookState) → Passes p moment state state
-stays p moment state = record {
-  registry = λ clean. inl refl;
-  terms = λ clean. refl;
-  follows = record { clean = λ clean. clean; counted = omega arith };
-}
-
 -- a source that may have been asked once
 pub left_of : {S : Type 0} (policy : S → PolicyRules) (moment : S → ℕ) (state : S → BookState) (old new : S)
     → (new ≡ old) ⊎ (Passes (policy old) (moment old) (state old) (state new) × (policy new ≡ policy old) × (moment new ≡ moment old))
     → Passes (policy old) (moment old) (state old) (state new) × (policy new ≡ policy old) × (moment new ≡ moment old)
-left_of policy moment state old new (inl same) =
-    subst (λ s. Passes (policy old) (moment old) (state old) (state s) × (policy s ≡ policy old) × (moment s ≡ moment old)) (sym same) (stays (policy old) (moment old) (state old), refl, refl)
+left_of policy moment state old new (inl same) = rw same (record { registry = λ clean. inl refl; terms = λ clean. refl; follows = stays_followed (state old) }, refl, refl)
 left_of policy moment state old new (inr left) = left
 
 -- what is found is what the source shows then
-pub shown_by : {X : Type 0} (lapses : ℕ → Registry → Registry) (p q : PolicyRules) (moment : ℕ) (find : PolicyRules → Registry → X) (of : Faces → X) → ((p : PolicyRules) (s : Registry) → of (faces_of p s) ≡ find p s) → (result : Result X Fault) (old new : BookState) → q ≡ p
-    → IfOk result (λ found. LooksUp p (find p) lapses moment found old new) → OnOk result (moment ≤ last_call)
+pub shown_by : {X : Type 0} (lapses : ℕ → Registry → Registry) (p q : PolicyRules) (moment : ℕ) (of : Faces → X) (result : Result X Fault) (old new : BookState) → q ≡ p
+    → IfOk result (λ found. LooksUp p (λ s. of (faces_of p s)) lapses moment found old new) → ((result ≡ Err faults.Moment) ↔ (last_call < moment))
     → IfOk result (λ found. (faces : Faces) → (new.is_clean ≡ true) × MayShow q moment new faces → found ≡ of faces)
-shown_by lapses p q moment find of is (Ok found) old new same step early = λ faces shown.
+shown_by lapses p q moment of (Ok found) old new same step late = λ faces shown.
     let looked = step shown.0 in
     looked.answer_is
-    ∙ ap (find p) (sym (same_then p moment old.content.registry new.content.registry looked.left))
-    ∙ ap (λ (r : PolicyRules). find r (lapsed r moment new.content.registry)) (sym same)
-    ∙ sym (is q (lapsed q moment new.content.registry))
-    ∙ ap of (sym (shown.1 early))
-shown_by lapses p q moment find of is (Err fault) old new same step early = tt
+    ∙ ap (λ (s : Registry). of (faces_of p s)) (sym (same_then p moment old.content.registry new.content.registry looked.left))
+    ∙ ap (λ (r : PolicyRules). of (faces_at r moment new.content.registry)) (sym same)
+    ∙ ap of (sym (shown.1 (in_time found moment late)))
+shown_by lapses p q moment of (Err fault) old new same step late = tt
 
 -- an answer by what the source shows then is one by the faces of the moment
-pub answer_then : (p q : PolicyRules) (moment later : ℕ) (old new : BookState) (head bytes : List ℕ) → q ≡ p → later ≡ moment → Passes p moment old new
-    → ((faces : Faces) → (new.is_clean ≡ true) × MayShow q later new faces → IsAnswer p faces head bytes)
-    → new.is_clean ≡ true → (faces : Faces) → MayShow p moment old faces → IsAnswer p faces head bytes
-answer_then p q moment later old new head bytes same clock_tells passes all clean faces shown =
-    let path : faces_at q later new.content.registry ≡ faces_at p moment old.content.registry =
-    (λ i. faces_at (same i) (clock_tells i) new.content.registry) ∙ ap (faces_of p) (at_that_moment p moment old new passes clean) in
-    all faces (clean, λ early. shown (subst (λ (t : ℕ). t ≤ last_call) clock_tells early) ∙ sym path)
-
 pub answer_by : {V E : Type 0} (items : V → List ℕ) (p q : PolicyRules) (moment later : ℕ) (old new end : BookState) (head : List ℕ) (result : Result V E) → end ≡ new → q ≡ p → later ≡ moment → Passes p moment old new
     → IfOk result (λ bytes. (faces : Faces) → (new.is_clean ≡ true) × MayShow q later new faces → IsAnswer p faces head (items bytes))
     → IfOk result (λ bytes. end.is_clean ≡ true → (faces : Faces) → MayShow p moment old faces → IsAnswer p faces head (items bytes))
-answer_by items p q moment later old new end head (Ok bytes) left same clock_tells passes all = λ clean. answer_then p q moment later old new head (items bytes) same clock_tells passes all (subst (λ (b : BookState). b.is_clean ≡ true) left clean)
+answer_by items p q moment later old new end head (Ok bytes) left same clock_tells passes all = λ clean faces shown.
+    let still : new.is_clean ≡ true = subst (λ (b : BookState). b.is_clean ≡ true) left clean in
+    let path : faces_at q later new.content.registry ≡ faces_at p moment old.content.registry =
+    (λ i. faces_at (same i) (clock_tells i) new.content.registry) ∙ ap (faces_of p) (at_that_moment p moment old new passes still) in
+    all faces (still, λ early. shown (subst (λ (t : ℕ). t ≤ last_call) clock_tells early) ∙ sym path)
 answer_by items p q moment later old new end head (Err fault) left same clock_tells passes all = tt
 
 -- ---- what was read of an input
 
-abbrev gives : (E : Type 0) → ℕ → Result ℕ E
-gives E n = Ok n
-
 -- a read that gives no byte
 pub read_nothing : {E : Type 0} (a b c : Option (List ℕ)) (result : Result ℕ E) (n : ℕ) (buf old : List ℕ) → result ≡ Ok n → n ≡ 0 → Consumes a b old → ReadConsumes b c result buf → Consumes a c old
 read_nothing {E} a b c result n buf old is none before read =
-    let given : ReadConsumes b c (gives E 0) buf = subst (λ (r : Result ℕ E). ReadConsumes b c r buf) (is ∙ ap (gives E) none) read in
+    let empty : ◌≡◌ {A = Result ℕ E} (Ok n) (Ok 0) = λ i. Ok (none i) in
+    let given : ReadConsumes {E = E} b c (Ok 0) buf = subst (λ (r : Result ℕ E). ReadConsumes b c r buf) (is ∙ empty) read in
     subst (Consumes a c) (append-nil old) (Consumes-trans a b c old [] before given.0)
 
 -- what more bytes are read behind what decides nothing yet
@@ -129,10 +117,10 @@ module _ (p : PolicyRules) (clock : Option (List ℕ)) (old : BookState) (later 
 pub answered : {V E : Type 0} (items : V → List ℕ) (p : PolicyRules) (head : List ℕ) (clock : Option (List ℕ)) (old : BookState) (before after next : Option (List ℕ)) (new : BookState) (moment : ℕ) (answer : Result V E) (end : HttpEnd)
     → Tells clock next moment → Passes p moment old new → IfOk answer (λ bytes. new.is_clean ≡ true → (faces : Faces) → MayShow p moment old faces → IsAnswer p faces head (items bytes))
     → IsWritten items answer before after end → AnswersHttp p (Some head) clock old before after next new end
-answered items p head clock old before after next new moment (Ok bytes) end clock_tells passes is (inl complete) =
+answered items p head clock old before after next new moment (Ok bytes) end clock_tells passes is wrote =
     let answer : IsAnswered p (Some head) clock old (items bytes) next new = record { moment = moment; clock_tells = clock_tells; passes = passes; head = head; agrees = refl; answer = is } in
-    rw complete.0 (items bytes, complete.1, answer)
-answered items p head clock old before after next new moment (Ok bytes) end clock_tells passes is (inr (ends_so, (n, less, begun))) =
-    let answer : IsAnswered p (Some head) clock old (items bytes) next new = record { moment = moment; clock_tells = clock_tells; passes = passes; head = head; agrees = refl; answer = is } in
-    rw ends_so (take n (items bytes), begun, (items bytes, answer, (n, less, refl)))
+    elim wrote [
+      | inl complete ↦ rw complete.0 (items bytes, complete.1, answer)
+      | inr (ends_so, (n, less, begun)) ↦ rw ends_so (take n (items bytes), begun, (items bytes, answer, (n, less, refl)))
+    ]
 answered items p head clock old before after next new moment (Err fault) end clock_tells passes is nothing = rw nothing.0 (nothing.1, inr (moment, clock_tells, passes))

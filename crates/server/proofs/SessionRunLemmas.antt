@@ -9,11 +9,11 @@ use Rattle.eppcommands.specs.Session.{before_login, in_session}
 use Rattle.frames.specs.Frames.{frame}
 use Rattle.frames.specs.Texts.{closing_text}
 use Rattle.eppreplies.specs.Reply.{reply_text}
-use Rattle.eppwire.specs.Answers.{AnswersHello, AnswersSaidBeforeLogin, AnswersRegistrar, AnswersSaid, AnswersBeforeLogin, FailsToAnswer, IsSentOrLost, is_last}
+use Rattle.eppwire.specs.Answers.{Answers, AnswersHello, AnswersSaidBeforeLogin, AnswersSaid, FailsToAnswer, IsSentOrLost, is_last}
 use Rattle.eppwire.proofs.FollowLemmas.{answers_follow, follows_on, same_follows}
 use Rattle.model.specs.Registry.{Registry}
 use Rattle.policy.specs.Rules.{PolicyRules}
-use Rattle.isolation.specs.Runs.{Answer, IsCall, Question, date, dated, reply}
+use Rattle.isolation.specs.Runs.{Answer, IsCall, Question, command, date, dated, reply}
 use Rattle.protocol.specs.declared.session.BeforeLogin.{BeforeLogin}
 use Rattle.protocol.specs.declared.session.BeforeLogin.TheVariants as before
 use Rattle.protocol.specs.declared.session.InSession.{InSession}
@@ -24,7 +24,7 @@ use Rattle.frames.specs.Sessions.{EndsSession, IsTurn, Rests, Run, SessionState,
 use Rattle.frames.specs.declared.session.SessionEnd.{SessionEnd}
 use Rattle.frames.specs.declared.session.SessionEnd.TheVariants.{Logout, End, Cut, Length, ReadFault, WriteFault, Lost}
 use Rattle.server.specs.Connections.{AnswersAt, Desk}
-use Rattle.server.specs.SessionRuns.{AreAnswered, AreHeard, AreRepliesWritten, IsAnsweredAll, IsLeftAt, PasswordsAreForLogins, SessionsAreAnswered, SessionsAreRuns, asked_over, caller_after, caller_with, has_failed, outcome_before, outcome_by, outcome_sent, question_within, questions_before, questions_by_turn, questions_said}
+use Rattle.server.specs.SessionRuns.{AreAnswered, AreHeard, AreRepliesWritten, IsAnsweredAll, IsLeftAt, PasswordsAreForLogins, SessionsAreAnswered, SessionsAreRuns, asked_over, caller_after, caller_with, first_outcome, has_failed, outcome_before, outcome_by, outcome_sent, question_within, questions_before, questions_by_turn, questions_said}
 use Rattle.books.specs.Book.{BookState, Follows, Stored}
 
 -- ---- one frame
@@ -36,35 +36,9 @@ pub record IsOne (p : PolicyRules) (g : List (List ℕ)) (caller : Option ℕ) (
   pub answer_is : has_failed turn.outcome ≡ false → IsSentOrLost (outcome_by p g caller turn.payload answers) turn.outcome
   pub sender : next ≡ caller_after p g caller turn
 
-asked-none : (caller : Option ℕ) (turn : Turn) → has_failed turn.outcome ≡ true → questions_by_turn caller turn ≡ []
-asked-none caller turn e = ap (λ (b : Bool). let xs : List (ℕ × Question) = if b then [] else map (λ q. (turn.moment, q)) (questions_said caller turn.payload) in xs) e
-
-pub asked-some : (caller : Option ℕ) (turn : Turn) → has_failed turn.outcome ≡ false → questions_by_turn caller turn ≡ map (λ q. (turn.moment, q)) (questions_said caller turn.payload)
-asked-some caller turn e = ap (λ (b : Bool). let xs : List (ℕ × Question) = if b then [] else map (λ q. (turn.moment, q)) (questions_said caller turn.payload) in xs) e
-
 caller-failed : (p : PolicyRules) (g : List (List ℕ)) (caller : Option ℕ) (turn : Turn) → has_failed turn.outcome ≡ true → caller_after p g caller turn ≡ caller
-caller-failed p g None turn e = ap (λ (b : Bool). let c : Option ℕ = if b then None else caller_with p g (before_login turn.payload) in c) e
+caller-failed p g None turn e = rw e refl
 caller-failed p g (Some r) turn e = refl
-
-one-failed : (p : PolicyRules) (g : List (List ℕ)) (caller : Option ℕ) (turn : Turn) (old new : Registry) (next : Option ℕ) → turn.outcome ≡ failed → new ≡ old → next ≡ caller → IsOne p g caller turn old new next
-one-failed p g caller turn old new next gave same stays =
-    let is : has_failed turn.outcome ≡ true = ap has_failed gave in
-    record {
-      answers = [];
-      run = subst (λ (xs : List (ℕ × Question)). IsRun p xs [] old new) (sym (asked-none caller turn is)) (refl, same);
-      answer_is = λ e. absurd (true≢false (sym is ∙ e));
-      sender = stays ∙ sym (caller-failed p g caller turn is);
-    }
-
-one-answered : (p : PolicyRules) (g : List (List ℕ)) (caller : Option ℕ) (turn : Turn) (old new : Registry) (next : Option ℕ) (answers : List Answer) → has_failed turn.outcome ≡ false
-    → IsRun p (map (λ q. (turn.moment, q)) (questions_said caller turn.payload)) answers old new → IsSentOrLost (outcome_by p g caller turn.payload answers) turn.outcome → next ≡ caller_after p g caller turn
-    → IsOne p g caller turn old new next
-one-answered p g caller turn old new next answers is run answer_is stays = record {
-  answers = answers;
-  run = subst (λ (xs : List (ℕ × Question)). IsRun p xs answers old new) (sym (asked-some caller turn is)) run;
-  answer_is = λ e. answer_is;
-  sender = stays;
-}
 
 told-so : (wanted outcome : Outcome) → has_failed wanted ≡ false → IsSentOrLost wanted outcome → has_failed outcome ≡ false
 told-so wanted outcome is (inl e) = ap has_failed e ∙ is
@@ -74,99 +48,85 @@ last-told : (text : List ℕ) (b : Bool) → has_failed (let o : Outcome = if b 
 last-told text true = refl
 last-told text false = refl
 
-left-as-it-was : (old new : BookState) → (new.is_clean ≡ true → new.content ≡ old.content) → new.is_clean ≡ true → new.content.registry ≡ old.content.registry
-left-as-it-was old new same clean = ap (λ (held : Stored). held.registry) (same clean)
-
-module _ (p : PolicyRules) (g : List (List ℕ)) (moment : ℕ) (old : BookState) (outcome : Outcome) (new : BookState) (clean : new.is_clean ≡ true) where
+module _ (p : PolicyRules) (g : List (List ℕ)) (turn : Turn) (old new : BookState) (clean : new.is_clean ≡ true) where
   -- what couldn't be carried out left the registry as it was
   abbrev HasGivenUp : Type 0
-  HasGivenUp = (outcome ≡ failed) × (new.content.registry ≡ old.content.registry)
+  HasGivenUp = (turn.outcome ≡ failed) × (new.content.registry ≡ old.content.registry)
 
-  gave-up : FailsToAnswer old outcome new → HasGivenUp
-  gave-up gives = (gives.0, left-as-it-was old new gives.1.content clean)
+  gave-up : FailsToAnswer old turn.outcome new → HasGivenUp
+  gave-up gives = (gives.0, ap (λ (held : Stored). held.registry) (gives.1.content clean))
 
-  -- or it is a call
-  record IsAsked (q : Question) : Type 0 where
-    pub answer : Answer
-    pub call : IsCall p moment q old.content.registry new.content.registry answer
-    pub carried_out : has_failed outcome ≡ false
-    pub answer_is : IsSentOrLost (outcome_sent answer) outcome
+  -- or these questions were asked, and this is sent for the answers
+  record IsCarriedOut (questions : List Question) (wanted : List Answer → Outcome) : Type 0 where
+    pub answers : List Answer
+    pub run : IsRun p (map (λ q. (turn.moment, q)) questions) answers old.content.registry new.content.registry
+    pub carried_out : has_failed turn.outcome ≡ false
+    pub answer_is : IsSentOrLost (wanted answers) turn.outcome
 
-  hello-asked : AnswersHello p moment old outcome new → HasGivenUp ⊎ IsAsked date
+  one-asked : (q : Question) (a : Answer) → IsCall p turn.moment q old.content.registry new.content.registry a
+      → has_failed (outcome_sent a) ≡ false → IsSentOrLost (outcome_sent a) turn.outcome → IsCarriedOut (q ∷ []) first_outcome
+  one-asked q a call told answer_is = record {
+    answers = a ∷ [];
+    run = (a, [], new.content.registry, refl, call, (refl, refl));
+    carried_out = told-so (outcome_sent a) turn.outcome told answer_is;
+    answer_is = answer_is;
+  }
+
+  none-asked : (wanted : Outcome) → has_failed wanted ≡ false → IsSentOrLost wanted turn.outcome → new ≡ old → IsCarriedOut [] (λ answers. wanted)
+  none-asked wanted told answer_is same = record {
+    answers = [];
+    run = (refl, ap (λ (state : BookState). state.content.registry) same);
+    carried_out = told-so wanted turn.outcome told answer_is;
+    answer_is = answer_is;
+  }
+
+  hello-asked : AnswersHello p turn.moment old turn.outcome new → HasGivenUp ⊎ IsCarriedOut (date ∷ []) first_outcome
   hello-asked (inl gives) = inl (gave-up gives)
-  hello-asked (inr greeted) = inr (record {
-    answer = dated greeted.date;
-    call = record { answered = ap dated (greeted.step clean).dated; left = (greeted.step clean).left };
-    carried_out = told-so _ outcome refl greeted.answer_is;
-    answer_is = greeted.answer_is;
-  })
+  hello-asked (inr greeted) = inr (one-asked date (dated greeted.date) (record { answered = ap dated (greeted.step clean).dated; left = (greeted.step clean).left }) refl greeted.answer_is)
 
-  said-asked : (r : ℕ) (words : InSession) → AnswersSaid p r words moment old outcome new → HasGivenUp ⊎ IsAsked (question_within r words)
+  said-asked : (r : ℕ) (words : InSession) → AnswersSaid p r words turn.moment old turn.outcome new → HasGivenUp ⊎ IsCarriedOut (question_within r words ∷ []) first_outcome
   said-asked r within.Hello hello = hello-asked hello
   said-asked r (within.Ordinary c) (inl gives) = inl (gave-up gives)
-  said-asked r (within.Ordinary c) (inr served) = inr (record {
-    answer = reply served.reply;
-    call = record { answered = ap reply (served.step clean).answered; left = (served.step clean).left };
-    carried_out = told-so _ outcome (last-told (reply_text served.reply) (is_last served.reply.code)) served.answer_is;
-    answer_is = served.answer_is;
-  })
-
-  of-registrar : (r : ℕ) (payload : List ℕ) → AnswersRegistrar p r payload moment old outcome new → HasGivenUp ⊎ IsAsked (question_within r (in_session payload))
-  of-registrar r payload (inl gives) = inl (gave-up gives)
-  of-registrar r payload (inr words) = said-asked r (in_session payload) words
+  said-asked r (within.Ordinary c) (inr served) =
+      inr (one-asked (command r c) (reply served.reply) (record { answered = ap reply (served.step clean).answered; left = (served.step clean).left })
+      (last-told (reply_text served.reply) (is_last served.reply.code)) served.answer_is)
 
   -- before a login
-  record IsOpened (words : BeforeLogin) (next : Option ℕ) : Type 0 where
-    pub answers : List Answer
-    pub run : IsRun p (map (λ q. (moment, q)) (questions_before words)) answers old.content.registry new.content.registry
-    pub carried_out : has_failed outcome ≡ false
-    pub answer_is : IsSentOrLost (outcome_before p g words answers) outcome
-    pub caller : next ≡ caller_with p g words
-
-  nothing-asked : new ≡ old → IsRun p [] [] old.content.registry new.content.registry
-  nothing-asked same = (refl, ap (λ (state : BookState). state.content.registry) same)
-
-  opening-asked : (words : BeforeLogin) (next : Option ℕ) → AnswersSaidBeforeLogin p g words moment old outcome new next → (HasGivenUp × (next ≡ None)) ⊎ IsOpened words next
+  opening-asked : (words : BeforeLogin) (next : Option ℕ) → AnswersSaidBeforeLogin p g words turn.moment old turn.outcome new next
+      → (HasGivenUp × (next ≡ None)) ⊎ (IsCarriedOut (questions_before words) (outcome_before p g words) × (next ≡ caller_with p g words))
   opening-asked before.Hello next (hello, nobody) = elim (hello-asked hello) [
     | inl gives ↦ inl (gives, nobody)
-    | inr asked ↦ inr (record {
-      answers = asked.answer ∷ [];
-      run = (asked.answer, [], new.content.registry, refl, asked.call, (refl, refl));
-      carried_out = asked.carried_out;
-      answer_is = asked.answer_is;
-      caller = nobody;
-    })
+    | inr asked ↦ inr (asked, nobody)
   ]
-  opening-asked (before.Login cl_trid c) next (login, same) =
-      inr (record { answers = []; run = nothing-asked same; carried_out = told-so _ outcome refl login.answer_is; answer_is = login.answer_is; caller = login.logged_in })
-  opening-asked (before.Refused cl_trid fault) next (answer_is, same, nobody) =
-      inr (record { answers = []; run = nothing-asked same; carried_out = told-so _ outcome refl answer_is; answer_is = answer_is; caller = nobody })
+  opening-asked (before.Login cl_trid c) next (login, same) = inr (none-asked _ refl login.answer_is same, login.logged_in)
+  opening-asked (before.Refused cl_trid fault) next (answer_is, same, nobody) = inr (none-asked _ refl answer_is same, nobody)
 
-  of-stranger : (payload : List ℕ) (next : Option ℕ) → AnswersBeforeLogin p g payload moment old outcome new next → (HasGivenUp × (next ≡ None)) ⊎ IsOpened (before_login payload) next
-  of-stranger payload next (inl gives) = inl (gave-up gives.0, gives.1)
-  of-stranger payload next (inr words) = opening-asked (before_login payload) next words
+  failed-one : (caller next : Option ℕ) → HasGivenUp → next ≡ caller → IsOne p g caller turn old.content.registry new.content.registry next
+  failed-one caller next gives stays =
+      let is : has_failed turn.outcome ≡ true = ap has_failed gives.0 in
+      record {
+        answers = [];
+        run = rw is (refl, gives.1);
+        answer_is = λ e. absurd (true≢false (sym is ∙ e));
+        sender = stays ∙ sym (caller-failed p g caller turn is);
+      }
 
-registrar-one : (p : PolicyRules) (g : List (List ℕ)) (r : ℕ) (turn : Turn) (old new : BookState) (next : Option ℕ) (clean : new.is_clean ≡ true) → next ≡ Some r
-    → HasGivenUp p g turn.moment old turn.outcome new clean ⊎ IsAsked p g turn.moment old turn.outcome new clean (question_within r (in_session turn.payload))
-    → IsOne p g (Some r) turn old.content.registry new.content.registry next
-registrar-one p g r turn old new next clean stays (inl gives) = one-failed p g (Some r) turn old.content.registry new.content.registry next gives.0 gives.1 stays
-registrar-one p g r turn old new next clean stays (inr asked) =
-    one-answered p g (Some r) turn old.content.registry new.content.registry next (asked.answer ∷ []) asked.carried_out (asked.answer, [], new.content.registry, refl, asked.call, (refl, refl)) asked.answer_is stays
+  asked-one : (caller next : Option ℕ) → IsCarriedOut (questions_said caller turn.payload) (outcome_by p g caller turn.payload) → next ≡ caller_after p g caller turn
+      → IsOne p g caller turn old.content.registry new.content.registry next
+  asked-one caller next asked goes =
+      record { answers = asked.answers; run = rw asked.carried_out asked.run; answer_is = λ e. asked.answer_is; sender = goes }
 
-caller-said : (p : PolicyRules) (g : List (List ℕ)) (turn : Turn) → has_failed turn.outcome ≡ false → caller_after p g None turn ≡ caller_with p g (before_login turn.payload)
-caller-said p g turn e = ap (λ (b : Bool). let c : Option ℕ = if b then None else caller_with p g (before_login turn.payload) in c) e
-
-stranger-one : (p : PolicyRules) (g : List (List ℕ)) (turn : Turn) (old new : BookState) (next : Option ℕ) (clean : new.is_clean ≡ true)
-    → (HasGivenUp p g turn.moment old turn.outcome new clean × (next ≡ None)) ⊎ IsOpened p g turn.moment old turn.outcome new clean (before_login turn.payload) next
-    → IsOne p g None turn old.content.registry new.content.registry next
-stranger-one p g turn old new next clean (inl gives) = one-failed p g None turn old.content.registry new.content.registry next gives.0.0 gives.0.1 gives.1
-stranger-one p g turn old new next clean (inr opened) =
-    one-answered p g None turn old.content.registry new.content.registry next opened.answers opened.carried_out opened.run opened.answer_is (opened.caller ∙ sym (caller-said p g turn opened.carried_out))
-
-pub one-turn : (p : PolicyRules) (g : List (List ℕ)) (caller next : Option ℕ) (turn : Turn) (old new : BookState) → AnswersAt p g (record { caller = caller; book = old }) turn.moment turn.payload turn.outcome (record { caller = next; book = new })
-    → new.is_clean ≡ true → IsOne p g caller turn old.content.registry new.content.registry next
-one-turn p g None next turn old new answers clean = stranger-one p g turn old new next clean (of-stranger p g turn.moment old turn.outcome new clean turn.payload next answers)
-one-turn p g (Some r) next turn old new answers clean = registrar-one p g r turn old new next clean answers.1 (of-registrar p g turn.moment old turn.outcome new clean r turn.payload answers.0)
+  pub one-turn : (caller next : Option ℕ) → Answers p g caller turn.payload turn.moment old turn.outcome new next → IsOne p g caller turn old.content.registry new.content.registry next
+  one-turn None next (inl (gives, nobody)) = failed-one None next (gave-up gives) nobody
+  one-turn None next (inr words) = elim (opening-asked (before_login turn.payload) next words) [
+    | inl (gives, nobody) ↦ failed-one None next gives nobody
+    | inr (asked, goes) ↦ asked-one None next asked (rw asked.carried_out goes)
+  ]
+  one-turn (Some r) next (inl gives, same) = failed-one (Some r) next (gave-up gives) same
+  one-turn (Some r) next (inr words, same) = elim (said-asked r (in_session turn.payload) words) [
+    | inl gives ↦ failed-one (Some r) next gives same
+    | inr asked ↦ asked-one (Some r) next asked same
+  ]
 
 -- ---- frames one after another
 
@@ -182,7 +142,7 @@ answered-on : (p : PolicyRules) (g : List (List ℕ)) (turns rest : List Turn) (
     → AreAnswered p g mid.peer.caller rest mid.peer.book.content.registry new → AreAnswered p g old.peer.caller (turns ++ rest) old.peer.book.content.registry new
 answered-on p g [] rest old mid new same clean more = subst (λ (s : SessionState Desk). AreAnswered p g s.peer.caller rest s.peer.book.content.registry new) same more
 answered-on p g (turn ∷ turns) rest old mid new (goes, next, is, run) clean more =
-    let one = one-turn p g old.peer.caller next.peer.caller turn old.peer.book next.peer.book is.outcome ((run-follows p g turns next mid run).clean clean) in
+    let one = one-turn p g turn old.peer.book next.peer.book ((run-follows p g turns next mid run).clean clean) old.peer.caller next.peer.caller is.outcome in
     (one.answers, next.peer.book.content.registry, one.run, one.answer_is, subst (λ (c : Option ℕ). AreAnswered p g c (turns ++ rest) next.peer.book.content.registry new) one.sender (answered-on p g turns rest next mid new run clean more))
 
 -- those that were heard in a run, and some that are behind them
@@ -191,12 +151,6 @@ heard-on : (p : PolicyRules) (g : List (List ℕ)) (turns rest : List Turn) (old
 heard-on p g [] rest old mid input clock same more = subst (λ (s : SessionState Desk). AreHeard rest s.input s.clock input clock) same more
 heard-on p g (turn ∷ turns) rest old mid input clock (goes, next, is, run) more =
     (next.input, next.clock, is.payload, is.moment, heard-on p g turns rest next mid input clock run more)
-
-answered-last : (p : PolicyRules) (g : List (List ℕ)) (turn : Turn) (old new : SessionState Desk) → IsTurn (AnswersAt p g) turn old new → new.peer.book.is_clean ≡ true
-    → AreAnswered p g old.peer.caller (turn ∷ []) old.peer.book.content.registry new.peer.book.content.registry
-answered-last p g turn old new is clean =
-    let one = one-turn p g old.peer.caller new.peer.caller turn old.peer.book new.peer.book is.outcome clean in
-    (one.answers, new.peer.book.content.registry, one.run, one.answer_is, refl)
 
 -- ---- what was written
 
@@ -213,31 +167,31 @@ module _ (p : PolicyRules) (g : List (List ℕ)) (turns : List Turn) (old mid ne
   alone : last ≡ [] → written ≡ frames turns
   alone none = bytes ∙ ap (λ l. frames turns ++ l) none ∙ append-nil (frames turns)
 
+  -- those of the run were answered, and these behind them
+  behind : (end : SessionEnd) (rest : List Turn) (input : Option (List ℕ)) → Follows mid.peer.book new.peer.book → AreHeard rest mid.input mid.clock input new.clock
+      → AreAnswered p g mid.peer.caller rest mid.peer.book.content.registry new.peer.book.content.registry
+      → IsLeftAt end input → AreRepliesWritten end (turns ++ rest) written → IsAnsweredAll p g old written end new
+  behind end rest input follows heard answered left wrote = record {
+    turns = turns ++ rest;
+    rest = input;
+    heard = heard-on p g turns rest old mid input new.clock run heard;
+    left = left;
+    answered = answered-on p g turns rest old mid new.peer.book.content.registry run (follows.clean clean) answered;
+    bytes = wrote;
+  }
+
   -- the peer wasn't asked again
   resting : (end : SessionEnd) → Rests mid new → IsLeftAt end mid.input → AreRepliesWritten end turns written → IsAnsweredAll p g old written end new
   resting end rests left wrote =
-      let peer = sym rests.peer in
-      record {
-        turns = turns;
-        rest = mid.input;
-        heard = subst (λ (ts : List Turn). AreHeard ts old.input old.clock mid.input new.clock) (append-nil turns) (heard-on p g turns [] old mid mid.input new.clock run (refl, rests.clock));
-        left = left;
-        answered = subst (λ (ts : List Turn). AreAnswered p g old.peer.caller ts old.peer.book.content.registry new.peer.book.content.registry) (append-nil turns)
-            (subst (λ (d : Desk). AreAnswered p g old.peer.caller (turns ++ []) old.peer.book.content.registry d.book.content.registry) peer
-            (answered-on p g turns [] old mid mid.peer.book.content.registry run (ap (λ (d : Desk). d.book.is_clean) peer ∙ clean) refl));
-        bytes = wrote;
-      }
+      behind end [] mid.input (same_follows mid.peer.book new.peer.book (ap (λ (d : Desk). d.book) rests.peer)) (refl, rests.clock) (ap (λ (d : Desk). d.book.content.registry) rests.peer) left
+      (subst (λ (ts : List Turn). AreRepliesWritten end ts written) (sym (append-nil turns)) wrote)
 
   -- one frame more was answered
   ending : (end : SessionEnd) (turn : Turn) → IsTurn (AnswersAt p g) turn mid new → IsLeftAt end new.input → AreRepliesWritten end (turns ++ turn ∷ []) written → IsAnsweredAll p g old written end new
-  ending end turn is left wrote = record {
-    turns = turns ++ turn ∷ [];
-    rest = new.input;
-    heard = heard-on p g turns (turn ∷ []) old mid new.input new.clock run (new.input, new.clock, is.payload, is.moment, (refl, refl));
-    left = left;
-    answered = answered-on p g turns (turn ∷ []) old mid new.peer.book.content.registry run ((turn-follows p g turn mid new is).clean clean) (answered-last p g turn mid new is clean);
-    bytes = wrote;
-  }
+  ending end turn is =
+      let one = one-turn p g turn mid.peer.book new.peer.book clean mid.peer.caller new.peer.caller is.outcome in
+      behind end (turn ∷ []) new.input (turn-follows p g turn mid new is) (new.input, new.clock, is.payload, is.moment, (refl, refl))
+      (one.answers, new.peer.book.content.registry, one.run, one.answer_is, refl)
 
   all-sent : (turn : Turn) → last ≡ frame (sent turn.outcome) → written ≡ frames (turns ++ turn ∷ [])
   all-sent turn full = bytes ∙ ap (λ l. frames turns ++ l) full ∙ sym (frames-last turns turn)

@@ -8,5 +8,4 @@ returns-clause-answer g c =
     let new = c.answer-answer.new.source in
     let left = left_of (λ s. s.registry.policy) (λ s. s.moment) (λ s. g.B.Book.state s.registry.book) old new c.answer-answer.ensures.left in
     rw (sym c.new-source.ensures.registry, sym c.new-source.ensures.moment)
-    (answer_by (λ v. v.items) old.registry.policy new.registry.policy old.moment new.moment (g.B.Book.state old.registry.book) (g.B.Book.state new.registry.book) (g.B.Book.state c.into_registry.result.book) c.args.head.now c.answer-answer.result
-    (ap (λ r. g.B.Book.state r.book) c.into_registry.ensures) left.1 left.2 left.0 c.answer-answer.ensures.answer)
+    (answer_by (λ v. v.items) _ _ _ _ _ _ _ _ _ (ap (λ r. g.B.Book.state r.book) c.into_registry.ensures) left.1 left.2 left.0 c.answer-answer.ensures.answer)

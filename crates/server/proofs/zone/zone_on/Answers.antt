@@ -24,38 +24,22 @@ returns-in_err-zone-clause-begun g c =
     rw (gave.1, gave.2) (λ clean. Appends-nil _)
 
 pub returns-in_err-zone-clause-passes : goal.returns-in_err-zone-clause-passes
-returns-in_err-zone-clause-passes g c =
-    let p : PolicyRules = c.args.registry.now.policy in
-    let old : BookState = g.B.Book.state c.args.registry.now.book in
-    let new : BookState = g.B.Book.state c.zone_data.new.self.book in
-    passes_by _ p c.args.moment (zone_data p.zone) _ c.zone_data.result c.zone_data.new.self.policy old new c.zone_data.ensures.step c.zone_data.ensures.keeps c.zone_data.ensures.fault
+returns-in_err-zone-clause-passes g c = passes_by _ _ _ _ _ _ _ _ _ c.zone_data.ensures.step c.zone_data.ensures.keeps c.zone_data.ensures.fault
 
 pub returns-in_err-write_data-clause-begun : goal.returns-in_err-write_data-clause-begun
 returns-in_err-write_data-clause-begun g c =
     let gave = err_from_is_err_and c.from_residual-in_err-write_data.result c.from_residual-in_err-write_data.ensures.1 in
     rw (gave.1, gave.2) (λ clean.
-    let p : PolicyRules = c.args.registry.now.policy in
-    let old : BookState = g.B.Book.state c.args.registry.now.book in
-    let new : BookState = g.B.Book.state c.zone_data.new.self.book in
-    subst (StopsWithin _ _ _) (text_is _ p c.policy.result.now c.args.moment c.in_ok-zone.zone old new (c.policy.ensures ∙ c.zone_data.ensures.keeps.policy) c.in_ok-zone.ensures.step clean) c.in_err-write_data.ensures.begun)
+    subst (StopsWithin _ _ _) (text_is _ _ _ _ _ (g.B.Book.state c.args.registry.now.book) (g.B.Book.state c.zone_data.new.self.book)
+    (c.policy.ensures ∙ c.zone_data.ensures.keeps.policy) c.in_ok-zone.ensures.step clean) c.in_err-write_data.ensures.begun)
 
 pub returns-in_err-write_data-clause-passes : goal.returns-in_err-write_data-clause-passes
-returns-in_err-write_data-clause-passes g c =
-    let p : PolicyRules = c.args.registry.now.policy in
-    let old : BookState = g.B.Book.state c.args.registry.now.book in
-    let new : BookState = g.B.Book.state c.zone_data.new.self.book in
-    passes_by _ p c.args.moment (zone_data p.zone) _ c.zone_data.result c.zone_data.new.self.policy old new c.zone_data.ensures.step c.zone_data.ensures.keeps c.zone_data.ensures.fault
+returns-in_err-write_data-clause-passes g c = passes_by _ _ _ _ _ _ _ _ _ c.zone_data.ensures.step c.zone_data.ensures.keeps c.zone_data.ensures.fault
 
 pub returns-clause-written : goal.returns-clause-written
 returns-clause-written g c = λ clean.
-    let p : PolicyRules = c.args.registry.now.policy in
-    let old : BookState = g.B.Book.state c.args.registry.now.book in
-    let new : BookState = g.B.Book.state c.zone_data.new.self.book in
-    subst (Appends _ _) (text_is _ p c.policy.result.now c.args.moment c.in_ok-zone.zone old new (c.policy.ensures ∙ c.zone_data.ensures.keeps.policy) c.in_ok-zone.ensures.step clean) c.in_ok-write_data.ensures.written
+    subst (Appends _ _) (text_is _ _ _ _ _ (g.B.Book.state c.args.registry.now.book) (g.B.Book.state c.zone_data.new.self.book)
+    (c.policy.ensures ∙ c.zone_data.ensures.keeps.policy) c.in_ok-zone.ensures.step clean) c.in_ok-write_data.ensures.written
 
 pub returns-clause-passes : goal.returns-clause-passes
-returns-clause-passes g c =
-    let p : PolicyRules = c.args.registry.now.policy in
-    let old : BookState = g.B.Book.state c.args.registry.now.book in
-    let new : BookState = g.B.Book.state c.zone_data.new.self.book in
-    passes_by _ p c.args.moment (zone_data p.zone) _ c.zone_data.result c.zone_data.new.self.policy old new c.zone_data.ensures.step c.zone_data.ensures.keeps c.zone_data.ensures.fault
+returns-clause-passes g c = passes_by _ _ _ _ _ _ _ _ _ c.zone_data.ensures.step c.zone_data.ensures.keeps c.zone_data.ensures.fault
