@@ -37,8 +37,11 @@ def main():
     print("enum statement { " + ", ".join(name for name, _ in found) + ", STATEMENTS };")
     show("TEXTS", [text for _, text in found])
     show("NAMES", [name for name, _ in found])
-    # not those of the schema before this one
-    show("SCHEMA", [text for name, text in texts_of("schema") if not name.startswith("FIRST_")])
+    # the list of both schemas, with this one's table of lines, and the days
+    body = (SOURCES / "schema.rt").read_text()
+    named = dict(texts_of("schema"))
+    listed = re.findall(r'^ +(?:"(CREATE [^"]*)"|\$line),$', body, re.M)
+    show("SCHEMA", [text or named["LINE"] for text in listed] + [named["DAYS"]])
 
 
 main()

@@ -1,16 +1,14 @@
 -- What a store of rows is over a database that was read anew.
-use Rattle.std.proofs.Common.{◌≡◌, ◌&&◌, inl, Bool, true, false, [], ◌∷◌, length, map, IsTrue, refl, sym, ap, subst, ◌∙◌, true≢false}
-use Rattle.sqltables.proofs.Words.{and_parts, Bears, catalog_tree, Content, contents, cut, Database, Fits, Form, Guards, HasCleanDisk, HoldsRows}
+use Rattle.std.proofs.Common.{◌≡◌, ◌&&◌, inl, Bool, true, false, [], ◌∷◌, length, map, IsTrue, refl, sym, ap, subst, ◌∙◌, true≢false, arith}
+use Rattle.sqltables.proofs.Words.{Bears, catalog_tree, Content, contents, cut, Database, Fits, Form, Guards, HasCleanDisk, HoldsRows}
 use Rattle.sqltables.proofs.Words.{is_numbered, IsFormOf, IsFound, IsKnownAs, IsLeftAs, IsSeenBy, IsShapedAs, IsShown, IsSound, left_in, Made}
 use Rattle.sqltables.proofs.Words.{Making, no_schema, readiness_of, registry, rows_in, State, StateOf, store_state, Trees, undone, Unused}
+use Rattle.sqltables.proofs.{SoundLemmas.content_of_sound, StandingLemmas.{both, honest}}
 use Rattle.sqlite_schema.specs.declared.schema.Schema.{Schema}
 use Rattle.sqlite_catalog.proofs.ReadLemmas.{reads, read_once}
 use Rattle.sqltables.specs.declared.form.Form.TheVariants.{Other}
-use Rattle.states.specs.declared.readiness.Ready.{Ready}
-use Rattle.states.specs.declared.readiness.Ready.TheVariants.{Used}
+use Rattle.states.specs.declared.readiness.Ready.{Ready, TheVariants.Used}
 use Rattle.states.specs.declared.readiness.Ready.TheVariants as readiness
-use Rattle.sqltables.proofs.SoundLemmas.{content_of_sound}
-use Rattle.sqltables.proofs.StandingLemmas.{honest}
 
 -- the rows of sqlite_schema tell the schema
 pub schema_once : (db : Trees) (s t : Schema) → IsSound s db → IsSound t db → s ≡ t
@@ -23,10 +21,7 @@ pub some-tables : registry ≡ no_schema → ⊥
 some-tables e = let n : length registry.tables ≡ 0 = ap (λ (s : Schema). length s.tables) e in absurd cc
 
 unmade : (form : Form) (schema : Schema) → IsFormOf schema form → undone form ≡ form
-unmade Unused schema is = refl
-unmade Making schema is = absurd is
-unmade Made schema is = refl
-unmade Other schema is = refl
+unmade form schema is = grind arith
 
 left_as : (form : Form) (db : Database) → IsFormOf db.schema form → IsSound db.schema db.trees → IsLeftAs (readiness_of form) db.trees (rows_in form db.trees)
 left_as Unused db is sound = (subst (λ (s : Schema). IsSound s db.trees) is sound, refl)
@@ -60,10 +55,7 @@ module _ (s : State) (found : IsFound s) where
   }
 
 seen : (form : Form) (schema : Schema) (db trees : Trees) → IsFormOf schema form → db ≡ trees → IsSeenBy (readiness_of form) trees (rows_in form db)
-seen Unused schema db trees is e = refl
-seen Making schema db trees is e = absurd is
-seen Made schema db trees is e = ap contents e
-seen Other schema db trees is e = refl
+seen form schema db trees is e = grind arith
 
 shaped : (form : Form) (schema : Schema) (trees : Trees) → IsFormOf schema form → IsSound schema trees → IsShapedAs (readiness_of form) trees
 shaped Unused schema trees is sound = subst (λ (s : Schema). IsSound s trees) is sound
@@ -75,9 +67,9 @@ pub shown : (s : State) (form : Form) (trees : Trees) → IsFound s → IsFormOf
 shown s form trees found is same = record {
   idle = refl;
   before = refl;
-  content = λ e. seen form s.now.schema s.now.trees trees is (same (honest s (and_parts s.is_clean s.is_open e).0));
+  content = λ e. seen form s.now.schema s.now.trees trees is (same ((both s e).0));
   known = λ e.
-      let clean = honest s (and_parts s.is_clean s.is_open e).0 in
+      let clean = (both s e).0 in
       shaped form s.now.schema trees is (subst (λ (d : Trees). IsSound s.now.schema d) (same clean) (found clean).1);
   answers = λ e. ap (λ (b : Bool). b && s.is_open) e ∙ (found (honest s e)).0.is_open;
   leaves = λ e. refl;

@@ -1,9 +1,8 @@
 -- A database that is read anew lies in order.
 use Rattle.std.proofs.Common.{◌≡◌, ◌⊎◌, ℕ, Bool, true, false, List, [], ◌∷◌, IsTrue, inl, inr, refl, sym, ap, subst, ◌∙◌, true≢false}
 use Rattle.sqltables.proofs.Words.{AllByRecursion, catalog_tree, Has, IsClean, IsListed, IsOrdered, IsShaped, IsSound, Table, Trees, View}
-use Rattle.sqlite_trees.specs.declared.store.Shape.{Shape}
+use Rattle.sqlite_trees.specs.{declared.store.Shape.Shape, View.{Commits, IsRolledBack, doubt}}
 use Rattle.sqlite_trees.specs.declared.store.Shape.TheVariants as shape
-use Rattle.sqlite_trees.specs.View.{Commits, IsRolledBack, doubt}
 use Rattle.sqlite_schema.specs.declared.schema.Schema.{Schema}
 use Rattle.sqlite_catalog.proofs.LayoutLemmas.{table_shape}
 use Rattle.sqlite.specs.Steps.{IsFresh}

@@ -1,20 +1,18 @@
 -- What a statement that writes rows makes of them, and what it leaves.
 use Rattle.std.proofs.Common.{◌≡◌, ◌&&◌, ℕ, ℤ, Bool, true, List, Option, None, Ok, Err, IsTrue, refl, sym, ap, subst, ◌∙◌, true≢false}
 use Rattle.std.specs.Prelude.{unwrap_or}
-use Rattle.sqltables.proofs.Words.{AgreesWithForm, Alters, and_parts, Answer, Appends, AreOthersSame, AreRight, Bears, command_of, commits_later}
+use Rattle.sqltables.proofs.Words.{AgreesWithForm, Alters, Answer, Appends, AreOthersSame, AreRight, Bears, command_of, commits_later}
 use Rattle.sqltables.proofs.Words.{CommitsBy, Content, contents, Database, Error, executed_open, Executes, Fits, Form, has_rows, HasCleanDisk}
 use Rattle.sqltables.proofs.Words.{HoldsRows, IsContent, Leads, Made, Making, mode_of, Recalls, registry, Remains, Row, rows_in, Runs, runs_as}
 use Rattle.sqltables.proofs.Words.{same_command, stands_if_not_executed, State, statement_of, stays_if_executed, StaysOrUndoes, store_state}
-use Rattle.sqltables.proofs.Words.{Survives, Trees, understood, undone, Unused, Writes, writes_tables}
-use Rattle.sqlite_schema.specs.declared.schema.Schema.{Schema}
-use Rattle.sqlite_schema.specs.declared.command.Command.{Command}
+use Rattle.sqltables.proofs.{Words.{Survives, Trees, understood, undone, Unused, Writes, writes_tables}, AskingLemmas.{holds-now, rows-are}}
+use Rattle.sqltables.proofs.DecodingLemmas.{decoded}
+use Rattle.sqltables.proofs.StandingLemmas.{answered-open, both, clean-before, honest, leaves-no-more, leaves-same, was-honest}
+use Rattle.sqlite_schema.specs.declared.{schema.Schema.Schema, command.Command.Command}
 use Rattle.sqlite_schema.specs.declared.command.Command.TheVariants.{Insert, InsertOr, Update, Delete, CreateTable, CreateIndex}
 use Rattle.sqlite.specs.Does.{Does, Tally}
 use Rattle.sqlrows.specs.inner.Calls as calls
 use Rattle.sqltables.specs.declared.form.Form.TheVariants.{Other}
-use Rattle.sqltables.proofs.AskingLemmas.{holds-now, rows-are}
-use Rattle.sqltables.proofs.DecodingLemmas.{decoded}
-use Rattle.sqltables.proofs.StandingLemmas.{answered-open, clean-of, honest, leaves-no-more, leaves-same, was-honest}
 
 -- what a command that writes rows did
 changed-by : (old new : State) (command : Command) (text : List ℕ) (params : Row) (count : ℕ) → writes_tables command ≡ true → Runs old new None command text params count
@@ -111,13 +109,12 @@ module _ (tree : ℕ) (sql : List ℕ) (params : Row) (form : Form) (old new : S
 
     pub written : (leaves : List (Remains Content)) → Writes (f (rows_in form old.now.trees)) (store_state form true old leaves) (store_state form true new leaves)
     written leaves = record {
-      clean = λ e. let parts = and_parts new.is_clean new.is_open e in let clean = honest new parts.0 in
-          ap (λ (b : Bool). b && old.is_open) (clean-of old (was-honest old new P survives clean)) ∙ executed_open sql params old new (Ok count) (ran clean) parts.1;
-      before = λ e. let parts = and_parts new.is_clean new.is_open e in let clean = honest new parts.0 in
-          ap (λ (db : Database). rows_in (undone form) db.trees) (stayed clean (agreed clean parts.1)).shown.committed_is;
+      clean = λ e. let p = both new e in clean-before old new P survives p.0 (executed_open sql params old new (Ok count) (ran p.0) p.1);
+      before = λ e. let p = both new e in ap (λ (db : Database). rows_in (undone form) db.trees) (stayed p.0 (agreed p.0 p.1)).shown.committed_is;
       opened = refl;
-      content = λ e. let parts = and_parts new.is_clean new.is_open e in let clean = honest new parts.0 in
-          rows-are form new.now.trees rows ∙ decoded (f (contents old.now.trees)) new.now (made clean (agreed clean parts.1)) ∙ ap f (sym (rows-are form old.now.trees rows));
+      content = λ e.
+          let p = both new e in
+          rows-are form new.now.trees rows ∙ decoded (f (contents old.now.trees)) new.now (made p.0 (agreed p.0 p.1)) ∙ ap f (sym (rows-are form old.now.trees rows));
       answers = λ was e. ap (λ (b : Bool). b && new.is_open) e ∙ open-after (answered-open old new P survives was) (honest new e);
       leaves = leaves-same form form true true old new P leaves survives refl;
     }

@@ -1,19 +1,16 @@
 -- What is found among the answers that are kept, and what is kept.
 use Rattle.std.proofs.Common.{◌≡◌, ◌≢◌, ◌++◌, ◌==◌, ◌&&◌, Bool, true, false, not, ℕ, List, [], ◌∷◌, length, map, filter, flat_map, get_or, if◌then◌else◌, IfOk, IfSome, IsTrue, Option, Some, None, Result, inl, inr, refl, sym, ap, subst, subst₂, ◌∙◌, arith}
-use Rattle.std.proofs.lemmas.Bool.Decides.{leb_tells}
-use Rattle.std.proofs.lemmas.List.Sums.{count_by-le-length, length-filter}
-use Rattle.std.proofs.lemmas.List.Elements.{All-filter, All-push, filter_passes}
-use Rattle.std.proofs.lemmas.Simd.{map-map}
-use Rattle.sqltables.proofs.Words.{All, and_parts, Answer, AreOthersSame, AreRight, Asks, BookFault, bound, bound_value, Content, end, Env}
+use Rattle.std.proofs.lemmas.{Bool.Decides.leb_tells, List.Sums.{count_by-le-length, length-filter}}
+use Rattle.std.proofs.lemmas.{List.Elements.{All-filter, All-push, filter_passes}, Simd.map-map}
+use Rattle.sqltables.proofs.Words.{All, Answer, AreOthersSame, AreRight, Asks, BookFault, bound, bound_value, Content, end, Env}
 use Rattle.sqltables.proofs.Words.{eqb-false, Finds, Fits, Form, has_rows, HasCleanDisk, inner, IsAnswer, IsAnsweredByRows, IsContent, IsOfTable}
 use Rattle.sqltables.proofs.Words.{IsRight, lasting, lasts, matches_as, Null, overlay, overlay_none, owned, Query, Reads, Recalls, registry, Remains}
 use Rattle.sqltables.proofs.Words.{Row, Select, State, StateOf, store_state, Trees, Value}
+use Rattle.sqltables.proofs.{AskingLemmas.{finds-by, holds-now, in-registry, rows-are, shows}, StandingLemmas.{both, clean-of}}
 use Rattle.sqlite_value.specs.declared.value.ValueRef.{ValueRef}
 use Rattle.sqlite_sql.specs.Group.{IsGrouped}
 use Rattle.sqlite_schema.specs.declared.command.Command.{Command}
 use Rattle.sqltables.specs.inner.Answers.{AreFew, IsOf, IsPutIn, IsQueryOf, beside, is_short, unless_full}
-use Rattle.sqltables.proofs.AskingLemmas.{finds-by, holds-now, in-registry, rows-are, shows}
-use Rattle.sqltables.proofs.StandingLemmas.{clean-of, honest}
 
 -- parameters that are kept are those that were given
 pub same_bound : (values : List Value) (given : List ValueRef) → values ≡ map owned given → map bound_value values ≡ bound given
@@ -52,10 +49,7 @@ module _ (form : Form) (begun : Bool) (s : State) (leaves : List (Remains Conten
   recalled f None tells = tt
   recalled f (Some found) tells =
       finds-by found (f seen.content) seen seen (reads-itself seen)
-      (λ e.
-      let parts = and_parts s.is_clean s.is_open e in
-      let clean = honest s parts.0 in
-      tells s.now.trees seen.content (recalls clean parts.1) (there clean parts.1))
+      (λ e. let p = both s e in tells s.now.trees seen.content (recalls p.0 p.1) (there p.0 p.1))
 
   -- one more is kept that the rows show to be right
   pub recalls-known : (more : List Answer) (sql : List ℕ) (params : Row) (found : List Row) → (seen.is_clean ≡ true → (db : Trees) → IsContent seen.content (record { schema = registry; trees = db }) → IsAnsweredByRows db sql params found)

@@ -1,22 +1,18 @@
 -- What a query finds, and what it leaves.
-use Rattle.std.proofs.Common.{◌≡◌, ℕ, Bool, true, List, [], map, IfOk, Result, Ok, Err, IsTrue, sym, ap, subst, ◌∙◌, true≢false}
-use Rattle.sqltables.proofs.Words.{AgreesWithForm, and_parts, Answer, AreRight, Asks, Bears, BookFault, commits_nothing, CommitsShowing, Content}
+use Rattle.std.proofs.Common.{◌≡◌, ℕ, Bool, true, List, [], map, IfOk, Result, Ok, Err, IsTrue, sym, ap, subst, ◌∙◌, arith}
+use Rattle.sqltables.proofs.Words.{AgreesWithForm, Answer, AreRight, Asks, Bears, BookFault, commits_nothing, CommitsShowing, Content}
 use Rattle.sqltables.proofs.Words.{contents, Database, Error, FailsToQuery, Finds, Fits, Form, has_rows, HasCleanDisk, HoldsRows, IsAnsweredByRows}
-use Rattle.sqltables.proofs.Words.{IsContent, IsUnchanged, Made, Making, not_queried_open, Null, queried_open, Reads, reads_as, Recalls, registry}
+use Rattle.sqltables.proofs.Words.{IsContent, IsUnchanged, not_queried_open, Null, queried_open, Reads, reads_as, Recalls, registry}
 use Rattle.sqltables.proofs.Words.{Remains, Row, rows_in, same_command, same_if_shown, Select, Shown, stands_if_not_shown, State, StateOf}
-use Rattle.sqltables.proofs.Words.{StaysOrUndoes, store_state, Survives, Trees, understood, Unused}
+use Rattle.sqltables.proofs.Words.{StaysOrUndoes, store_state, Survives, Trees, understood}
+use Rattle.sqltables.proofs.StandingLemmas.{agrees-unchanged, both, leaves-no-more, reads-same, was-honest}
 use Rattle.sqlite_schema.specs.declared.schema.Schema.{Schema}
 use Rattle.sqlite.specs.Given.{IsPlain}
-use Rattle.sqltables.specs.declared.form.Form.TheVariants.{Other}
-use Rattle.sqltables.proofs.StandingLemmas.{agrees-unchanged, honest, leaves-no-more, reads-same, was-honest}
 
 -- ---- where the tables are
 
 pub holds-now : (form : Form) (now committed : Database) → has_rows form ≡ true → Bears form now committed → HoldsRows now
-holds-now Unused now committed is it = absurd (true≢false (sym is))
-holds-now Making now committed is it = it.0
-holds-now Made now committed is it = it.0
-holds-now Other now committed is it = absurd (true≢false (sym is))
+holds-now form now committed is it = grind arith
 
 pub rows-are : (form : Form) (db : Trees) → has_rows form ≡ true → rows_in form db ≡ contents db
 rows-are form db is = rw is
@@ -86,7 +82,7 @@ asked tree shown sql params form begun old new P leaves survives fits rows f ask
     let plain = asks.is.plain in
     finds-by result (f (rows_in form old.now.trees)) (store_state form begun old leaves) (store_state form begun new leaves)
     (reads-same form begun old new P leaves survives (λ clean. same-if sql params form begun old new P survives fits rows plain found clean (seen clean)))
-    (λ e. let clean = honest new (and_parts new.is_clean new.is_open e).0 in
+    (λ e. let clean = (both new e).0 in
     read (f (rows_in form old.now.trees))
     (answered tree shown sql params f asks old new (held sql params form begun old new P survives fits rows plain found clean (seen clean)) found (seen clean) ∙ ap (λ (xs : Content). map shown (f xs)) (sym (rows-are form old.now.trees rows))))
 

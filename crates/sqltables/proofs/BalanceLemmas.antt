@@ -1,8 +1,8 @@
 -- Sixteen bytes as a number and back.
 use Rattle.std.proofs.Common.{◌≡◌, ℕ, ℤ, List, pos, negsuc, to_z-of_z, ◌+◌, ◌*◌, ◌/◌, ◌%◌, ◌^◌, ◌<◌, arith, ◌∙◌, ap, FitsSigned}
+use Rattle.std.proofs.lemmas.Int.{ints}
 use Rattle.std.specs.Int.{w128, to_be_bytes, from_be_bytes, cast_signed, cast_unsigned}
 use Rattle.sqltables.specs.inner.Balance.{balance_bytes}
-use Rattle.std.proofs.lemmas.Int.{ints}
 use native.Mathlib.Nat as nat
 
 byte_and_rest : (n p : ℕ) → n / p ≡ n / p % 256 + n / (p * 256) * 256

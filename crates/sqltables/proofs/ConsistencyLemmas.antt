@@ -1,22 +1,17 @@
 -- What the soundness of a database makes always true of its rows.
-use Rattle.std.proofs.Common.{◌≡◌, ℕ, ℤ, ◌&&◌, ◌||◌, Bool, true, false, not, List, [], ◌∷◌, Option, Some, sym, ◌∙◌, subst}
+use Rattle.std.proofs.Common.{◌≡◌, ℕ, ℤ, ◌&&◌, ◌||◌, Bool, true, false, not, List, [], ◌∷◌, Option, Some, sym, ◌∙◌, subst, arith}
 use Rattle.sqltables.proofs.Words.{accounts, address, addresses, AddressRow, all_from_test, all_unmap, all_weaker, AllByRecursion, and_parts}
 use Rattle.sqltables.proofs.Words.{AreKeyed, AreLinked, AreNamed, at_texts, Bears, Binary, bytes_eq, column, contact, ContactRow, contacts, Content}
 use Rattle.sqltables.proofs.Words.{Database, domain, DomainRow, domains, Eq, Form, Holds, host, HostRow, hosts, Int, is_null, IsConsistent}
 use Rattle.sqltables.proofs.Words.{IsContent, IsDatabase, IsNamedBy, IsSound, last_term, Layout, LeadsTo, line, LineRow, lines, link, LinkRow, links}
 use Rattle.sqltables.proofs.Words.{list_all, list_any, Made, Making, message, MessageRow, messages, no_content, or_null, registry, Row, rows_in}
-use Rattle.sqltables.proofs.Words.{transfer, TransferRow, transfers, Trees, Unused}
+use Rattle.sqltables.proofs.{Words.{transfer, TransferRow, transfers, Trees, Unused}, RowLemmas.{leads_if_held, named_if_apart}}
 use Rattle.sqlite_value.specs.Keys.{first_key, joined, plain}
-use Rattle.sqlite_schema.specs.declared.schema.Constraint.TheVariants.{Unique, ForeignKey}
-use Rattle.sqlite_schema.specs.declared.schema.Schema.{Schema}
-use Rattle.sqlite_schema.specs.Names.{same_name}
-use Rattle.sqlite_schema.specs.declared.schema.Reference.{Reference}
-use Rattle.sqlite_schema.specs.Rules.{agree, clashes, equal, Keeps}
-use Rattle.sqlite_schema.specs.Rules.{has_parent as refers}
+use Rattle.sqlite_schema.specs.{declared.schema.{Constraint.TheVariants.{Unique, ForeignKey}, Schema.Schema}, Names.same_name}
+use Rattle.sqlite_schema.specs.{declared.schema.Reference.Reference, Rules.{agree, clashes, equal, Keeps, has_parent as refers}}
 use Rattle.sqlite_keyed.specs.Rules.{has_parent, is_apart}
 use Rattle.sqlite_tied.proofs.RuleLemmas.{clash_is, parent_is}
 use Rattle.sqltables.specs.declared.form.Form.TheVariants.{Other}
-use Rattle.sqltables.proofs.RowLemmas.{leads_if_held, named_if_apart}
 
 pub keyed : (xs : Content) (db : Database) → IsContent xs db → AreKeyed xs
 keyed xs db h = record {
@@ -119,23 +114,7 @@ none_consistent : IsConsistent no_content
 none_consistent = record {
   keyed = record { metas = tt; accounts = tt; contacts = tt; domains = tt; hosts = tt; addresses = tt; links = tt; lines = tt; messages = tt; transfers = tt; days = tt };
   named = record { accounts = λ a b h. absurd h; contacts = λ a b h. absurd h; domains = λ a b h. absurd h; hosts = λ a b h. absurd h };
-  linked = record {
-    contact_sponsor = λ x h. absurd h;
-    domain_sponsor = λ x h. absurd h;
-    domain_registrant = λ x h. absurd h;
-    host_external_sponsor = λ x h. absurd h;
-    host_sponsor = λ x h. absurd h;
-    address_host = λ x h. absurd h;
-    link_domain = λ x h. absurd h;
-    link_contact = λ x h. absurd h;
-    link_host = λ x h. absurd h;
-    line_account = λ x h. absurd h;
-    message_account = λ x h. absurd h;
-    transfer_contact = λ x h. absurd h;
-    transfer_domain = λ x h. absurd h;
-    transfer_requester = λ x h. absurd h;
-    transfer_losing = λ x h. absurd h;
-  };
+  linked = grind arith;
 }
 
 pub consistent : (form : Form) (now committed : Database) → Bears form now committed → IsDatabase now → IsConsistent (rows_in form now.trees)

@@ -1,21 +1,17 @@
 -- A database that was found in files lies in order, whatever they held.
-use Rattle.std.proofs.Common.{◌≡◌, List, [], inl, inr, sym, ap, subst}
-use Rattle.std.proofs.Math.Logic.{∥∥₁_elim}
+use Rattle.std.proofs.{Common.{◌≡◌, List, [], inl, inr, sym, ap, subst}, Math.Logic.∥∥₁_elim}
 use Rattle.sqltables.proofs.Words.{AllByRecursion, catalog_tree, Database, HasCleanDisk, IsDatabase, IsFound, IsInOrder, IsListed, IsLive, IsOrdered}
-use Rattle.sqltables.proofs.Words.{IsShaped, IsSound, no_schema, Opens, Row, State, Table, Trees}
+use Rattle.sqltables.proofs.{Words.{IsShaped, IsSound, no_schema, Opens, Row, State, Table, Trees}, AdoptedLemmas.schema_once}
+use Rattle.sqltables.proofs.AdoptionLemmas.{lies_in_order}
 use Rattle.sqlite_wal.specs.Recovery.{Image}
 use Rattle.sqlite_pool.specs.File.{in_use, version_in}
 use Rattle.sqlite_trees.specs.declared.store.Shape.TheVariants as shape
 use Rattle.sqlite_trees.specs.Props.{IsOrdered-prop}
-use Rattle.sqlite_store.specs.Listing.{all_reals, all_shapes, file_trees}
-use Rattle.sqlite_store.specs.Listed.{catalog_rows, is_listed}
+use Rattle.sqlite_store.specs.{Listing.{all_reals, all_shapes, file_trees}, Listed.{catalog_rows, is_listed}}
 use Rattle.sqlite_store.proofs.ListingLemmas.{all_ordered}
 use Rattle.sqlite_schema.specs.declared.schema.Schema.{Schema}
-use Rattle.sqlite.specs.Files.{AreFoundIn}
-use Rattle.sqlite.specs.Start.{FindsIn}
+use Rattle.sqlite.specs.{Files.AreFoundIn, Start.FindsIn}
 use Rattle.sqlite.proofs.ListingLemmas.{empty_is_sound}
-use Rattle.sqltables.proofs.AdoptedLemmas.{schema_once}
-use Rattle.sqltables.proofs.AdoptionLemmas.{lies_in_order}
 
 -- where nothing was found, there is no table
 empty-in-order : (trees : Trees) (schema : Schema) → trees catalog_tree ≡ [] → IsSound schema trees → AllByRecursion (λ (t : Table). IsShaped shape.Table (trees t.tree)) schema.tables

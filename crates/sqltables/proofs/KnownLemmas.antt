@@ -4,11 +4,9 @@ use Rattle.std.proofs.lemmas.List.Sorted.{IsPermutation-refl}
 use Rattle.sqltables.proofs.Words.{account_by_id, account_shown, account_with_id, AccountRow, accounts, all_of, at_ints, Content, end, Env, Eq}
 use Rattle.sqltables.proofs.Words.{eval_all, filter_all, Holds, holds, inner, Int, IsAnswer, IsAnsweredByRows, IsContent, IsSelect, last_term}
 use Rattle.sqltables.proofs.Words.{Layout, list_all, matches_as, meta_all, meta_shown, MetaRow, metas, Null, Output, output, overlay, overlay_none}
-use Rattle.sqltables.proofs.Words.{registry, Row, select_query, Term, Trees}
+use Rattle.sqltables.proofs.{Words.{registry, Row, select_query, Term, Trees}, AnswerLemmas.asked-by}
+use Rattle.sqltables.proofs.{QueryLemmas.{select_account, select_metas}, StatementLemmas.{all_columns, equals}}
 use Rattle.sqlite_typed.proofs.AnswerLemmas.{at_end, last_table, matches_are}
-use Rattle.sqltables.proofs.AnswerLemmas.{asked-by}
-use Rattle.sqltables.proofs.QueryLemmas.{select_account, select_metas}
-use Rattle.sqltables.proofs.StatementLemmas.{all_columns, equals}
 
 module _ {X : Type 0} (L : Layout X) (filters project : List Term) (params : Row) (p : X → Bool) (shown : X → Row)
     (tests : (x : X) → list_all (holds (params ∷ L.to_row x ∷ [])) filters ≡ p x)

@@ -12,7 +12,6 @@ pub mod KnownLemmas
 pub mod WritingLemmas
 pub mod DueLemmas
 pub mod SchemaLemmas
-pub mod FirstSchemaLemmas
 pub mod BalanceLemmas
 pub mod RowLemmas
 pub mod ConsistencyLemmas
@@ -21,6 +20,5 @@ pub mod AdoptionLemmas
 pub mod SoundLemmas
 pub mod AdoptedLemmas
 pub mod FoundLemmas
-pub mod FollowingLemmas
 pub mod ReopeningLemmas
 pub mod Words

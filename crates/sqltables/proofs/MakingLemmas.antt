@@ -1,14 +1,10 @@
 -- What making the tables leaves of a store of rows.
 use Rattle.std.proofs.Common.{◌≡◌, ◌⊎◌, ◌&&◌, inl, inr, Bool, true, false, List, IsTrue, refl, sym, ap, subst, ◌∙◌, true≢false}
-use Rattle.sqltables.proofs.Words.{AgreesWithForm, and_parts, Content, Database, Fits, Guards, HasCleanDisk, IsContent, IsUndone, Making, no_content}
-use Rattle.sqltables.proofs.Words.{Remains, State, Stays, store_state, Survives, Trees, Unused, Writes}
+use Rattle.sqltables.proofs.Words.{AgreesWithForm, Content, Database, Fits, Guards, HasCleanDisk, IsContent, IsUndone, Making, no_content}
+use Rattle.sqltables.proofs.{Words.{Remains, State, Stays, store_state, Survives, Trees, Unused, Writes}, DecodingLemmas.decoded}
+use Rattle.sqltables.proofs.StandingLemmas.{answered-open, both, clean-before, clean-of, guards-on, honest, leaves-same, was-honest}
 use Rattle.sqlite.specs.State.{IsRolledBack}
 use Rattle.sqlrows.specs.inner.Calls as calls
-use Rattle.sqltables.proofs.DecodingLemmas.{decoded}
-use Rattle.sqltables.proofs.StandingLemmas.{answered-open, clean-of, guards-on, honest, leaves-same, was-honest}
-
-both-clean : (old new : State) (P : Trees → Type 0) → Survives old new P → HasCleanDisk new → IsTrue old.is_open → (old.is_clean && old.is_open) ≡ true
-both-clean old new P survives clean opened = ap (λ (b : Bool). b && old.is_open) (clean-of old (was-honest old new P survives clean)) ∙ opened
 
 module _ (old mid : State) (P : Trees → Type 0) (survives : Survives old mid P) (fits : Fits Unused true old) (opens : HasCleanDisk mid → IsTrue mid.is_open → IsTrue old.is_open) (leaves : List (Remains Content)) where
   pub agreed : HasCleanDisk mid → IsTrue mid.is_open → AgreesWithForm Unused true old
@@ -29,10 +25,10 @@ module _ (old mid : State) (P : Trees → Type 0) (survives : Survives old mid P
 
     pub makes-made : Writes no_content (store_state Unused true old leaves) (store_state Making true mid leaves)
     makes-made = record {
-      clean = λ e. let p = and_parts mid.is_clean mid.is_open e in both-clean old mid P survives (honest mid p.0) (opens (honest mid p.0) p.1);
+      clean = λ e. let p = both mid e in clean-before old mid P survives p.0 (opens p.0 p.1);
       before = λ e. refl;
       opened = refl;
-      content = λ e. let p = and_parts mid.is_clean mid.is_open e in let clean = honest mid p.0 in decoded no_content mid.now (made clean (opens clean p.1) (agreed clean p.1)).0;
+      content = λ e. let p = both mid e in decoded no_content mid.now (made p.0 (opens p.0 p.1) (agreed p.0 p.1)).0;
       answers = λ was e.
           let clean = honest mid e in
           let before = answered-open old mid P survives was clean in
@@ -79,10 +75,9 @@ module _ (old mid : State) (P : Trees → Type 0) (survives : Survives old mid P
     pub stays-unmade : Stays (store_state Unused true old leaves) (store_state Unused false new leaves)
     stays-unmade = record {
       clean = λ e.
-          let p = and_parts new.is_clean new.is_open e in
-          let clean = honest new p.0 in
-          let was = was-honest mid new Q later clean in
-          both-clean old mid P survives was (opens was (does clean p.1).0);
+          let p = both new e in
+          let was = was-honest mid new Q later p.0 in
+          clean-before old mid P survives was (opens was (does p.0 p.1).0);
       before = λ e. refl;
       leaves = record {
         honest = λ e. clean-of old (was-honest old mid P survives (was-honest mid new Q later (honest new e)));

@@ -1,11 +1,10 @@
--- What putting an account's row, or that of `meta`, makes of the rows.
-use Rattle.std.proofs.Common.{◌≡◌, ◌⊎◌, inl, inr, ℤ, ◌<ℤ◌, ◌==◌, Bool, true, false, not, cond, length, List, [], ◌∷◌, filter, Option, refl, sym, ap, ◌∙◌, subst, arith, Ordering, Less, Equal, Greater, Result, Ok, Err, int_cmp, int_eq, true≢false}
+-- What putting an account's row makes of the rows.
+use Rattle.std.proofs.Common.{◌≡◌, ◌⊎◌, inl, inr, ℤ, ◌<ℤ◌, ◌==◌, Bool, true, false, not, cond, length, List, [], ◌∷◌, filter, Option, refl, sym, ap, ◌∙◌, subst, arith, Ordering, Less, Equal, Greater, int_cmp, int_eq, true≢false}
 use Rattle.std.specs.Ordering.{is_eq, match_ordering}
-use Rattle.sqltables.proofs.Words.{account_with_id, AccountRow, accounts, accounts_to, AllByRecursion, BookFault, Content, Has, insert_by, ints}
-use Rattle.sqltables.proofs.Words.{IsConsistent, IsKeyedBy, IsKeyedBy-insert_by, IsNamedBy, LeadsTo, Makes, meta_with_id, MetaRow, metas, metas_to}
-use Rattle.sqltables.proofs.Words.{same_int, StateOf, update_where}
-use Rattle.sqlrows.proofs.ReplaceLemmas.{replaced-is-put}
+use Rattle.sqltables.proofs.Words.{account_with_id, AccountRow, accounts, accounts_to, AllByRecursion, Content, Has, insert_by, ints}
+use Rattle.sqltables.proofs.Words.{IsConsistent, IsKeyedBy, IsKeyedBy-insert_by, IsNamedBy, LeadsTo, metas, same_int, update_where}
 use Rattle.sqltables.proofs.RowLemmas.{all_at, same_by_key}
+use Rattle.sqlrows.proofs.ReplaceLemmas.{replaced-is-put}
 
 -- ---- a row put in its place
 
@@ -149,38 +148,17 @@ consistent-with xs row old it there same-id same-ident = record {
 
 -- ---- what replaces a row that is there is put
 
-pub same-made : {A X : Type 0} (said : Result A BookFault) (a b : X) (old new : StateOf X) → (old.is_clean ≡ true → a ≡ b) → Makes said a old new → Makes said b old new
-same-made (Ok done) a b old new same it = record {
-  clean = it.clean;
-  before = it.before;
-  opened = it.opened;
-  content = λ e. it.content e ∙ same (it.clean e);
-  answers = it.answers;
-  leaves = it.leaves;
-}
-same-made (Err fault) a b old new same it = it
-
 pub account-replaced : (xs : Content) (row old : AccountRow) → IsConsistent xs → Has xs.accounts old → old.id ≡ row.id
     → accounts_to (λ rows. update_where (account_with_id row.id) (λ x. record row { id = x.id }) rows) xs ≡ accounts_to (λ rows. insert_by accounts.key rows row) xs
 account-replaced xs row old consistent there same =
     ap (λ (rows : List AccountRow). accounts_to (λ _. rows) xs)
     (replaced-is-put accounts.key xs.accounts old row (λ x. record row { id = x.id }) consistent.keyed.accounts there same (λ x e. ap (λ (k : ℤ). record row { id = k }) e))
 
-pub meta-replaced : (xs : Content) (row old : MetaRow) → IsConsistent xs → Has xs.metas old → old.id ≡ row.id
-    → metas_to (λ rows. update_where (meta_with_id row.id) (λ x. record row { id = x.id }) rows) xs ≡ metas_to (λ rows. insert_by metas.key rows row) xs
-meta-replaced xs row old consistent there same =
-    ap (λ (rows : List MetaRow). metas_to (λ _. rows) xs)
-    (replaced-is-put metas.key xs.metas old row (λ x. record row { id = x.id }) consistent.keyed.metas there same (λ x e. ap (λ (k : ℤ). record row { id = k }) e))
-
 -- ---- what is asked after it
 
 -- the account that has the number of the one that was put
 pub account-put : (rows : List AccountRow) (row : AccountRow) → IsKeyedBy accounts.key rows → filter (account_with_id row.id) (insert_by accounts.key rows row) ≡ row ∷ []
 account-put rows row up = found-by-key accounts.key (insert_by accounts.key rows row) row (IsKeyedBy-insert_by accounts.key rows row up) (has-put accounts.key rows row)
-
--- the only row
-pub meta-put : (row old : MetaRow) → old.id ≡ row.id → insert_by metas.key (old ∷ []) row ≡ row ∷ []
-meta-put row old same = ap (λ o. match_ordering o (old ∷ row ∷ []) (row ∷ []) (row ∷ old ∷ [])) (same_cmp old.id row.id same)
 
 -- ---- what is known before it
 

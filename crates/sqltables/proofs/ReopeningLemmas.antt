@@ -1,11 +1,9 @@
 -- What is opened where a crash left it is what might have been left.
 use Rattle.std.proofs.Common.{◌≡◌, true, List, refl, sym, ap, ◌∙◌, true≢false}
 use Rattle.sqltables.proofs.Words.{Content, Covers, is_numbered, IsAdopted, IsKnownAs, IsLeftAs, IsTakenAs, no_schema, registry, Remains, StateOf}
-use Rattle.sqltables.proofs.Words.{Trees}
-use Rattle.states.specs.declared.readiness.Ready.{Ready}
-use Rattle.states.specs.declared.readiness.Ready.TheVariants.{Empty, Used, Other}
+use Rattle.sqltables.proofs.{Words.Trees, AdoptedLemmas.{schema_once, some-tables}}
+use Rattle.states.specs.declared.readiness.Ready.{Ready, TheVariants.{Empty, Used, Other}}
 use Rattle.sqltables.specs.inner.Reopening.{IsContentFoundAgain, AreRowsReopened}
-use Rattle.sqltables.proofs.AdoptedLemmas.{schema_once, some-tables}
 
 again : (was now : Ready) (db : Trees) (left x : Content) → IsLeftAs was db left → IsTakenAs now db x → IsKnownAs now db → IsContentFoundAgain was left now x
 again Empty Empty db left x it taken known = (refl, taken ∙ sym it.1)

@@ -1,67 +1,58 @@
 -- What the texts make of a database that was never used, and what its tables hold then.
 use Rattle.std.proofs.Common.{◌++◌, ℕ, List, codes, map, refl, inl, inr, [], ◌∷◌, Result, Ok, Err, OnOk}
 use Rattle.std.specs.Bool.{⊤}
-use Rattle.sqltables.proofs.Words.{account, address, contact, Database, DefinesAll, domain, Error, filled, host, IsBlank, IsContent, IsIndex, line}
-use Rattle.sqltables.proofs.Words.{link, message, meta, no_content, no_schema, nullable, registry, transfer, with_link}
-use Rattle.sqlite.specs.Listing.{understood}
+use Rattle.sqltables.proofs.Words.{Database, DefinesAll, Error, filled, first_line, first_line_create, first_registry, IsBlank, IsContent, IsIndex}
+use Rattle.sqltables.proofs.Words.{line, no_content, no_schema, nullable, registry}
+use Rattle.sqlite.specs.{Listing.understood, Kind.TheVariants.Integer, Schema.Schema}
 use Rattle.sqlite_tied.specs.Compute.{everything}
-use Rattle.sqlite.specs.Kind.TheVariants.{Integer}
-use Rattle.sqlite.specs.Schema.{Schema}
 use Rattle.sqlite_schema.specs.declared.schema.Column.{Column}
 use Rattle.sqlite_catalog.specs.Change.{created, indexed}
 use Rattle.sqlrows.specs.inner.Definitions.{IsTable}
-use Rattle.sqltables.specs.Tables.{days, with_meta, with_account, with_contact, with_domain, with_host, with_address, with_transfer_losing}
-use Rattle.sqltables.specs.inner.Tables.{creation, meta_create, account_create, contact_create, domain_create, host_create, address_create, link_create, line_create, message_create, transfer_create, days_create}
-use Rattle.sqltables.specs.inner.FirstTables.{Indexing, indexed_by, indexings, line_with, with_transfer_behind}
+use Rattle.sqltables.specs.Tables.{before_lines, created_all, days, Indexing, indexed_by, indexings, line_with, made_with, Making, makings, texts_with}
+use Rattle.sqltables.specs.inner.Tables.{line_create, days_create}
 
-meta_is : IsTable no_schema meta_create meta
-unfolding understood everything
-meta_is = record { command = refl; as_written = refl; defined = refl; plain = (refl, refl); uncounted = refl }
+-- each text makes its table, and each its index
+abbrev AreTables : Schema → List Making → Type 0
+AreTables schema [] = ⊤
+AreTables schema (it ∷ more) = IsTable schema it.text it.table × AreTables (created schema it.table) more
 
-account_is : IsTable with_meta account_create account
-unfolding understood everything
-account_is = record { command = refl; as_written = refl; defined = refl; plain = (refl, refl); uncounted = refl }
-
-contact_is : IsTable with_account contact_create contact
-unfolding understood everything
-contact_is = record { command = refl; as_written = refl; defined = refl; plain = (refl, refl); uncounted = refl }
-
-domain_is : IsTable with_contact domain_create domain
-unfolding understood everything
-domain_is = record { command = refl; as_written = refl; defined = refl; plain = (refl, refl); uncounted = refl }
-
-host_is : IsTable with_domain host_create host
-unfolding understood everything
-host_is = record { command = refl; as_written = refl; defined = refl; plain = (refl, refl); uncounted = refl }
-
-address_is : IsTable with_host address_create address
-unfolding understood everything
-address_is = record { command = refl; as_written = refl; defined = refl; plain = (refl, refl); uncounted = refl }
-
-link_is : IsTable with_address link_create link
-unfolding understood everything
-link_is = record { command = refl; as_written = refl; defined = refl; plain = (refl, refl); uncounted = refl }
-
--- ---- what is made behind the lines
-
--- each text makes its index
 abbrev AreIndexings : Schema → List Indexing → Type 0
 AreIndexings schema [] = ⊤
 AreIndexings schema (it ∷ more) = IsIndex schema it.text it.at it.table it.index × AreIndexings (indexed schema it.table it.index) more
 
-indexings_define : (schema to : Schema) (texts : List (List ℕ)) (more : List Indexing) → AreIndexings schema more → DefinesAll (indexed_by schema more) texts to → DefinesAll schema (map (λ it. it.text) more ++ texts) to
-indexings_define schema to texts [] are rest = rest
-indexings_define schema to texts (it ∷ more) are rest =
-    (indexed schema it.table it.index, inr (it.at, it.table, it.index, are.0, refl), indexings_define (indexed schema it.table it.index) to texts more are.1 rest)
+module _ (to : Schema) (texts : List (List ℕ)) where
+  tables_define : (schema : Schema) (more : List Making) → AreTables schema more → DefinesAll (created_all schema more) texts to → DefinesAll schema (map (λ it. it.text) more ++ texts) to
+  tables_define schema [] are rest = rest
+  tables_define schema (it ∷ more) are rest = (created schema it.table, inl (it.table, are.0, refl), tables_define (created schema it.table) more are.1 rest)
+
+  indexings_define : (schema : Schema) (more : List Indexing) → AreIndexings schema more → DefinesAll (indexed_by schema more) texts to → DefinesAll schema (map (λ it. it.text) more ++ texts) to
+  indexings_define schema [] are rest = rest
+  indexings_define schema (it ∷ more) are rest =
+      (indexed schema it.table it.index, inr (it.at, it.table, it.index, are.0, refl), indexings_define (indexed schema it.table it.index) more are.1 rest)
 
 infixr 2 ◌&◌
 ◌&◌ : {A B : Type 0} → A → B → A × B
 a & b = (a, b)
 
--- whatever columns the lines have behind the first seven
-indexings_are : (more : List Column) → AreIndexings (with_transfer_behind (line_with more)) (indexings (line_with more))
+-- a table of the lines, whatever columns it has behind the first seven, and all that is made around it
+makings_are : (text : List ℕ) (more : List Column) → IsTable (created_all no_schema before_lines) text (line_with more) → AreTables no_schema (makings text (line_with more))
 unfolding understood everything
-indexings_are more =
+makings_are text more is =
+    record { command = refl; as_written = refl; defined = refl; plain = (refl, refl); uncounted = refl }
+    & record { command = refl; as_written = refl; defined = refl; plain = (refl, refl); uncounted = refl }
+    & record { command = refl; as_written = refl; defined = refl; plain = (refl, refl); uncounted = refl }
+    & record { command = refl; as_written = refl; defined = refl; plain = (refl, refl); uncounted = refl }
+    & record { command = refl; as_written = refl; defined = refl; plain = (refl, refl); uncounted = refl }
+    & record { command = refl; as_written = refl; defined = refl; plain = (refl, refl); uncounted = refl }
+    & record { command = refl; as_written = refl; defined = refl; plain = (refl, refl); uncounted = refl }
+    & is
+    & record { command = refl; as_written = refl; defined = refl; plain = (refl, refl); uncounted = refl }
+    & record { command = refl; as_written = refl; defined = refl; plain = (refl, refl); uncounted = refl }
+    & tt
+
+indexings_are : (text : List ℕ) (more : List Column) → AreIndexings (created_all no_schema (makings text (line_with more))) (indexings (line_with more))
+unfolding understood everything
+indexings_are text more =
     record { command = refl; as_written = refl; place = refl; defined = refl; plain = (refl, refl) }
     & record { command = refl; as_written = refl; place = refl; defined = refl; plain = (refl, refl) }
     & record { command = refl; as_written = refl; place = refl; defined = refl; plain = (refl, refl) }
@@ -84,71 +75,30 @@ indexings_are more =
     & record { command = refl; as_written = refl; place = refl; defined = refl; plain = (refl, refl) }
     & tt
 
-message_is : (more : List Column) → IsTable (created with_link (line_with more)) message_create message
-unfolding understood everything
-message_is more = record { command = refl; as_written = refl; defined = refl; plain = (refl, refl); uncounted = refl }
+all_define : (text : List ℕ) (more : List Column) (texts : List (List ℕ)) (to : Schema) → IsTable (created_all no_schema before_lines) text (line_with more) → DefinesAll (made_with text (line_with more)) texts to
+    → DefinesAll no_schema (map (λ it. it.text) (makings text (line_with more)) ++ (map (λ it. it.text) (indexings (line_with more)) ++ texts)) to
+all_define text more texts to is rest =
+    tables_define to (map (λ it. it.text) (indexings (line_with more)) ++ texts) no_schema (makings text (line_with more)) (makings_are text more is)
+    (indexings_define to texts (created_all no_schema (makings text (line_with more))) (indexings (line_with more)) (indexings_are text more) rest)
 
-transfer_is : (more : List Column) → IsTable (created (created with_link (line_with more)) message) transfer_create transfer
-unfolding understood everything
-transfer_is more = record { command = refl; as_written = refl; defined = refl; plain = (refl, refl); uncounted = refl }
-
--- a table of the lines, and all that is made around it
-pub all_defines : (line_text : List ℕ) (more : List Column) (texts : List (List ℕ)) (to : Schema) → IsTable with_link line_text (line_with more)
-    → DefinesAll (indexed_by (with_transfer_behind (line_with more)) (indexings (line_with more))) texts to
-    → DefinesAll no_schema (meta_create ∷ account_create ∷ contact_create ∷ domain_create ∷ host_create ∷ address_create ∷ link_create ∷ line_text ∷ message_create ∷ transfer_create ∷ map (λ it. it.text) (indexings (line_with more)) ++ texts) to
-all_defines line_text more texts to line_is rest = (
-  with_meta,
-  inl (meta, meta_is, refl),
-  (
-    with_account,
-    inl (account, account_is, refl),
-    (
-      with_contact,
-      inl (contact, contact_is, refl),
-      (
-        with_domain,
-        inl (domain, domain_is, refl),
-        (
-          with_host,
-          inl (host, host_is, refl),
-          (
-            with_address,
-            inl (address, address_is, refl),
-            (
-              with_link,
-              inl (link, link_is, refl),
-              (
-                created with_link (line_with more),
-                inl (line_with more, line_is, refl),
-                (
-                  created (created with_link (line_with more)) message,
-                  inl (message, message_is more, refl),
-                  (
-                    with_transfer_behind (line_with more),
-                    inl (transfer, transfer_is more, refl),
-                    indexings_define (with_transfer_behind (line_with more)) to texts (indexings (line_with more)) (indexings_are more) rest,
-                  ),
-                ),
-              ),
-            ),
-          ),
-        ),
-      ),
-    ),
-  ),
-)
-
-line_is : IsTable with_link line_create line
+line_is : IsTable (created_all no_schema before_lines) line_create line
 unfolding understood everything
 line_is = record { command = refl; as_written = refl; defined = refl; plain = (refl, refl); uncounted = refl }
 
-days_is : IsTable with_transfer_losing days_create days
+first_line_is : IsTable (created_all no_schema before_lines) first_line_create first_line
+unfolding understood everything
+first_line_is = record { command = refl; as_written = refl; defined = refl; plain = (refl, refl); uncounted = refl }
+
+days_is : IsTable (made_with line_create line) days_create days
 unfolding understood everything
 days_is = record { command = refl; as_written = refl; defined = refl; plain = (refl, refl); uncounted = refl }
 
-pub creation_defines : DefinesAll no_schema creation registry
-creation_defines = all_defines line_create (nullable (codes "ends") Integer ∷ nullable (codes "refunded") Integer ∷ filled (codes "recorded") Integer ∷ []) (days_create ∷ []) registry line_is
+pub creation_defines : DefinesAll no_schema (texts_with line_create line ++ days_create ∷ []) registry
+creation_defines = all_define line_create (nullable (codes "ends") Integer ∷ nullable (codes "refunded") Integer ∷ filled (codes "recorded") Integer ∷ []) (days_create ∷ []) registry line_is
     (registry, inl (days, days_is, refl), refl)
+
+pub first_creation_defines : DefinesAll no_schema (texts_with first_line_create first_line) first_registry
+first_creation_defines = all_define first_line_create (nullable (codes "refunded") Integer ∷ filled (codes "recorded") Integer ∷ []) [] first_registry first_line_is refl
 
 pub blank_holds_nothing : (db : Database) → IsBlank registry db → IsContent no_content db
 blank_holds_nothing db blank = record {

@@ -1,7 +1,6 @@
 -- A sound database that lies in order holds the rows that it decodes to.
 use Rattle.std.proofs.Common.{◌≡◌, ℕ, zero, suc, ◌+◌, ◌<◌, ℤ, ◌<ℤ◌, ◌&&◌, ◌||◌, Bool, true, false, not, if◌then◌else◌, List, [], ◌∷◌, map, drop, Some, Less, IsTrue, refl, sym, ap, ap₂, subst, subst₂, ◌∙◌, arith, ◌==◌, true≢false}
-use Rattle.std.proofs.lemmas.Bool.Decides.{nat_tests}
-use Rattle.std.proofs.lemmas.List.{drop-drop}
+use Rattle.std.proofs.lemmas.{Bool.Decides.nat_tests, List.drop-drop}
 use Rattle.sqltables.proofs.Words.{account, accounts, address, addresses, all_both, all_map, AllByRecursion, and_parts, Blob, bytes_of, column}
 use Rattle.sqltables.proofs.Words.{contact, contacts, contents, Database, domain, domains, Holds, host, hosts, id_column, Int, int_of, is_int}
 use Rattle.sqltables.proofs.Words.{is_null, IsContent, IsDatabase, IsInOrder, IsKeyedBy, IsShaped, IsSound, Layout, line, lines, link, links}
@@ -9,15 +8,12 @@ use Rattle.sqltables.proofs.Words.{list_all, lt_from_Less, message, messages, me
 use Rattle.sqltables.proofs.Words.{transfer, transfers, Trees, unless_null, Value, value_cmp, value_cmp-Int}
 use Rattle.sqlite_trees.specs.declared.store.Shape.TheVariants as shape
 use Rattle.sqlite_trees.specs.Tree.{IsTable}
-use Rattle.sqlite_schema.specs.declared.schema.Column.{Column}
-use Rattle.sqlite_schema.specs.declared.schema.Constraint.TheVariants.{Datatype, NotNull}
-use Rattle.sqlite_schema.specs.declared.schema.Kind.{Kind}
-use Rattle.sqlite_schema.specs.declared.schema.Kind.TheVariants as kind
-use Rattle.sqlite_schema.specs.declared.schema.Schema.{Schema}
+use Rattle.sqlite_schema.specs.declared.schema.{Column.Column, Constraint.TheVariants.{Datatype, NotNull}, Kind.Kind, Schema.Schema}
 use Rattle.sqlite_schema.specs.Rules.{are_present, are_typed, is_of}
+use Rattle.sqlite_schema.specs.declared.schema.Kind.TheVariants as kind
 use Rattle.sqltables.specs.Tables.{days}
-use Rattle.sqltables.specs.Day as day_table
 use Rattle.sqltables.specs.Decoding.{meta_in, account_in, contact_in, domain_in, host_in, address_in, link_in, line_in, message_in, transfer_in, day_in}
+use Rattle.sqltables.specs.Day as day_table
 
 -- ---- a value
 
@@ -32,43 +28,8 @@ restored kind.Blob false v = or_null Blob (unless_null bytes_of v)
 restored kind.Real filled v = v
 restored kind.Any filled v = v
 
-int-back : (v : Value) → is_null v ≡ false → is_of kind.Integer v ≡ true → Int (int_of v) ≡ v
-int-back Null some h = absurd (true≢false some)
-int-back (Int n) some h = refl
-int-back (Real x) some h = absurd (true≢false (sym h))
-int-back (Text t) some h = absurd (true≢false (sym h))
-int-back (Blob b) some h = absurd (true≢false (sym h))
-
-text-back : (v : Value) → is_null v ≡ false → is_of kind.Text v ≡ true → Text (bytes_of v) ≡ v
-text-back Null some h = absurd (true≢false some)
-text-back (Int n) some h = absurd (true≢false (sym h))
-text-back (Real x) some h = absurd (true≢false (sym h))
-text-back (Text t) some h = refl
-text-back (Blob b) some h = absurd (true≢false (sym h))
-
-blob-back : (v : Value) → is_null v ≡ false → is_of kind.Blob v ≡ true → Blob (bytes_of v) ≡ v
-blob-back Null some h = absurd (true≢false some)
-blob-back (Int n) some h = absurd (true≢false (sym h))
-blob-back (Real x) some h = absurd (true≢false (sym h))
-blob-back (Text t) some h = absurd (true≢false (sym h))
-blob-back (Blob b) some h = refl
-
-maybe-back : {X : Type 0} (put : X → Value) (get : Value → X) (v : Value) → (is_null v ≡ false → put (get v) ≡ v) → or_null put (unless_null get v) ≡ v
-maybe-back put get Null back = refl
-maybe-back put get (Int n) back = back refl
-maybe-back put get (Real x) back = back refl
-maybe-back put get (Text t) back = back refl
-maybe-back put get (Blob b) back = back refl
-
 same_value : (k : Kind) (filled : Bool) (v : Value) → is_of k v ≡ true → (filled ≡ true → is_null v ≡ false) → restored k filled v ≡ v
-same_value kind.Integer true v h some = int-back v (some refl) h
-same_value kind.Integer false v h some = maybe-back Int int_of v (λ e. int-back v e h)
-same_value kind.Text true v h some = text-back v (some refl) h
-same_value kind.Text false v h some = maybe-back Text bytes_of v (λ e. text-back v e h)
-same_value kind.Blob true v h some = blob-back v (some refl) h
-same_value kind.Blob false v h some = maybe-back Blob bytes_of v (λ e. blob-back v e h)
-same_value kind.Real filled v h some = refl
-same_value kind.Any filled v h some = refl
+same_value k filled v h some = grind arith
 
 -- ---- the columns after the key's
 
@@ -101,18 +62,13 @@ beyond_key : (at : ℕ) → 0 < at → (0 == at) ≡ false
 beyond_key at h = grind (arith, nat_tests, h)
 
 not-null-if : (key filled null : Bool) → key ≡ false → (key || not filled || not null) ≡ true → filled ≡ true → null ≡ false
-not-null-if true filled null e h is = absurd (true≢false e)
-not-null-if false true true e h is = absurd (true≢false (sym h))
-not-null-if false true false e h is = refl
-not-null-if false false null e h is = absurd (true≢false (sym is))
+not-null-if key filled null e h is = grind arith
 
 else-if : (key a b : Bool) → key ≡ false → (if key then a else b) ≡ true → b ≡ true
-else-if true a b e h = absurd (true≢false e)
-else-if false a b e h = h
+else-if key a b e h = grind arith
 
 then-if : (key a b : Bool) → key ≡ true → (if key then a else b) ≡ true → a ≡ true
-then-if true a b e h = h
-then-if false a b e h = absurd (true≢false (sym e))
+then-if key a b e h = grind arith
 
 -- a row that ends before a column is NULL there
 not_short : (c : Column) (cs : List Column) (at : ℕ) (r : Row) → 0 < at → drop (at + 1) r ≡ [] → ends_filled c.not_null cs ≡ true → are_present (Some 0) at (c ∷ cs) r ≡ true → ⊥
@@ -139,18 +95,10 @@ same_values (c ∷ cs) at r (v ∷ vs) after strict ends typed present e =
 -- ---- a row
 
 null-is : (v : Value) → is_null v ≡ true → v ≡ Null
-null-is Null h = refl
-null-is (Int n) h = absurd (true≢false (sym h))
-null-is (Real x) h = absurd (true≢false (sym h))
-null-is (Text t) h = absurd (true≢false (sym h))
-null-is (Blob b) h = absurd (true≢false (sym h))
+null-is v h = grind arith
 
 int-is : (v : Value) → IsTrue (is_int v) → Int (int_of v) ≡ v
-int-is Null h = absurd (true≢false (sym h))
-int-is (Int n) h = refl
-int-is (Real x) h = absurd (true≢false (sym h))
-int-is (Text t) h = absurd (true≢false (sym h))
-int-is (Blob b) h = absurd (true≢false (sym h))
+int-is v h = grind arith
 
 abbrev IsTyped : List Column → Row → Type 0
 IsTyped cs r = (are_typed (Some 0) 0 (id_column ∷ cs) (drop 1 r) && true) ≡ true

@@ -1,11 +1,10 @@
 -- What a statement leaves of a store of rows.
 use Rattle.std.proofs.Common.{◌≡◌, ◌&&◌, inl, inr, not, ℕ, Bool, true, false, List, [], IfOk, IfErr, Result, Ok, Err, IsTrue, refl, sym, ap, subst, subst₂, ◌∙◌, if◌then◌else◌, arith, true≢false}
 use Rattle.sqltables.proofs.Words.{AgreesWithForm, and_parts, Answer, AreRight, Bears, Content, Database, Error, Fits, Form, Guards, HasCleanDisk}
-use Rattle.sqltables.proofs.Words.{IsNotRun, IsUnchanged, LeavesSame, Made, Making, not_run, readiness_of, Reads, Recalls, Remains, Row, rows_in}
-use Rattle.sqltables.proofs.Words.{State, Stays, StaysOrUndoes, store_state, Survives, Trees, undone, Unused, was_open}
+use Rattle.sqltables.proofs.Words.{IsNotRun, IsUnchanged, LeavesSame, not_run, readiness_of, Reads, Recalls, Remains, Row, rows_in}
+use Rattle.sqltables.proofs.Words.{State, Stays, StaysOrUndoes, store_state, Survives, Trees, undone, was_open}
 use Rattle.sqlite_trees.specs.View.{doubt}
 use Rattle.sqlite.specs.State.{IsRolledBack}
-use Rattle.sqltables.specs.declared.form.Form.TheVariants.{Other}
 
 -- ---- clean and open
 
@@ -24,6 +23,12 @@ clean-of s e = clean-if s.is_clean e
 pub was-honest : (old new : State) (P : Trees → Type 0) → Survives old new P → HasCleanDisk new → HasCleanDisk old
 was-honest old new P it clean = omega (arith, it.clean, clean)
 
+pub both : (s : State) → (s.is_clean && s.is_open) ≡ true → HasCleanDisk s × IsTrue s.is_open
+both s e = let parts = and_parts s.is_clean s.is_open e in (honest s parts.0, parts.1)
+
+pub clean-before : (old new : State) (P : Trees → Type 0) → Survives old new P → HasCleanDisk new → IsTrue old.is_open → (old.is_clean && old.is_open) ≡ true
+clean-before old new P survives clean opened = ap (λ (b : Bool). b && old.is_open) (clean-of old (was-honest old new P survives clean)) ∙ opened
+
 -- ---- what a crash may leave
 
 pub leaves-same : (form after : Form) (begun still : Bool) (old new : State) (P : Trees → Type 0) (leaves : List (Remains Content)) → Survives old new P → readiness_of after ≡ readiness_of form → LeavesSame (store_state form begun old leaves) (store_state after still new leaves)
@@ -31,10 +36,7 @@ leaves-same form after begun still old new P leaves survives ready = record { ho
 
 -- to undo what was begun makes no book, and unmakes none
 pub undone-ready : (form : Form) → readiness_of (undone form) ≡ readiness_of form
-undone-ready Unused = refl
-undone-ready Making = refl
-undone-ready Made = refl
-undone-ready Other = refl
+undone-ready form = grind arith
 
 -- after a call that commits nothing
 pub guards-on : (begun still : Bool) (old new : State) (P : Trees → Type 0) (leaves : List (Remains Content)) → Survives old new P → Guards begun old leaves
@@ -43,6 +45,14 @@ guards-on begun still old new P leaves survives guards opened no_more = record {
   opened = opened;
   covers = λ clean db may. guards.covers (was-honest old new P survives clean) db (no_more clean db may);
 }
+
+-- the invariant of a store, where it is known whether a transaction is open
+pub as-begun : (form : Form) (a b : Bool) (s : State) (leaves : List (Remains Content)) (kept : List Answer) → a ≡ b → Fits form a s × Guards a s leaves × Recalls s kept → Fits form b s × Guards b s leaves × Recalls s kept
+as-begun form a b s leaves kept e it = subst (λ (c : Bool). Fits form c s × Guards c s leaves × Recalls s kept) e it
+
+-- inside a transaction the connection was open
+pub guarded : (old new : State) (P : Trees → Type 0) (leaves : List (Remains Content)) → Survives old new P → Guards true old leaves → HasCleanDisk new → IsTrue old.is_open
+guarded old new P leaves survives guards clean = guards.opened (was-honest old new P survives clean) refl
 
 pub leaves-no-more : (old new : State) → Survives old new (λ _. ⊥) → HasCleanDisk new → (db : Trees) → new.may_leave db → old.may_leave db
 leaves-no-more old new survives clean db may = elim (survives.crash clean db may) [ inl was ↦ was | inr none ↦ absurd none ]
@@ -54,16 +64,10 @@ answered-open old new P survives answers clean = (and_parts old.is_clean old.is_
 -- ---- what the forms say
 
 bears-undone : (form : Form) (now committed : Database) → Bears form now committed → Bears (undone form) committed committed
-bears-undone Unused now committed it = (it.1, it.1)
-bears-undone Making now committed it = (it.1, it.1)
-bears-undone Made now committed it = (it.1, it.1)
-bears-undone Other now committed it = tt
+bears-undone form now committed it = grind arith
 
 undone-twice : (form : Form) → undone (undone form) ≡ undone form
-undone-twice Unused = refl
-undone-twice Making = refl
-undone-twice Made = refl
-undone-twice Other = refl
+undone-twice form = grind arith
 
 pub agrees-unchanged : (form : Form) (begun : Bool) (old new : State) → IsUnchanged old new → AgreesWithForm form begun old → AgreesWithForm form begun new
 agrees-unchanged form begun old new same it =
@@ -94,13 +98,16 @@ pub home : (form : Form) (begun : Bool) (s : State) (leaves : List (Remains Cont
 home form true s leaves it = refl
 home form false s leaves it = ap (λ (f : Form). rows_in f s.now.trees) (sym (it.making refl)) ∙ ap (λ (db : Database). rows_in (undone form) db.trees) (it.settled refl)
 
+same-before : (form : Form) (begun : Bool) (old new : State) (leaves : List (Remains Content)) → IsUnchanged old new → (store_state form begun new leaves).before ≡ (store_state form begun old leaves).before
+same-before form begun old new leaves same =
+    ap (λ (db : Database). if begun then rows_in (undone form) db.trees else rows_in form new.now.trees) same.0.committed_is
+    ∙ ap (λ (db : Database). if begun then rows_in (undone form) old.committed.trees else rows_in form db.trees) same.0.now_is
+
 idle-if : (b mode : Bool) → b ≡ not mode → b ≡ true → mode ≡ false
-idle-if b true e is = absurd (true≢false (sym is ∙ e))
-idle-if b false e is = refl
+idle-if b mode e is = grind arith
 
 held-if : (b mode : Bool) → b ≡ not mode → b ≡ false → mode ≡ true
-held-if b true e is = refl
-held-if b false e is = absurd (true≢false (sym e ∙ is))
+held-if b mode e is = grind arith
 
 -- what a call that failed left, while the disk is clean and the connection open: all is as it was, or undone
 module _ (form : Form) (begun : Bool) (old new : State) (auto : Bool) (tells : auto ≡ not new.in_transaction) where
@@ -137,41 +144,29 @@ module _ (form : Form) (begun : Bool) (old new : State) (auto : Bool) (tells : a
 
   module _ (P : Trees → Type 0) (survives : Survives old new P) (leaves : List (Remains Content)) where
     was-clean : Left → (new.is_clean && new.is_open) ≡ true → (old.is_clean && old.is_open) ≡ true
-    was-clean left e =
-        let parts = and_parts new.is_clean new.is_open e in
-        let clean = honest new parts.0 in
-        let opened : IsTrue old.is_open = was_open old new (left clean parts.1).0 parts.1 in
-        ap (λ (b : Bool). b && old.is_open) (clean-of old (was-honest old new P survives clean)) ∙ opened
+    was-clean left e = let p = both new e in clean-before old new P survives p.0 (was_open old new (left p.0 p.1).0 p.1)
 
     pub stays-idle : Left → auto ≡ true → Stays (store_state form begun old leaves) (store_state (undone form) false new leaves)
     stays-idle left is = record {
       clean = was-clean left;
-      before = λ e. let parts = and_parts new.is_clean new.is_open e in let it = left (honest new parts.0) parts.1 in idle-home leaves it.0 parts.1 it.1 is;
+      before = λ e. let p = both new e in let it = left p.0 p.1 in idle-home leaves it.0 p.1 it.1 is;
       leaves = leaves-same form (undone form) begun false old new P leaves survives (undone-ready form);
     }
 
     pub stays-held : Left → auto ≡ false → Stays (store_state form begun old leaves) (store_state form begun new leaves)
     stays-held left is = record {
       clean = was-clean left;
-      before = λ e.
-          let parts = and_parts new.is_clean new.is_open e in
-          let it = left (honest new parts.0) parts.1 in
-          let same = (held-after it.0 it.1 is).0 in
-          ap (λ (db : Database). if begun then rows_in (undone form) db.trees else rows_in form new.now.trees) same.committed_is
-          ∙ ap (λ (db : Database). if begun then rows_in (undone form) old.committed.trees else rows_in form db.trees) same.now_is;
+      before = λ e. let p = both new e in let it = left p.0 p.1 in same-before form begun old new leaves (held-after it.0 it.1 is);
       leaves = leaves-same form form begun begun old new P leaves survives refl;
     }
 
 -- a call that changed nothing
 pub reads-same : (form : Form) (begun : Bool) (old new : State) (P : Trees → Type 0) (leaves : List (Remains Content)) → Survives old new P → (HasCleanDisk new → IsUnchanged old new) → Reads (store_state form begun old leaves) (store_state form begun new leaves)
 reads-same form begun old new P leaves survives same = record {
-  clean = λ e. let clean = honest new (and_parts new.is_clean new.is_open e).0 in ap (λ (b : Bool). b && old.is_open) (clean-of old (was-honest old new P survives clean)) ∙ (same clean).0.was_open;
-  before = λ e.
-      let was = (same (honest new (and_parts new.is_clean new.is_open e).0)).0 in
-      ap (λ (db : Database). if begun then rows_in (undone form) db.trees else rows_in form new.now.trees) was.committed_is
-      ∙ ap (λ (db : Database). if begun then rows_in (undone form) old.committed.trees else rows_in form db.trees) was.now_is;
+  clean = λ e. let clean = (both new e).0 in clean-before old new P survives clean (same clean).0.was_open;
+  before = λ e. same-before form begun old new leaves (same (both new e).0);
   opened = refl;
-  content = λ e. ap (λ (db : Database). rows_in form db.trees) (same (honest new (and_parts new.is_clean new.is_open e).0)).0.now_is;
+  content = λ e. ap (λ (db : Database). rows_in form db.trees) (same (both new e).0).0.now_is;
   answers = λ was e. ap (λ (b : Bool). b && new.is_open) e ∙ (same (honest new e)).0.is_open;
   leaves = leaves-same form form begun begun old new P leaves survives refl;
 }
@@ -200,8 +195,8 @@ module _ (form : Form) (old new : State) (P : Trees → Type 0) (survives : Surv
 
   pub stays-looked : (leaves : List (Remains Content)) → Stays (store_state form false old leaves) (store_state form false new leaves)
   stays-looked leaves = record {
-    clean = λ e. let p = and_parts new.is_clean new.is_open e in let clean = honest new p.0 in ap (λ (b : Bool). b && old.is_open) (clean-of old (was-honest old new P survives clean)) ∙ (was-idle clean p.1).0;
-    before = λ e. let p = and_parts new.is_clean new.is_open e in let clean = honest new p.0 in ap (λ (db : Database). rows_in form db.trees) (still-there (stood clean) p.1 (was-idle clean p.1).1);
+    clean = λ e. let p = both new e in clean-before old new P survives p.0 (was-idle p.0 p.1).0;
+    before = λ e. let p = both new e in ap (λ (db : Database). rows_in form db.trees) (still-there (stood p.0) p.1 (was-idle p.0 p.1).1);
     leaves = leaves-same form form false false old new P leaves survives refl;
   }
 

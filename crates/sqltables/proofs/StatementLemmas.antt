@@ -3,13 +3,9 @@ use Rattle.std.proofs.Common.{◌≡◌, ◌+◌, ℕ, ℤ, pos, zero, suc, Bool
 use Rattle.sqltables.proofs.Words.{all_of, Alters, appended, Appends, as_count, Asks, Binary, by_then_key, col, Compare, delete_where, Eq, eval}
 use Rattle.sqltables.proofs.Words.{eval_all, filter_all, Ge, Gt, holds, insert_by, Int, IsSelect, IsUpdate, Le, limited, limits, list_all, lit}
 use Rattle.sqltables.proofs.Words.{next_key, Null, op2, output, output_cmp, Query, registry, Row, select_query, selects, sort_by, sorts, take-map}
-use Rattle.sqltables.proofs.Words.{Term, update_where, writes_tables}
+use Rattle.sqltables.proofs.{Words.{Term, update_where, writes_tables}, TableLemmas.{Part, alters, asks}}
 use Rattle.sqlrows.specs.inner.Layouts.{Gives, Numbers, IsPut, IsAppend, IsDelete, Renews, limited_query, no_limit, sorted_query}
-use Rattle.sqlrows.proofs.PutLemmas.{puts}
-use Rattle.sqlrows.proofs.AppendLemmas.{appends, appends_last}
-use Rattle.sqlrows.proofs.UpdateLemmas.{updates}
-use Rattle.sqlrows.proofs.WriteLemmas.{deletes}
-use Rattle.sqltables.proofs.TableLemmas.{Part, alters, asks}
+use Rattle.sqlrows.proofs.{PutLemmas.puts, AppendLemmas.{appends, appends_last}, UpdateLemmas.updates, WriteLemmas.deletes}
 
 -- ---- terms
 
@@ -139,7 +135,7 @@ module _ {X : Type 0} (T : Part X) where
   remove_by {sql} {params} p filters is tests = alters T sql params (λ xs. delete_where p xs) is.plain (ap writes_tables is.command)
       (deletes T.layout registry T.at T.table T.listed sql params filters p tests is)
 
-  pub replace_by : {sql : List ℕ} {params : Row} (p : X → Bool) (f : X → X) (n : ℕ) → IsUpdate registry sql T.at T.layout.tree (equals 0 0 ∷ []) (replace_terms n) → Tests params (equals 0 0 ∷ []) p → Renews T.layout (replace_terms n) params f
+  pub update_by : {sql : List ℕ} {params : Row} (p : X → Bool) (f : X → X) (filters terms : List Term) → IsUpdate registry sql T.at T.layout.tree filters terms → Tests params filters p → Renews T.layout terms params f
       → Alters T.layout.tree sql params (T.to (λ xs. update_where p f xs))
-  replace_by {sql} {params} p f n is tests renews = alters T sql params (λ xs. update_where p f xs) is.plain (ap writes_tables is.command)
-      (updates T.layout registry T.at T.table T.listed sql params (equals 0 0 ∷ []) (replace_terms n) p f tests renews is)
+  update_by {sql} {params} p f filters terms is tests renews = alters T sql params (λ xs. update_where p f xs) is.plain (ap writes_tables is.command)
+      (updates T.layout registry T.at T.table T.listed sql params filters terms p f tests renews is)

@@ -6,16 +6,11 @@ use Rattle.sqltables.proofs.Words.{eqb-true, Holds, HostRow, hosts, inner, is_ta
 use Rattle.sqltables.proofs.Words.{LinkRow, links, list_any, Listed, MessageRow, messages, MetaRow, metas, metas_to, overlay, Query, registry, Row}
 use Rattle.sqltables.proofs.Words.{Sets, Table, TransferRow, transfers, Trees, understood, Value, writes_tables}
 use Rattle.sqlite_rules.specs.Cast.{cast_row}
-use Rattle.sqlite.specs.Does.{Tally}
-use Rattle.sqlite.specs.Given.{IsPlain}
-use Rattle.sqlrows.proofs.CastLemmas.{cast_int, cast_null, cast_text, cast_maybe_int, cast_maybe_text}
-use Rattle.sqlrows.proofs.QuietLemmas.{quiet_if_idle}
+use Rattle.sqlite.specs.{Does.Tally, Given.IsPlain}
+use Rattle.sqlrows.proofs.{CastLemmas.{cast_int, cast_null, cast_text, cast_maybe_int, cast_maybe_text}, QuietLemmas.quiet_if_idle}
 use Rattle.sqltables.specs.inner.Content.{contacts_to, domains_to, hosts_to, addresses_to, links_to, lines_to, messages_to, transfers_to, days_to}
-use Rattle.sqltables.specs.Tables as schema
 use Rattle.sqltables.specs.Day.{days}
-
-kept : {X : Type 0} (L : Layout X) (db next : Trees) (xs : List X) → next L.tree ≡ db L.tree → Holds L db xs → Holds L next xs
-kept L db next xs same h = record { rows = same ∙ h.rows; keyed = h.keyed }
+use Rattle.sqltables.specs.Tables as schema
 
 abbrev given : Trees → Database
 given db = record { schema = registry; trees = db }
@@ -41,7 +36,7 @@ turns {X} L written old new was xs others is h it = go (L.tree == written) refl 
   where
     go : (here : Bool) → (L.tree == written) ≡ here → Turns here L new was xs → Holds L new xs
     go true e these = these
-    go false e same = subst (Holds L new) same (kept L old new was (others L.tree is (λ one. true≢false (sym (eq-eqb L.tree written one) ∙ e))) h)
+    go false e same = subst (Holds L new) same (record { rows = others L.tree is (λ one. true≢false (sym (eq-eqb L.tree written one) ∙ e)) ∙ h.rows; keyed = h.keyed })
 
 -- the same of all tables
 abbrev Turned : ℕ → Trees → Content → Content → Type 0
@@ -87,75 +82,42 @@ pub record Part (X : Type 0) : Type 0 where
   pub holds : (xs : Content) (db : Database) → IsContent xs db → Holds layout db.trees (rows xs)
   pub turned : (change : List X → List X) (new : Trees) (xs : Content) → Holds layout new (change (rows xs)) → Turned layout.tree new xs (to change xs)
 
-listed : {X : Type 0} (L : Layout X) (at : ℕ) (table : Table) → slice_get registry.tables at ≡ Some table → table.tree ≡ L.tree → table.is_counted ≡ false
+pub listed : {X : Type 0} (L : Layout X) (at : ℕ) (table : Table) → slice_get registry.tables at ≡ Some table → table.tree ≡ L.tree → table.is_counted ≡ false
     → table.stamps ≡ record { places = []; terms = []; formats = [] } → ((x : X) → cast_row table (L.to_row x) ≡ L.to_row x) → Listed L registry at table
 listed L at table is tree uncounted unstamped casts = record { is = is; tree = tree; quiet = quiet_if_idle registry refl; uncounted = uncounted; unstamped = unstamped; casts = casts }
 
-pub meta_listed : Listed metas registry 0 (record schema.meta { tree = 0 })
-meta_listed = listed metas 0 (record schema.meta { tree = 0 }) refl refl refl refl (λ x. simp (cast_int, cast_null, cast_text, cast_maybe_int, cast_maybe_text))
-
 abbrev pub meta_part : Part MetaRow
-meta_part = record { layout = metas; at = 0; table = record schema.meta { tree = 0 }; listed = meta_listed; rows = λ c. c.metas; to = metas_to; is = refl; holds = λ xs db h. h.metas; turned = λ f new xs h. (h, refl, refl, refl, refl, refl, refl, refl, refl, refl, refl) }
-
-pub account_listed : Listed accounts registry 1 (record schema.account { tree = 1 })
-account_listed = listed accounts 1 (record schema.account { tree = 1 }) refl refl refl refl (λ x. simp (cast_int, cast_null, cast_text, cast_maybe_int, cast_maybe_text))
+meta_part = record { layout = metas; at = 0; table = record schema.meta { tree = 0 }; listed = listed metas 0 (record schema.meta { tree = 0 }) refl refl refl refl (λ x. simp (cast_int, cast_null, cast_text, cast_maybe_int, cast_maybe_text)); rows = λ c. c.metas; to = metas_to; is = refl; holds = λ xs db h. h.metas; turned = λ f new xs h. (h, refl, refl, refl, refl, refl, refl, refl, refl, refl, refl) }
 
 abbrev pub account_part : Part AccountRow
-account_part = record { layout = accounts; at = 1; table = record schema.account { tree = 1 }; listed = account_listed; rows = λ c. c.accounts; to = accounts_to; is = refl; holds = λ xs db h. h.accounts; turned = λ f new xs h. (refl, h, refl, refl, refl, refl, refl, refl, refl, refl, refl) }
-
-pub contact_listed : Listed contacts registry 2 (record schema.contact { tree = 3 })
-contact_listed = listed contacts 2 (record schema.contact { tree = 3 }) refl refl refl refl (λ x. simp (cast_int, cast_null, cast_text, cast_maybe_int, cast_maybe_text))
+account_part = record { layout = accounts; at = 1; table = record schema.account { tree = 1 }; listed = listed accounts 1 (record schema.account { tree = 1 }) refl refl refl refl (λ x. simp (cast_int, cast_null, cast_text, cast_maybe_int, cast_maybe_text)); rows = λ c. c.accounts; to = accounts_to; is = refl; holds = λ xs db h. h.accounts; turned = λ f new xs h. (refl, h, refl, refl, refl, refl, refl, refl, refl, refl, refl) }
 
 abbrev pub contact_part : Part ContactRow
-contact_part = record { layout = contacts; at = 2; table = record schema.contact { tree = 3 }; listed = contact_listed; rows = λ c. c.contacts; to = contacts_to; is = refl; holds = λ xs db h. h.contacts; turned = λ f new xs h. (refl, refl, h, refl, refl, refl, refl, refl, refl, refl, refl) }
-
-pub domain_listed : Listed domains registry 3 (record schema.domain { tree = 5 })
-domain_listed = listed domains 3 (record schema.domain { tree = 5 }) refl refl refl refl (λ x. simp (cast_int, cast_null, cast_text, cast_maybe_int, cast_maybe_text))
+contact_part = record { layout = contacts; at = 2; table = record schema.contact { tree = 3 }; listed = listed contacts 2 (record schema.contact { tree = 3 }) refl refl refl refl (λ x. simp (cast_int, cast_null, cast_text, cast_maybe_int, cast_maybe_text)); rows = λ c. c.contacts; to = contacts_to; is = refl; holds = λ xs db h. h.contacts; turned = λ f new xs h. (refl, refl, h, refl, refl, refl, refl, refl, refl, refl, refl) }
 
 abbrev pub domain_part : Part DomainRow
-domain_part = record { layout = domains; at = 3; table = record schema.domain { tree = 5 }; listed = domain_listed; rows = λ c. c.domains; to = domains_to; is = refl; holds = λ xs db h. h.domains; turned = λ f new xs h. (refl, refl, refl, h, refl, refl, refl, refl, refl, refl, refl) }
-
-pub host_listed : Listed hosts registry 4 (record schema.host { tree = 7 })
-host_listed = listed hosts 4 (record schema.host { tree = 7 }) refl refl refl refl (λ x. simp (cast_int, cast_null, cast_text, cast_maybe_int, cast_maybe_text))
+domain_part = record { layout = domains; at = 3; table = record schema.domain { tree = 5 }; listed = listed domains 3 (record schema.domain { tree = 5 }) refl refl refl refl (λ x. simp (cast_int, cast_null, cast_text, cast_maybe_int, cast_maybe_text)); rows = λ c. c.domains; to = domains_to; is = refl; holds = λ xs db h. h.domains; turned = λ f new xs h. (refl, refl, refl, h, refl, refl, refl, refl, refl, refl, refl) }
 
 abbrev pub host_part : Part HostRow
-host_part = record { layout = hosts; at = 4; table = record schema.host { tree = 7 }; listed = host_listed; rows = λ c. c.hosts; to = hosts_to; is = refl; holds = λ xs db h. h.hosts; turned = λ f new xs h. (refl, refl, refl, refl, h, refl, refl, refl, refl, refl, refl) }
-
-pub address_listed : Listed addresses registry 5 (record schema.address { tree = 9 })
-address_listed = listed addresses 5 (record schema.address { tree = 9 }) refl refl refl refl (λ x. simp (cast_int, cast_null, cast_text, cast_maybe_int, cast_maybe_text))
+host_part = record { layout = hosts; at = 4; table = record schema.host { tree = 7 }; listed = listed hosts 4 (record schema.host { tree = 7 }) refl refl refl refl (λ x. simp (cast_int, cast_null, cast_text, cast_maybe_int, cast_maybe_text)); rows = λ c. c.hosts; to = hosts_to; is = refl; holds = λ xs db h. h.hosts; turned = λ f new xs h. (refl, refl, refl, refl, h, refl, refl, refl, refl, refl, refl) }
 
 abbrev pub address_part : Part AddressRow
-address_part = record { layout = addresses; at = 5; table = record schema.address { tree = 9 }; listed = address_listed; rows = λ c. c.addresses; to = addresses_to; is = refl; holds = λ xs db h. h.addresses; turned = λ f new xs h. (refl, refl, refl, refl, refl, h, refl, refl, refl, refl, refl) }
-
-pub link_listed : Listed links registry 6 (record schema.link { tree = 10 })
-link_listed = listed links 6 (record schema.link { tree = 10 }) refl refl refl refl (λ x. simp (cast_int, cast_null, cast_text, cast_maybe_int, cast_maybe_text))
+address_part = record { layout = addresses; at = 5; table = record schema.address { tree = 9 }; listed = listed addresses 5 (record schema.address { tree = 9 }) refl refl refl refl (λ x. simp (cast_int, cast_null, cast_text, cast_maybe_int, cast_maybe_text)); rows = λ c. c.addresses; to = addresses_to; is = refl; holds = λ xs db h. h.addresses; turned = λ f new xs h. (refl, refl, refl, refl, refl, h, refl, refl, refl, refl, refl) }
 
 abbrev pub link_part : Part LinkRow
-link_part = record { layout = links; at = 6; table = record schema.link { tree = 10 }; listed = link_listed; rows = λ c. c.links; to = links_to; is = refl; holds = λ xs db h. h.links; turned = λ f new xs h. (refl, refl, refl, refl, refl, refl, h, refl, refl, refl, refl) }
-
-pub line_listed : Listed lines registry 7 (record schema.line { tree = 11 })
-line_listed = listed lines 7 (record schema.line { tree = 11 }) refl refl refl refl (λ x. simp (cast_int, cast_null, cast_text, cast_maybe_int, cast_maybe_text))
+link_part = record { layout = links; at = 6; table = record schema.link { tree = 10 }; listed = listed links 6 (record schema.link { tree = 10 }) refl refl refl refl (λ x. simp (cast_int, cast_null, cast_text, cast_maybe_int, cast_maybe_text)); rows = λ c. c.links; to = links_to; is = refl; holds = λ xs db h. h.links; turned = λ f new xs h. (refl, refl, refl, refl, refl, refl, h, refl, refl, refl, refl) }
 
 abbrev pub line_part : Part LineRow
-line_part = record { layout = lines; at = 7; table = record schema.line { tree = 11 }; listed = line_listed; rows = λ c. c.lines; to = lines_to; is = refl; holds = λ xs db h. h.lines; turned = λ f new xs h. (refl, refl, refl, refl, refl, refl, refl, h, refl, refl, refl) }
-
-pub message_listed : Listed messages registry 8 (record schema.message { tree = 12 })
-message_listed = listed messages 8 (record schema.message { tree = 12 }) refl refl refl refl (λ x. simp (cast_int, cast_null, cast_text, cast_maybe_int, cast_maybe_text))
+line_part = record { layout = lines; at = 7; table = record schema.line { tree = 11 }; listed = listed lines 7 (record schema.line { tree = 11 }) refl refl refl refl (λ x. simp (cast_int, cast_null, cast_text, cast_maybe_int, cast_maybe_text)); rows = λ c. c.lines; to = lines_to; is = refl; holds = λ xs db h. h.lines; turned = λ f new xs h. (refl, refl, refl, refl, refl, refl, refl, h, refl, refl, refl) }
 
 abbrev pub message_part : Part MessageRow
-message_part = record { layout = messages; at = 8; table = record schema.message { tree = 12 }; listed = message_listed; rows = λ c. c.messages; to = messages_to; is = refl; holds = λ xs db h. h.messages; turned = λ f new xs h. (refl, refl, refl, refl, refl, refl, refl, refl, h, refl, refl) }
-
-pub transfer_listed : Listed transfers registry 9 (record schema.transfer { tree = 13 })
-transfer_listed = listed transfers 9 (record schema.transfer { tree = 13 }) refl refl refl refl (λ x. simp (cast_int, cast_null, cast_text, cast_maybe_int, cast_maybe_text))
+message_part = record { layout = messages; at = 8; table = record schema.message { tree = 12 }; listed = listed messages 8 (record schema.message { tree = 12 }) refl refl refl refl (λ x. simp (cast_int, cast_null, cast_text, cast_maybe_int, cast_maybe_text)); rows = λ c. c.messages; to = messages_to; is = refl; holds = λ xs db h. h.messages; turned = λ f new xs h. (refl, refl, refl, refl, refl, refl, refl, refl, h, refl, refl) }
 
 abbrev pub transfer_part : Part TransferRow
-transfer_part = record { layout = transfers; at = 9; table = record schema.transfer { tree = 13 }; listed = transfer_listed; rows = λ c. c.transfers; to = transfers_to; is = refl; holds = λ xs db h. h.transfers; turned = λ f new xs h. (refl, refl, refl, refl, refl, refl, refl, refl, refl, h, refl) }
-
-pub day_listed : Listed days registry 10 (record schema.days { tree = 34 })
-day_listed = listed days 10 (record schema.days { tree = 34 }) refl refl refl refl (λ x. simp (cast_int, cast_null, cast_text, cast_maybe_int, cast_maybe_text))
+transfer_part = record { layout = transfers; at = 9; table = record schema.transfer { tree = 13 }; listed = listed transfers 9 (record schema.transfer { tree = 13 }) refl refl refl refl (λ x. simp (cast_int, cast_null, cast_text, cast_maybe_int, cast_maybe_text)); rows = λ c. c.transfers; to = transfers_to; is = refl; holds = λ xs db h. h.transfers; turned = λ f new xs h. (refl, refl, refl, refl, refl, refl, refl, refl, refl, h, refl) }
 
 abbrev pub day_part : Part DayRow
-day_part = record { layout = days; at = 10; table = record schema.days { tree = 34 }; listed = day_listed; rows = λ c. c.days; to = days_to; is = refl; holds = λ xs db h. h.days; turned = λ f new xs h. (refl, refl, refl, refl, refl, refl, refl, refl, refl, refl, h) }
+day_part = record { layout = days; at = 10; table = record schema.days { tree = 34 }; listed = listed days 10 (record schema.days { tree = 34 }) refl refl refl refl (λ x. simp (cast_int, cast_null, cast_text, cast_maybe_int, cast_maybe_text)); rows = λ c. c.days; to = days_to; is = refl; holds = λ xs db h. h.days; turned = λ f new xs h. (refl, refl, refl, refl, refl, refl, refl, refl, refl, refl, h) }
 
 -- a query of one table
 abbrev Answers : {X : Type 0} → Layout X → (X → Row) → Query → Row → (List X → List X) → Type 0

@@ -1,9 +1,11 @@
 -- What beginning, committing and going back leave of a store of rows.
-use Rattle.std.proofs.Common.{◌≡◌, ◌⊎◌, ◌&&◌, inl, inr, ℕ, Bool, true, false, List, [], ◌∷◌, ◌++◌, Ok, Err, IsTrue, refl, sym, ap, subst, subst₂, ◌∙◌, true≢false}
-use Rattle.sqltables.proofs.Words.{AgreesWithForm, and_parts, Answer, AreRight, Bears, began, Closes, committed, Content, Database, ended, Error}
+use Rattle.std.proofs.Common.{◌≡◌, ◌⊎◌, ◌&&◌, inl, inr, ℕ, Bool, true, false, List, [], ◌∷◌, ◌++◌, Ok, Err, IsTrue, refl, sym, ap, subst, subst₂, ◌∙◌, arith, true≢false}
+use Rattle.sqltables.proofs.Words.{AgreesWithForm, Answer, AreRight, Bears, began, Closes, committed, Content, Database, ended, Error}
 use Rattle.sqltables.proofs.Words.{executed_open, Executes, Fails, Fits, Form, Guards, has_rows, HasCleanDisk, holding, IsDatabase, IsLeftAs}
 use Rattle.sqltables.proofs.Words.{IsRight, IsSound, lasting, leaves_of, left_in, Made, Making, readiness_of, Recalls, Remains, rows_in, runs_as}
 use Rattle.sqltables.proofs.Words.{same_command, Shows, Starts, State, Stays, store_state, Survives, Trees, understood, undone, Unused}
+use Rattle.sqltables.proofs.AnswerLemmas.{all-lasting}
+use Rattle.sqltables.proofs.StandingLemmas.{agrees-back, both, clean-before, clean-of, guards-on, home, honest, leaves-same, undone-ready, was-honest}
 use Rattle.sqlite.specs.State.{IsRolledBack}
 use Rattle.sqlrows.specs.inner.Transactions.{begin_text, commit_text}
 use Rattle.sqlite_schema.specs.declared.schema.Schema.{Schema}
@@ -12,26 +14,15 @@ use Rattle.sqlrows.proofs.SwitchLemmas.{begin_is, commit_is}
 use Rattle.sqltables.specs.declared.form.Form.TheVariants.{Other}
 use Rattle.states.proofs.LeavingLemmas.{has-alone, has-either, has-front, has-last}
 use Rattle.states.specs.States.{Keeps}
-use Rattle.sqltables.proofs.AnswerLemmas.{all-lasting}
-use Rattle.sqltables.proofs.StandingLemmas.{agrees-back, clean-of, guards-on, home, honest, leaves-same, undone-ready, was-honest}
 
 bears-committed : (form : Form) (now last : Database) → Bears form now last → Bears (committed form) now now
-bears-committed Unused now last it = (it.0, it.0)
-bears-committed Making now last it = (it.0, it.0)
-bears-committed Made now last it = (it.0, it.0)
-bears-committed Other now last it = tt
+bears-committed form now last it = grind arith
 
 committed-stays : (form : Form) → undone (committed form) ≡ committed form
-committed-stays Unused = refl
-committed-stays Making = refl
-committed-stays Made = refl
-committed-stays Other = refl
+committed-stays form = grind arith
 
 committed-rows : (form : Form) (db : Trees) → rows_in (committed form) db ≡ rows_in form db
-committed-rows Unused db = refl
-committed-rows Making db = refl
-committed-rows Made db = refl
-committed-rows Other db = refl
+committed-rows form db = grind arith
 
 -- a database that is kept
 kept-as : (form : Form) (now last : Database) → has_rows form ≡ true → Bears form now last → IsDatabase now → IsLeftAs (readiness_of (committed form)) now.trees (rows_in (committed form) now.trees)
@@ -41,10 +32,7 @@ kept-as Made now last rows it sound = (subst (λ (s : Schema). IsSound s now.tre
 kept-as Other now last rows it sound = absurd (true≢false (sym rows))
 
 pub holding-it : (form : Form) (s : State) → has_rows form ≡ true → left_in (committed form) s ≡ holding (rows_in form s.now.trees)
-holding-it Unused s rows = absurd (true≢false (sym rows))
-holding-it Making s rows = refl
-holding-it Made s rows = refl
-holding-it Other s rows = absurd (true≢false (sym rows))
+holding-it form s rows = grind arith
 
 -- ---- what was noted
 
@@ -72,12 +60,6 @@ commit-shows : (old new : State) (count : ℕ) → Executes commit_text [] old n
 commit-shows old new count ran = (runs_as commit_text [] old new old.now.schema refl command.Commit (same_command (understood old.now.schema commit_text) ∙ (commit_is old.now.schema).command_is) (commit_is old.now.schema).plain count ran).1
 
 module _ (form : Form) (old new : State) (P : Trees → Type 0) (survives : Survives old new P) (leaves : List (Remains Content)) where
-  parts-of : (new.is_clean && new.is_open) ≡ true → HasCleanDisk new × IsTrue new.is_open
-  parts-of e = let parts = and_parts new.is_clean new.is_open e in (honest new parts.0, parts.1)
-
-  clean-if-open : HasCleanDisk new → IsTrue old.is_open → (old.is_clean && old.is_open) ≡ true
-  clean-if-open clean opened = ap (λ (b : Bool). b && old.is_open) (clean-of old (was-honest old new P survives clean)) ∙ opened
-
   -- ---- BEGIN
   module _ (fits : Fits form false old) where
     module _ (count : ℕ) (ran : HasCleanDisk new → Executes begin_text [] old new (Ok count)) where
@@ -113,10 +95,10 @@ module _ (form : Form) (old new : State) (P : Trees → Type 0) (survives : Surv
 
       pub starts : Starts (store_state form false old leaves) (store_state form true new leaves)
       starts = record {
-        clean = λ e. let p = parts-of e in clean-if-open p.0 (opened-before p.0 p.1);
-        before = λ e. let p = parts-of e in let it = agreed p.0 p.1 in ap (λ (db : Database). rows_in (undone form) db.trees) (shows p.0 it).committed_is ∙ sym (home form false old leaves it);
+        clean = λ e. let p = both new e in clean-before old new P survives p.0 (opened-before p.0 p.1);
+        before = λ e. let p = both new e in let it = agreed p.0 p.1 in ap (λ (db : Database). rows_in (undone form) db.trees) (shows p.0 it).committed_is ∙ sym (home form false old leaves it);
         opened = refl;
-        content = λ e. let p = parts-of e in ap (λ (db : Database). rows_in form db.trees) (shows p.0 (agreed p.0 p.1)).now_is;
+        content = λ e. let p = both new e in ap (λ (db : Database). rows_in form db.trees) (shows p.0 (agreed p.0 p.1)).now_is;
         answers = λ was e. ap (λ (b : Bool). b && new.is_open) e ∙ (begin-shows old new count (ran (honest new e))).is_open;
         leaves = leaves-same form form false true old new P leaves survives refl;
       }
@@ -135,9 +117,9 @@ module _ (form : Form) (old new : State) (P : Trees → Type 0) (survives : Surv
 
       pub stays-not-begun : Stays (store_state form false old leaves) (store_state form false new leaves)
       stays-not-begun = record {
-        clean = λ c. let p = parts-of c in clean-if-open p.0 (executed_open begin_text [] old new (Err e) (ran p.0) p.1);
+        clean = λ c. let p = both new c in clean-before old new P survives p.0 (executed_open begin_text [] old new (Err e) (ran p.0) p.1);
         before = λ c.
-            let p = parts-of c in
+            let p = both new c in
             let it = was-agreed p.0 p.1 in
             ap (λ (db : Database). rows_in form db.trees) ((gone p.0 it).undone p.1).0 ∙ ap (λ (f : Form). rows_in f old.committed.trees) (sym (it.making refl)) ∙ sym (home form false old leaves it);
         leaves = leaves-same form form false false old new P leaves survives refl;
@@ -173,12 +155,12 @@ module _ (form : Form) (old new : State) (P : Trees → Type 0) (survives : Surv
 
       pub keeps : has_rows form ≡ true → Keeps (store_state form true old leaves) (store_state (committed form) false new (left_in (committed form) old ∷ []))
       keeps rows = record {
-        clean = λ e. let p = parts-of e in clean-if-open p.0 (open-before p.0 p.1);
+        clean = λ e. let p = both new e in clean-before old new P survives p.0 (open-before p.0 p.1);
         closed = refl;
-        content = λ e. let p = parts-of e in committed-rows form new.now.trees ∙ ap (λ (db : Database). rows_in form db.trees) (kept p.0 (agreed-inside p.0 p.1)).now_is;
+        content = λ e. let p = both new e in committed-rows form new.now.trees ∙ ap (λ (db : Database). rows_in form db.trees) (kept p.0 (agreed-inside p.0 p.1)).now_is;
         answers = λ e. ap (λ (b : Bool). b && new.is_open) e ∙ (commit-shows old new count (ran (honest new e))).is_open;
         honest = λ e. clean-of old (was-honest old new P survives (honest new e));
-        answered = λ e. clean-if-open (honest new e) (commit-shows old new count (ran (honest new e))).was_open;
+        answered = λ e. clean-before old new P survives (honest new e) (commit-shows old new count (ran (honest new e))).was_open;
         leaves = λ left h. has-alone (left_in (committed form) old) left h ∙ holding-it form old rows;
         ready = ap (λ (left : Remains Content). left.readiness) (holding-it form old rows);
       }
@@ -206,10 +188,10 @@ module _ (form : Form) (old new : State) (P : Trees → Type 0) (survives : Surv
 
       pub fails : has_rows form ≡ true → Guards true old leaves → Fails (store_state form true old leaves) (store_state (undone form) false new (leaves ++ left_in (committed form) old ∷ []))
       fails rows guards = record {
-        clean = λ c. let p = parts-of c in clean-if-open p.0 (executed_open commit_text [] old new (Err e) (ran p.0) p.1);
-        before = λ c. let p = parts-of c in ap (λ (db : Database). rows_in (undone form) db.trees) ((undone-by p.0 (was-inside p.0 p.1)).undone p.1).0;
+        clean = λ c. let p = both new c in clean-before old new P survives p.0 (executed_open commit_text [] old new (Err e) (ran p.0) p.1);
+        before = λ c. let p = both new c in ap (λ (db : Database). rows_in (undone form) db.trees) ((undone-by p.0 (was-inside p.0 p.1)).undone p.1).0;
         honest = λ c. clean-of old (was-honest old new P survives (honest new c));
-        answered = λ c. let clean = honest new c in clean-if-open clean (guards.opened (was-honest old new P survives clean) refl);
+        answered = λ c. let clean = honest new c in clean-before old new P survives clean (guards.opened (was-honest old new P survives clean) refl);
         leaves = λ left h. elim (has-either leaves (left_in (committed form) old) left h) [ inl there ↦ inl there | inr is ↦ inr (is ∙ holding-it form old rows) ];
         ready = undone-ready form;
       }
@@ -257,8 +239,8 @@ module _ {C : Type 0} (state-of : C → State) (form : Form) (begun : Bool) (old
 
   pub closes-back : Closes (store_state form begun (state-of old) leaves).before (store_state form begun (state-of old) leaves) (store_state (undone form) false (state-of new) leaves)
   closes-back = record {
-    clean = λ e. let p = parts-of form (state-of old) (state-of new) P survives leaves e in clean-if-open form (state-of old) (state-of new) P survives leaves p.0 (turned p.0 p.1).0;
+    clean = λ e. let p = both (state-of new) e in clean-before (state-of old) (state-of new) P survives p.0 (turned p.0 p.1).0;
     closed = refl;
-    content = λ e. let p = parts-of form (state-of old) (state-of new) P survives leaves e in (turned p.0 p.1).1.1;
+    content = λ e. let p = both (state-of new) e in (turned p.0 p.1).1.1;
     leaves = leaves-same form (undone form) begun false (state-of old) (state-of new) P leaves survives (undone-ready form);
   }

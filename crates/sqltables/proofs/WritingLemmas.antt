@@ -1,22 +1,21 @@
 -- What the statements that write rows of a table mean.
-use Rattle.std.proofs.Common.{◌≡◌, ◌∙◌, ap, drop, refl, List, [], ◌∷◌, ℕ, ℤ, false, not, Option, Some, None, is_none, is_some}
+use Rattle.std.proofs.Common.{◌≡◌, ◌∙◌, codes, drop, refl, List, [], ◌∷◌, ℕ, ℤ, false, not, Option, Some, None, is_none, is_some}
 use Rattle.sqltables.proofs.Words.{account_shown, account_with_id, AccountRow, accounts, accounts_to, address_shown, address_with_host, addresses}
 use Rattle.sqltables.proofs.Words.{AddressRow, Alters, appended, Appends, at_ints, at_is_null, at_points_to, at_texts, Binary, col, contact_shown}
 use Rattle.sqltables.proofs.Words.{contact_with_id, ContactRow, contacts, day_shown, DayRow, delete_where, domain_shown, domain_with_id, DomainRow}
-use Rattle.sqltables.proofs.Words.{domains, Eq, host_shown, host_takes_sponsor, host_with_id, HostRow, hosts, insert_by, Int, Is, IsUpdate}
+use Rattle.sqltables.proofs.Words.{domains, Eq, host_shown, host_takes_sponsor, host_with_id, HostRow, hosts, insert_by, Int, Is}
 use Rattle.sqltables.proofs.Words.{last_term, line_shown, line_with_id, LineRow, lines, link_shown, link_with_domain, LinkRow, links, lit}
 use Rattle.sqltables.proofs.Words.{message_shown, message_with_id, MessageRow, messages, meta_shown, meta_with_id, MetaRow, metas, metas_to}
-use Rattle.sqltables.proofs.Words.{next_key, Null, op2, or_null, registry, Term, Text, then_term, transfer_shown, transfer_with_contact}
-use Rattle.sqltables.proofs.Words.{transfer_with_domain, TransferRow, transfers, update_where, value_cmp-Null, writes_tables}
+use Rattle.sqltables.proofs.Words.{next_key, Null, op2, or_null, Term, Text, then_term, transfer_shown, transfer_with_contact}
+use Rattle.sqltables.proofs.Words.{transfer_with_domain, TransferRow, transfers, update_where, value_cmp-Null}
+use Rattle.sqltables.proofs.StatementLemmas.{adds_by, append_by, equals, put_by, remove_by, replace_terms, update_by}
+use Rattle.sqltables.proofs.TableLemmas.{meta_part, account_part, contact_part, domain_part, host_part, address_part, link_part, line_part, message_part, transfer_part, day_part}
 use Rattle.sqlite.specs.Listing.{understood}
 use Rattle.sqlite_tied.specs.Compute.{everything}
-use Rattle.sqlrows.proofs.CastLemmas.{cast_int, cast_null, cast_text, cast_maybe_int, cast_maybe_text}
-use Rattle.sqlrows.proofs.UpdateLemmas.{updates}
-use Rattle.sqltables.specs.inner.Tables.{meta_put, meta_replace, account_put, account_replace, contact_put, contact_replace, contact_append, contact_remove_id, domain_put, domain_replace, domain_append, domain_remove_id, host_put, host_replace, host_append, host_update_sponsor, host_remove_id, address_put, address_append, address_remove_host, link_put, link_append, link_remove_domain, link_update_due, line_put, line_append, line_remove_id, message_put, message_append, message_remove_id, transfer_put, transfer_append, transfer_remove_contact, transfer_remove_domain, days_append}
+use Rattle.sqlrows.proofs.{CastLemmas.{cast_int, cast_null, cast_text, cast_maybe_int, cast_maybe_text}, UpdateLemmas.updates}
+use Rattle.sqltables.specs.inner.Tables.{meta_put, meta_replace, account_put, account_replace, contact_put, contact_replace, contact_append, domain_put, domain_replace, domain_append, host_put, host_replace, host_append, address_put, address_append, link_put, link_append, line_put, line_append, message_put, message_append, transfer_put, transfer_append, days_append}
 use Rattle.sqltables.specs.Day.{days}
 use Rattle.sqltables.specs.inner.Content.{contacts_to, domains_to, hosts_to, addresses_to, links_to, lines_to, messages_to, transfers_to, days_to}
-use Rattle.sqltables.proofs.StatementLemmas.{adds_by, append_by, equals, put_by, remove_by, replace_by}
-use Rattle.sqltables.proofs.TableLemmas.{alters, meta_part, account_part, contact_part, domain_part, host_part, address_part, link_part, line_part, message_part, transfer_part, day_part}
 pub use Rattle.sqltables.proofs.TableLemmas.{alters-by, appends-by, bound-last, bound-then}
 
 -- ---- meta
@@ -27,7 +26,7 @@ put_meta = put_by meta_part meta_shown 16 (record { command = refl; plain = (ref
 
 pub replace_meta : (x : MetaRow) → Alters metas.tree meta_replace (meta_shown x) (metas_to (λ xs. update_where (meta_with_id x.id) (λ y. record x { id = y.id }) xs))
 unfolding understood everything
-replace_meta x = replace_by meta_part (meta_with_id x.id) (λ y. record x { id = y.id }) 16 (record { command = refl; plain = (refl, refl) }) (λ y. last_term (at_ints false Eq y.id x.id)) (record { row = λ y. refl; key = λ y. refl })
+replace_meta x = update_by meta_part (meta_with_id x.id) (λ y. record x { id = y.id }) (equals 0 0 ∷ []) (replace_terms 16) (record { command = refl; plain = (refl, refl) }) (λ y. last_term (at_ints false Eq y.id x.id)) (record { row = λ y. refl; key = λ y. refl })
 
 -- ---- account
 
@@ -37,7 +36,7 @@ put_account = put_by account_part account_shown 7 (record { command = refl; plai
 
 pub replace_account : (x : AccountRow) → Alters accounts.tree account_replace (account_shown x) (accounts_to (λ xs. update_where (account_with_id x.id) (λ y. record x { id = y.id }) xs))
 unfolding understood everything
-replace_account x = replace_by account_part (account_with_id x.id) (λ y. record x { id = y.id }) 7 (record { command = refl; plain = (refl, refl) }) (λ y. last_term (at_ints false Eq y.id x.id)) (record { row = λ y. refl; key = λ y. refl })
+replace_account x = update_by account_part (account_with_id x.id) (λ y. record x { id = y.id }) (equals 0 0 ∷ []) (replace_terms 7) (record { command = refl; plain = (refl, refl) }) (λ y. last_term (at_ints false Eq y.id x.id)) (record { row = λ y. refl; key = λ y. refl })
 
 -- ---- contact
 
@@ -47,13 +46,13 @@ put_contact = put_by contact_part contact_shown 19 (record { command = refl; pla
 
 pub replace_contact : (x : ContactRow) → Alters contacts.tree contact_replace (contact_shown x) (contacts_to (λ xs. update_where (contact_with_id x.id) (λ y. record x { id = y.id }) xs))
 unfolding understood everything
-replace_contact x = replace_by contact_part (contact_with_id x.id) (λ y. record x { id = y.id }) 19 (record { command = refl; plain = (refl, refl) }) (λ y. last_term (at_ints false Eq y.id x.id)) (record { row = λ y. refl; key = λ y. refl })
+replace_contact x = update_by contact_part (contact_with_id x.id) (λ y. record x { id = y.id }) (equals 0 0 ∷ []) (replace_terms 19) (record { command = refl; plain = (refl, refl) }) (λ y. last_term (at_ints false Eq y.id x.id)) (record { row = λ y. refl; key = λ y. refl })
 
 pub append_contact : (x : ContactRow) → Appends contacts.tree contact_append (drop 1 (contact_shown x)) (contacts_to (λ xs. appended contacts (λ id. record x { id = id }) xs)) (λ c. next_key contacts.key c.contacts)
 unfolding understood everything
 append_contact = adds_by contact_part contact_shown (λ x id. record x { id = id }) 19 (record { command = refl; plain = (refl, refl) }) (record { values = λ x. refl; casts = λ x. simp (cast_int, cast_null, cast_text, cast_maybe_int, cast_maybe_text); row = λ x id. refl })
 
-pub remove_contacts_by_id : (v : ℤ) → Alters contacts.tree contact_remove_id (Int v ∷ []) (contacts_to (λ xs. delete_where (contact_with_id v) xs))
+pub remove_contacts_by_id : (v : ℤ) → Alters contacts.tree (codes "DELETE FROM contact WHERE id = ?1") (Int v ∷ []) (contacts_to (λ xs. delete_where (contact_with_id v) xs))
 unfolding understood everything
 remove_contacts_by_id v = remove_by contact_part (contact_with_id v) (equals 0 0 ∷ []) (record { command = refl; plain = (refl, refl) }) (λ x. last_term (at_ints false Eq x.id v))
 
@@ -65,13 +64,13 @@ put_domain = put_by domain_part domain_shown 14 (record { command = refl; plain 
 
 pub replace_domain : (x : DomainRow) → Alters domains.tree domain_replace (domain_shown x) (domains_to (λ xs. update_where (domain_with_id x.id) (λ y. record x { id = y.id }) xs))
 unfolding understood everything
-replace_domain x = replace_by domain_part (domain_with_id x.id) (λ y. record x { id = y.id }) 14 (record { command = refl; plain = (refl, refl) }) (λ y. last_term (at_ints false Eq y.id x.id)) (record { row = λ y. refl; key = λ y. refl })
+replace_domain x = update_by domain_part (domain_with_id x.id) (λ y. record x { id = y.id }) (equals 0 0 ∷ []) (replace_terms 14) (record { command = refl; plain = (refl, refl) }) (λ y. last_term (at_ints false Eq y.id x.id)) (record { row = λ y. refl; key = λ y. refl })
 
 pub append_domain : (x : DomainRow) → Appends domains.tree domain_append (drop 1 (domain_shown x)) (domains_to (λ xs. appended domains (λ id. record x { id = id }) xs)) (λ c. next_key domains.key c.domains)
 unfolding understood everything
 append_domain = adds_by domain_part domain_shown (λ x id. record x { id = id }) 14 (record { command = refl; plain = (refl, refl) }) (record { values = λ x. refl; casts = λ x. simp (cast_int, cast_null, cast_text, cast_maybe_int, cast_maybe_text); row = λ x id. refl })
 
-pub remove_domains_by_id : (v : ℤ) → Alters domains.tree domain_remove_id (Int v ∷ []) (domains_to (λ xs. delete_where (domain_with_id v) xs))
+pub remove_domains_by_id : (v : ℤ) → Alters domains.tree (codes "DELETE FROM domain WHERE id = ?1") (Int v ∷ []) (domains_to (λ xs. delete_where (domain_with_id v) xs))
 unfolding understood everything
 remove_domains_by_id v = remove_by domain_part (domain_with_id v) (equals 0 0 ∷ []) (record { command = refl; plain = (refl, refl) }) (λ x. last_term (at_ints false Eq x.id v))
 
@@ -83,7 +82,7 @@ put_host = put_by host_part host_shown 9 (record { command = refl; plain = (refl
 
 pub replace_host : (x : HostRow) → Alters hosts.tree host_replace (host_shown x) (hosts_to (λ xs. update_where (host_with_id x.id) (λ y. record x { id = y.id }) xs))
 unfolding understood everything
-replace_host x = replace_by host_part (host_with_id x.id) (λ y. record x { id = y.id }) 9 (record { command = refl; plain = (refl, refl) }) (λ y. last_term (at_ints false Eq y.id x.id)) (record { row = λ y. refl; key = λ y. refl })
+replace_host x = update_by host_part (host_with_id x.id) (λ y. record x { id = y.id }) (equals 0 0 ∷ []) (replace_terms 9) (record { command = refl; plain = (refl, refl) }) (λ y. last_term (at_ints false Eq y.id x.id)) (record { row = λ y. refl; key = λ y. refl })
 
 pub append_host : (x : HostRow) → Appends hosts.tree host_append (drop 1 (host_shown x)) (hosts_to (λ xs. appended hosts (λ id. record x { id = id }) xs)) (λ c. next_key hosts.key c.hosts)
 unfolding understood everything
@@ -92,23 +91,18 @@ append_host = adds_by host_part host_shown (λ x id. record x { id = id }) 9 (re
 abbrev updated_sponsor : List Term
 updated_sponsor = col 1 0 ∷ lit Null ∷ col 1 2 ∷ col 1 3 ∷ col 1 4 ∷ col 1 5 ∷ col 1 6 ∷ col 0 1 ∷ col 1 8 ∷ col 1 9 ∷ col 1 10 ∷ []
 
-update_sponsor_is : IsUpdate registry host_update_sponsor 4 7 (equals 5 0 ∷ op2 (Is Binary) (col 1 6) (lit Null) ∷ []) updated_sponsor
-unfolding understood everything
-update_sponsor_is = record { command = refl; plain = (refl, refl) }
-
 -- it is sponsored by nobody outside the zone
 no-sponsor : (v : Option ℤ) → is_none v ≡ not (is_some v)
 no-sponsor None = refl
 no-sponsor (Some v) = refl
 
 pub update_hosts_sponsor : (above : List ℕ) (sponsor : Option ℤ)
-    → Alters hosts.tree host_update_sponsor (Text above ∷ or_null Int sponsor ∷ []) (hosts_to (λ xs. update_where (host_takes_sponsor above) (λ x. record x { sponsor = sponsor }) xs))
-update_hosts_sponsor above sponsor = alters host_part host_update_sponsor (Text above ∷ or_null Int sponsor ∷ []) (λ xs. update_where (host_takes_sponsor above) (λ x. record x { sponsor = sponsor }) xs) update_sponsor_is.plain (ap writes_tables update_sponsor_is.command)
-    (updates hosts registry 4 host_part.table host_part.listed host_update_sponsor (Text above ∷ or_null Int sponsor ∷ []) _ updated_sponsor (host_takes_sponsor above) (λ x. record x { sponsor = sponsor })
-    (λ x. then_term (at_texts false Eq x.above above) (last_term (at_is_null Int false (λ a. value_cmp-Null (Int a)) x.external_sponsor ∙ no-sponsor x.external_sponsor)))
-    (record { row = λ x. refl; key = λ x. refl }) update_sponsor_is)
+    → Alters hosts.tree (codes "UPDATE host SET sponsor = ?2 WHERE above = ?1 AND external_sponsor IS NULL") (Text above ∷ or_null Int sponsor ∷ []) (hosts_to (λ xs. update_where (host_takes_sponsor above) (λ x. record x { sponsor = sponsor }) xs))
+unfolding understood everything
+update_hosts_sponsor above sponsor = update_by host_part (host_takes_sponsor above) (λ x. record x { sponsor = sponsor }) (equals 5 0 ∷ op2 (Is Binary) (col 1 6) (lit Null) ∷ []) updated_sponsor (record { command = refl; plain = (refl, refl) })
+    (λ x. then_term (at_texts false Eq x.above above) (last_term (at_is_null Int false (λ a. value_cmp-Null (Int a)) x.external_sponsor ∙ no-sponsor x.external_sponsor))) (record { row = λ x. refl; key = λ x. refl })
 
-pub remove_hosts_by_id : (v : ℤ) → Alters hosts.tree host_remove_id (Int v ∷ []) (hosts_to (λ xs. delete_where (host_with_id v) xs))
+pub remove_hosts_by_id : (v : ℤ) → Alters hosts.tree (codes "DELETE FROM host WHERE id = ?1") (Int v ∷ []) (hosts_to (λ xs. delete_where (host_with_id v) xs))
 unfolding understood everything
 remove_hosts_by_id v = remove_by host_part (host_with_id v) (equals 0 0 ∷ []) (record { command = refl; plain = (refl, refl) }) (λ x. last_term (at_ints false Eq x.id v))
 
@@ -122,7 +116,7 @@ pub append_address : (x : AddressRow) → Alters addresses.tree address_append (
 unfolding understood everything
 append_address = append_by address_part address_shown (λ x id. record x { id = id }) 2 (record { command = refl; plain = (refl, refl) }) (record { values = λ x. refl; casts = λ x. simp (cast_int, cast_null, cast_text, cast_maybe_int, cast_maybe_text); row = λ x id. refl })
 
-pub remove_addresses_by_host : (v : ℤ) → Alters addresses.tree address_remove_host (Int v ∷ []) (addresses_to (λ xs. delete_where (address_with_host v) xs))
+pub remove_addresses_by_host : (v : ℤ) → Alters addresses.tree (codes "DELETE FROM address WHERE host = ?1") (Int v ∷ []) (addresses_to (λ xs. delete_where (address_with_host v) xs))
 unfolding understood everything
 remove_addresses_by_host v = remove_by address_part (address_with_host v) (equals 2 0 ∷ []) (record { command = refl; plain = (refl, refl) }) (λ x. last_term (at_ints false Eq x.host v))
 
@@ -136,21 +130,16 @@ pub append_link : (x : LinkRow) → Alters links.tree link_append (drop 1 (link_
 unfolding understood everything
 append_link = append_by link_part link_shown (λ x id. record x { id = id }) 5 (record { command = refl; plain = (refl, refl) }) (record { values = λ x. refl; casts = λ x. simp (cast_int, cast_null, cast_text, cast_maybe_int, cast_maybe_text); row = λ x id. refl })
 
-pub remove_links_by_domain : (v : ℤ) → Alters links.tree link_remove_domain (Int v ∷ []) (links_to (λ xs. delete_where (link_with_domain v) xs))
+pub remove_links_by_domain : (v : ℤ) → Alters links.tree (codes "DELETE FROM link WHERE domain = ?1") (Int v ∷ []) (links_to (λ xs. delete_where (link_with_domain v) xs))
 unfolding understood everything
 remove_links_by_domain v = remove_by link_part (link_with_domain v) (equals 2 0 ∷ []) (record { command = refl; plain = (refl, refl) }) (λ x. last_term (at_ints false Eq x.domain v))
 
 abbrev updated_due : List Term
 updated_due = col 1 0 ∷ lit Null ∷ col 1 2 ∷ col 1 3 ∷ col 1 4 ∷ col 1 5 ∷ col 0 1 ∷ []
 
-update_due_is : IsUpdate registry link_update_due 6 10 (equals 2 0 ∷ []) updated_due
+pub update_links_due : (v due : ℤ) → Alters links.tree (codes "UPDATE link SET due = ?2 WHERE domain = ?1") (Int v ∷ Int due ∷ []) (links_to (λ xs. update_where (link_with_domain v) (λ x. record x { due = due }) xs))
 unfolding understood everything
-update_due_is = record { command = refl; plain = (refl, refl) }
-
-pub update_links_due : (v due : ℤ) → Alters links.tree link_update_due (Int v ∷ Int due ∷ []) (links_to (λ xs. update_where (link_with_domain v) (λ x. record x { due = due }) xs))
-update_links_due v due = alters link_part link_update_due (Int v ∷ Int due ∷ []) (λ xs. update_where (link_with_domain v) (λ x. record x { due = due }) xs) update_due_is.plain (ap writes_tables update_due_is.command)
-    (updates links registry 6 link_part.table link_part.listed link_update_due (Int v ∷ Int due ∷ []) _ updated_due (link_with_domain v) (λ x. record x { due = due }) (λ x. last_term (at_ints false Eq x.domain v))
-    (record { row = λ x. refl; key = λ x. refl }) update_due_is)
+update_links_due v due = update_by link_part (link_with_domain v) (λ x. record x { due = due }) (equals 2 0 ∷ []) updated_due (record { command = refl; plain = (refl, refl) }) (λ x. last_term (at_ints false Eq x.domain v)) (record { row = λ x. refl; key = λ x. refl })
 
 -- ---- line
 
@@ -162,7 +151,7 @@ pub append_line : (x : LineRow) → Alters lines.tree line_append (drop 1 (line_
 unfolding understood everything
 append_line = append_by line_part line_shown (λ x id. record x { id = id }) 10 (record { command = refl; plain = (refl, refl) }) (record { values = λ x. refl; casts = λ x. simp (cast_int, cast_null, cast_text, cast_maybe_int, cast_maybe_text); row = λ x id. refl })
 
-pub remove_lines_by_id : (v : ℤ) → Alters lines.tree line_remove_id (Int v ∷ []) (lines_to (λ xs. delete_where (line_with_id v) xs))
+pub remove_lines_by_id : (v : ℤ) → Alters lines.tree (codes "DELETE FROM line WHERE id = ?1") (Int v ∷ []) (lines_to (λ xs. delete_where (line_with_id v) xs))
 unfolding understood everything
 remove_lines_by_id v = remove_by line_part (line_with_id v) (equals 0 0 ∷ []) (record { command = refl; plain = (refl, refl) }) (λ x. last_term (at_ints false Eq x.id v))
 
@@ -176,7 +165,7 @@ pub append_message : (x : MessageRow) → Alters messages.tree message_append (d
 unfolding understood everything
 append_message = append_by message_part message_shown (λ x id. record x { id = id }) 7 (record { command = refl; plain = (refl, refl) }) (record { values = λ x. refl; casts = λ x. simp (cast_int, cast_null, cast_text, cast_maybe_int, cast_maybe_text); row = λ x id. refl })
 
-pub remove_messages_by_id : (v : ℤ) → Alters messages.tree message_remove_id (Int v ∷ []) (messages_to (λ xs. delete_where (message_with_id v) xs))
+pub remove_messages_by_id : (v : ℤ) → Alters messages.tree (codes "DELETE FROM message WHERE id = ?1") (Int v ∷ []) (messages_to (λ xs. delete_where (message_with_id v) xs))
 unfolding understood everything
 remove_messages_by_id v = remove_by message_part (message_with_id v) (equals 0 0 ∷ []) (record { command = refl; plain = (refl, refl) }) (λ x. last_term (at_ints false Eq x.id v))
 
@@ -190,11 +179,11 @@ pub append_transfer : (x : TransferRow) → Alters transfers.tree transfer_appen
 unfolding understood everything
 append_transfer = append_by transfer_part transfer_shown (λ x id. record x { id = id }) 8 (record { command = refl; plain = (refl, refl) }) (record { values = λ x. refl; casts = λ x. simp (cast_int, cast_null, cast_text, cast_maybe_int, cast_maybe_text); row = λ x id. refl })
 
-pub remove_transfers_by_contact : (v : ℤ) → Alters transfers.tree transfer_remove_contact (Int v ∷ []) (transfers_to (λ xs. delete_where (transfer_with_contact v) xs))
+pub remove_transfers_by_contact : (v : ℤ) → Alters transfers.tree (codes "DELETE FROM transfer WHERE contact = ?1") (Int v ∷ []) (transfers_to (λ xs. delete_where (transfer_with_contact v) xs))
 unfolding understood everything
 remove_transfers_by_contact v = remove_by transfer_part (transfer_with_contact v) (equals 2 0 ∷ []) (record { command = refl; plain = (refl, refl) }) (λ x. last_term (at_points_to x.contact v))
 
-pub remove_transfers_by_domain : (v : ℤ) → Alters transfers.tree transfer_remove_domain (Int v ∷ []) (transfers_to (λ xs. delete_where (transfer_with_domain v) xs))
+pub remove_transfers_by_domain : (v : ℤ) → Alters transfers.tree (codes "DELETE FROM transfer WHERE domain = ?1") (Int v ∷ []) (transfers_to (λ xs. delete_where (transfer_with_domain v) xs))
 unfolding understood everything
 remove_transfers_by_domain v = remove_by transfer_part (transfer_with_domain v) (equals 3 0 ∷ []) (record { command = refl; plain = (refl, refl) }) (λ x. last_term (at_points_to x.domain v))
 

@@ -1,26 +1,19 @@
 -- Domains, and how they lie in their table.
-use Rattle.std.specs.Prelude.{◌&&◌, Bool, int_le, int_lt, ℕ, ℤ, List, [], ◌∷◌, refl}
-use Rattle.std.specs.declared.cmp.Ordering.{Ordering}
+use Rattle.std.specs.{Prelude.{◌&&◌, Bool, int_le, int_lt, ℕ, ℤ, List, [], ◌∷◌, refl}, declared.cmp.Ordering.Ordering}
 use Rattle.std.specs.Ordering.{int_cmp, int_eq, on}
-use Rattle.sqlite_value.specs.declared.value.Value.TheVariants.{Int, Null, Text}
-use Rattle.sqlite_value.specs.Order.{Row}
-use Rattle.sqlite_typed.specs.Columns.{or_null}
-use Rattle.sqlite_typed.specs.Tests.{bytes_eq}
+use Rattle.sqlite_value.specs.{declared.value.Value.TheVariants.{Int, Text}, Order.Row}
+use Rattle.sqlite_typed.specs.{Columns.or_null, Tests.bytes_eq}
 use Rattle.sqlite_keyed.specs.Lists.{sort_by}
-use Rattle.sqlrows.specs.Layouts.{Layout}
-use Rattle.sqlrows.specs.inner.Layouts.{by_then_key}
+use Rattle.sqlrows.specs.{Layouts.Layout, inner.Layouts.by_then_key}
+use Rattle.sqltables.specs.inner.Rows.{stored}
 pub use Rattle.sqltables.specs.declared.domain.DomainRow.{DomainRow}
-
--- as it is stored: its key, NULL in the key's column, and then the others
-abbrev pub domain_row : DomainRow → Row
-domain_row x = Int x.id ∷ Null ∷ Text x.name ∷ Int x.creator ∷ Int x.serial ∷ Int x.sponsor ∷ Int x.created ∷ Int x.years ∷ or_null Int x.transferred ∷ or_null Int x.updated ∷ Text x.statuses ∷ Text x.secret ∷ Int x.registrant ∷ or_null Int x.deleted ∷ or_null Int x.restore_requested ∷ Int x.due ∷ []
 
 -- as a query shows it, and as parameters
 abbrev pub domain_shown : DomainRow → Row
 domain_shown x = Int x.id ∷ Text x.name ∷ Int x.creator ∷ Int x.serial ∷ Int x.sponsor ∷ Int x.created ∷ Int x.years ∷ or_null Int x.transferred ∷ or_null Int x.updated ∷ Text x.statuses ∷ Text x.secret ∷ Int x.registrant ∷ or_null Int x.deleted ∷ or_null Int x.restore_requested ∷ Int x.due ∷ []
 
 abbrev pub domains : Layout DomainRow
-domains = record { tree = 5; key = λ x. x.id; to_row = domain_row; keyed = λ x. refl }
+domains = record { tree = 5; key = λ x. x.id; to_row = λ x. stored (domain_shown x); keyed = λ x. refl }
 
 abbrev pub domain_with_id : ℤ → DomainRow → Bool
 domain_with_id v x = int_eq x.id v

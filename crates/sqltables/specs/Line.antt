@@ -1,24 +1,18 @@
 -- Lines of accounts, and how they lie in their table.
-use Rattle.std.specs.Prelude.{◌&&◌, Bool, ℤ, [], ◌∷◌, refl}
-use Rattle.std.specs.Ordering.{int_eq}
-use Rattle.sqlite_value.specs.declared.value.Value.TheVariants.{Int, Null}
-use Rattle.sqlite_value.specs.Order.{Row}
+use Rattle.std.specs.{Prelude.{◌&&◌, Bool, ℤ, [], ◌∷◌, refl}, Ordering.int_eq}
+use Rattle.sqlite_value.specs.{declared.value.Value.TheVariants.Int, Order.Row}
 use Rattle.sqlite_keyed.specs.Rules.{points_to}
 use Rattle.sqlite_typed.specs.Columns.{or_null}
 use Rattle.sqlrows.specs.Layouts.{Layout}
-pub use Rattle.sqltables.specs.declared.line.LineRow.{LineRow}
-pub use Rattle.sqltables.specs.declared.line.GraceRow.{GraceRow}
-
--- as it is stored: its key, NULL in the key's column, and then the others
-abbrev pub line_row : LineRow → Row
-line_row x = Int x.id ∷ Null ∷ Int x.account ∷ Int x.kind ∷ or_null Int x.creator ∷ or_null Int x.serial ∷ Int x.years ∷ Int x.cents ∷ or_null Int x.grace.started ∷ or_null Int x.grace.ends ∷ or_null Int x.refunded ∷ Int x.recorded ∷ []
+use Rattle.sqltables.specs.inner.Rows.{stored}
+pub use Rattle.sqltables.specs.declared.line.{LineRow.LineRow, GraceRow.GraceRow}
 
 -- as a query shows it, and as parameters
 abbrev pub line_shown : LineRow → Row
 line_shown x = Int x.id ∷ Int x.account ∷ Int x.kind ∷ or_null Int x.creator ∷ or_null Int x.serial ∷ Int x.years ∷ Int x.cents ∷ or_null Int x.grace.started ∷ or_null Int x.grace.ends ∷ or_null Int x.refunded ∷ Int x.recorded ∷ []
 
 abbrev pub lines : Layout LineRow
-lines = record { tree = 11; key = λ x. x.id; to_row = line_row; keyed = λ x. refl }
+lines = record { tree = 11; key = λ x. x.id; to_row = λ x. stored (line_shown x); keyed = λ x. refl }
 
 abbrev pub line_with_account : ℤ → LineRow → Bool
 line_with_account v x = int_eq x.account v

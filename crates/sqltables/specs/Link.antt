@@ -1,23 +1,18 @@
 -- What domains name: contacts in a role, and hosts, and how they lie in their table.
-use Rattle.std.specs.Prelude.{◌&&◌, Bool, int_le, ℤ, [], ◌∷◌, refl}
-use Rattle.std.specs.Ordering.{int_eq}
-use Rattle.sqlite_value.specs.declared.value.Value.TheVariants.{Int, Null}
-use Rattle.sqlite_value.specs.Order.{Row}
+use Rattle.std.specs.{Prelude.{◌&&◌, Bool, int_le, ℤ, [], ◌∷◌, refl}, Ordering.int_eq}
+use Rattle.sqlite_value.specs.{declared.value.Value.TheVariants.Int, Order.Row}
 use Rattle.sqlite_keyed.specs.Rules.{points_to}
 use Rattle.sqlite_typed.specs.Columns.{or_null}
 use Rattle.sqlrows.specs.Layouts.{Layout}
+use Rattle.sqltables.specs.inner.Rows.{stored}
 pub use Rattle.sqltables.specs.declared.link.LinkRow.{LinkRow}
-
--- as it is stored: its key, NULL in the key's column, and then the others
-abbrev pub link_row : LinkRow → Row
-link_row x = Int x.id ∷ Null ∷ Int x.domain ∷ or_null Int x.contact ∷ or_null Int x.host ∷ Int x.role ∷ Int x.due ∷ []
 
 -- as a query shows it, and as parameters
 abbrev pub link_shown : LinkRow → Row
 link_shown x = Int x.id ∷ Int x.domain ∷ or_null Int x.contact ∷ or_null Int x.host ∷ Int x.role ∷ Int x.due ∷ []
 
 abbrev pub links : Layout LinkRow
-links = record { tree = 10; key = λ x. x.id; to_row = link_row; keyed = λ x. refl }
+links = record { tree = 10; key = λ x. x.id; to_row = λ x. stored (link_shown x); keyed = λ x. refl }
 
 abbrev pub link_with_domain : ℤ → LinkRow → Bool
 link_with_domain v x = int_eq x.domain v

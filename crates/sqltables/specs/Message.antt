@@ -1,25 +1,18 @@
 -- Messages that wait, how they lie in their table, and the order of a queue.
-use Rattle.std.specs.Prelude.{◌&&◌, Bool, filter, ℤ, List, [], ◌∷◌, refl}
-use Rattle.std.specs.declared.cmp.Ordering.{Ordering}
-use Rattle.std.specs.Ordering.{int_cmp, int_eq, on}
-use Rattle.sqlite_value.specs.declared.value.Value.TheVariants.{Int, Null, Text}
-use Rattle.sqlite_value.specs.Order.{Row}
+use Rattle.std.specs.{Prelude.{◌&&◌, Bool, filter, ℤ, List, [], ◌∷◌, refl}, declared.cmp.Ordering.Ordering, Ordering.{int_cmp, int_eq, on}}
+use Rattle.sqlite_value.specs.{declared.value.Value.TheVariants.{Int, Text}, Order.Row}
 use Rattle.sqlite_keyed.specs.Lists.{sort_by}
 use Rattle.sqlite_typed.specs.Tests.{bytes_cmp, bytes_eq}
-use Rattle.sqlrows.specs.Layouts.{Layout}
-use Rattle.sqlrows.specs.inner.Layouts.{by_then_key}
+use Rattle.sqlrows.specs.{Layouts.Layout, inner.Layouts.by_then_key}
+use Rattle.sqltables.specs.inner.Rows.{stored}
 pub use Rattle.sqltables.specs.declared.message.MessageRow.{MessageRow}
-
--- as it is stored: its key, NULL in the key's column, and then the others
-abbrev pub message_row : MessageRow → Row
-message_row x = Int x.id ∷ Null ∷ Int x.account ∷ Int x.moment ∷ Int x.class ∷ Int x.number ∷ Text x.name ∷ Int x.subject ∷ Int x.notice ∷ []
 
 -- as a query shows it, and as parameters
 abbrev pub message_shown : MessageRow → Row
 message_shown x = Int x.id ∷ Int x.account ∷ Int x.moment ∷ Int x.class ∷ Int x.number ∷ Text x.name ∷ Int x.subject ∷ Int x.notice ∷ []
 
 abbrev pub messages : Layout MessageRow
-messages = record { tree = 12; key = λ x. x.id; to_row = message_row; keyed = λ x. refl }
+messages = record { tree = 12; key = λ x. x.id; to_row = λ x. stored (message_shown x); keyed = λ x. refl }
 
 abbrev pub message_with_account : ℤ → MessageRow → Bool
 message_with_account v x = int_eq x.account v

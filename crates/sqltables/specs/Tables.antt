@@ -1,228 +1,128 @@
--- The tables of the registry and the texts of its statements.
-use Rattle.std.specs.Prelude.{[], ◌∷◌, codes, ℤ, pos}
-use Rattle.sqlite.specs.Table.{Table}
-use Rattle.sqlite.specs.Schema.{Schema}
-use Rattle.sqlite_schema.specs.declared.schema.Index.{Index}
-use Rattle.sqlite.specs.Kind.TheVariants.{Integer, Text, Blob}
+-- The tables of the registry.
+use Rattle.std.specs.Prelude.{[], ◌∷◌, ◌++◌, codes, List, map, ℕ, ℤ, pos}
+use Rattle.sqlite.specs.{Table.Table, Schema.Schema, Kind.TheVariants.{Integer, Text, Blob}}
+use Rattle.sqlite_schema.specs.declared.schema.{Column.Column, Index.Index}
 use Rattle.sqlite_catalog.specs.Change.{created, indexed}
 use Rattle.sqlrows.specs.Columns.{filled, nullable, keyed_table, index_on, reference_to, no_schema}
-
--- ---- meta
+use Rattle.sqltables.specs.inner.Tables.{line_create}
 
 abbrev pub meta : Table
 meta = keyed_table (codes "meta") (filled (codes "version") Integer ∷ filled (codes "clock") Integer ∷ filled (codes "zone") Text ∷ filled (codes "reserved") Text ∷ filled (codes "days_add") Integer ∷ filled (codes "days_auto_renew") Integer ∷ filled (codes "days_renew") Integer ∷ filled (codes "days_transfer") Integer ∷ filled (codes "days_redemption") Integer ∷ filled (codes "days_restore") Integer ∷ filled (codes "days_pending_delete") Integer ∷ filled (codes "days_answer") Integer ∷ filled (codes "days_lock") Integer ∷ filled (codes "price_create") Integer ∷ filled (codes "price_renew") Integer ∷ filled (codes "price_transfer") Integer ∷ []) ([]) ([])
 
--- ---- account
-
 abbrev pub account : Table
 account = keyed_table (codes "account") (filled (codes "ident") Text ∷ filled (codes "commands") Integer ∷ filled (codes "messages") Integer ∷ filled (codes "serial") Integer ∷ filled (codes "waiting") Integer ∷ filled (codes "balance") Blob ∷ filled (codes "held") Integer ∷ []) ((2 ∷ []) ∷ []) ([])
-
--- ---- contact
 
 abbrev pub contact : Table
 contact = keyed_table (codes "contact") (filled (codes "name") Text ∷ filled (codes "creator") Integer ∷ filled (codes "serial") Integer ∷ filled (codes "sponsor") Integer ∷ filled (codes "created") Integer ∷ nullable (codes "transferred") Integer ∷ nullable (codes "updated") Integer ∷ filled (codes "statuses") Text ∷ filled (codes "secret") Text ∷ filled (codes "postal_name") Text ∷ nullable (codes "org") Text ∷ filled (codes "street") Text ∷ filled (codes "city") Text ∷ nullable (codes "state") Text ∷ nullable (codes "postal_code") Text ∷ filled (codes "country") Text ∷ nullable (codes "voice") Text ∷ nullable (codes "due") Integer ∷ filled (codes "mail") Text ∷ []) ((2 ∷ []) ∷ []) (reference_to (codes "account") 5 ∷ [])
 
--- ---- domain
-
 abbrev pub domain : Table
 domain = keyed_table (codes "domain") (filled (codes "name") Text ∷ filled (codes "creator") Integer ∷ filled (codes "serial") Integer ∷ filled (codes "sponsor") Integer ∷ filled (codes "created") Integer ∷ filled (codes "years") Integer ∷ nullable (codes "transferred") Integer ∷ nullable (codes "updated") Integer ∷ filled (codes "statuses") Text ∷ filled (codes "secret") Text ∷ filled (codes "registrant") Integer ∷ nullable (codes "deleted") Integer ∷ nullable (codes "restore_requested") Integer ∷ filled (codes "due") Integer ∷ []) ((2 ∷ []) ∷ []) (reference_to (codes "account") 5 ∷ reference_to (codes "contact") 12 ∷ [])
-
--- ---- host
 
 abbrev pub host : Table
 host = keyed_table (codes "host") (filled (codes "name") Text ∷ filled (codes "creator") Integer ∷ filled (codes "serial") Integer ∷ filled (codes "above") Text ∷ nullable (codes "external_sponsor") Integer ∷ nullable (codes "sponsor") Integer ∷ filled (codes "created") Integer ∷ nullable (codes "updated") Integer ∷ filled (codes "statuses") Text ∷ []) ((2 ∷ []) ∷ []) (reference_to (codes "account") 6 ∷ reference_to (codes "account") 7 ∷ [])
 
--- ---- address
-
 abbrev pub address : Table
 address = keyed_table (codes "address") (filled (codes "host") Integer ∷ filled (codes "address") Text ∷ []) ([]) (reference_to (codes "host") 2 ∷ [])
-
--- ---- link
 
 abbrev pub link : Table
 link = keyed_table (codes "link") (filled (codes "domain") Integer ∷ nullable (codes "contact") Integer ∷ nullable (codes "host") Integer ∷ filled (codes "role") Integer ∷ filled (codes "due") Integer ∷ []) ([]) (reference_to (codes "domain") 2 ∷ reference_to (codes "contact") 3 ∷ reference_to (codes "host") 4 ∷ [])
 
--- ---- line
+-- the table of the lines, with these columns after the first seven
+abbrev pub line_with : List Column → Table
+line_with more = keyed_table (codes "line") (filled (codes "account") Integer ∷ filled (codes "kind") Integer ∷ nullable (codes "creator") Integer ∷ nullable (codes "serial") Integer ∷ filled (codes "years") Integer ∷ filled (codes "cents") Integer ∷ nullable (codes "started") Integer ∷ more) ([]) (reference_to (codes "account") 2 ∷ [])
 
 abbrev pub line : Table
-line = keyed_table (codes "line") (filled (codes "account") Integer ∷ filled (codes "kind") Integer ∷ nullable (codes "creator") Integer ∷ nullable (codes "serial") Integer ∷ filled (codes "years") Integer ∷ filled (codes "cents") Integer ∷ nullable (codes "started") Integer ∷ nullable (codes "ends") Integer ∷ nullable (codes "refunded") Integer ∷ filled (codes "recorded") Integer ∷ []) ([]) (reference_to (codes "account") 2 ∷ [])
-
--- ---- message
+line = line_with (nullable (codes "ends") Integer ∷ nullable (codes "refunded") Integer ∷ filled (codes "recorded") Integer ∷ [])
 
 abbrev pub message : Table
 message = keyed_table (codes "message") (filled (codes "account") Integer ∷ filled (codes "moment") Integer ∷ filled (codes "class") Integer ∷ filled (codes "number") Integer ∷ filled (codes "name") Text ∷ filled (codes "subject") Integer ∷ filled (codes "notice") Integer ∷ []) ([]) (reference_to (codes "account") 2 ∷ [])
 
--- ---- transfer
-
 abbrev pub transfer : Table
 transfer = keyed_table (codes "transfer") (nullable (codes "contact") Integer ∷ nullable (codes "domain") Integer ∷ filled (codes "requester") Integer ∷ filled (codes "losing") Integer ∷ filled (codes "requested") Integer ∷ filled (codes "ac_date") Integer ∷ nullable (codes "due") Integer ∷ filled (codes "state") Integer ∷ []) ([]) (reference_to (codes "contact") 2 ∷ reference_to (codes "domain") 3 ∷ reference_to (codes "account") 4 ∷ reference_to (codes "account") 5 ∷ [])
-
--- ---- days
 
 abbrev pub days : Table
 days = keyed_table (codes "days") (filled (codes "starts") Integer ∷ filled (codes "days_add") Integer ∷ filled (codes "days_auto_renew") Integer ∷ filled (codes "days_renew") Integer ∷ filled (codes "days_transfer") Integer ∷ filled (codes "days_redemption") Integer ∷ filled (codes "days_restore") Integer ∷ filled (codes "days_pending_delete") Integer ∷ filled (codes "days_answer") Integer ∷ filled (codes "days_lock") Integer ∷ []) ([]) ([])
 
+-- ---- what is made, in this schema and in the one before it, which differ in the table of the lines
+
+-- a table, and the text that makes it
+pub record Making : Type 0 where
+  pub text : List ℕ
+  pub table : Table
+
+abbrev pub making : List ℕ → Table → Making
+making text table = record { text = text; table = table }
+
+abbrev pub created_all : Schema → List Making → Schema
+created_all schema [] = schema
+created_all schema (it ∷ more) = created_all (created schema it.table) more
+
+abbrev pub before_lines : List Making
+before_lines =
+    making (codes "CREATE TABLE meta (id INTEGER PRIMARY KEY, version INTEGER NOT NULL, clock INTEGER NOT NULL, zone TEXT NOT NULL, reserved TEXT NOT NULL, days_add INTEGER NOT NULL, days_auto_renew INTEGER NOT NULL, days_renew INTEGER NOT NULL, days_transfer INTEGER NOT NULL, days_redemption INTEGER NOT NULL, days_restore INTEGER NOT NULL, days_pending_delete INTEGER NOT NULL, days_answer INTEGER NOT NULL, days_lock INTEGER NOT NULL, price_create INTEGER NOT NULL, price_renew INTEGER NOT NULL, price_transfer INTEGER NOT NULL) STRICT") meta ∷
+    making (codes "CREATE TABLE account (id INTEGER PRIMARY KEY, ident TEXT NOT NULL UNIQUE, commands INTEGER NOT NULL, messages INTEGER NOT NULL, serial INTEGER NOT NULL, waiting INTEGER NOT NULL, balance BLOB NOT NULL, held INTEGER NOT NULL) STRICT") account ∷
+    making (codes "CREATE TABLE contact (id INTEGER PRIMARY KEY, name TEXT NOT NULL UNIQUE, creator INTEGER NOT NULL, serial INTEGER NOT NULL, sponsor INTEGER NOT NULL REFERENCES account (id), created INTEGER NOT NULL, transferred INTEGER, updated INTEGER, statuses TEXT NOT NULL, secret TEXT NOT NULL, postal_name TEXT NOT NULL, org TEXT, street TEXT NOT NULL, city TEXT NOT NULL, state TEXT, postal_code TEXT, country TEXT NOT NULL, voice TEXT, due INTEGER, mail TEXT NOT NULL) STRICT") contact ∷
+    making (codes "CREATE TABLE domain (id INTEGER PRIMARY KEY, name TEXT NOT NULL UNIQUE, creator INTEGER NOT NULL, serial INTEGER NOT NULL, sponsor INTEGER NOT NULL REFERENCES account (id), created INTEGER NOT NULL, years INTEGER NOT NULL, transferred INTEGER, updated INTEGER, statuses TEXT NOT NULL, secret TEXT NOT NULL, registrant INTEGER NOT NULL REFERENCES contact (id), deleted INTEGER, restore_requested INTEGER, due INTEGER NOT NULL) STRICT") domain ∷
+    making (codes "CREATE TABLE host (id INTEGER PRIMARY KEY, name TEXT NOT NULL UNIQUE, creator INTEGER NOT NULL, serial INTEGER NOT NULL, above TEXT NOT NULL, external_sponsor INTEGER REFERENCES account (id), sponsor INTEGER REFERENCES account (id), created INTEGER NOT NULL, updated INTEGER, statuses TEXT NOT NULL) STRICT") host ∷
+    making (codes "CREATE TABLE address (id INTEGER PRIMARY KEY, host INTEGER NOT NULL REFERENCES host (id), address TEXT NOT NULL) STRICT") address ∷
+    making (codes "CREATE TABLE link (id INTEGER PRIMARY KEY, domain INTEGER NOT NULL REFERENCES domain (id), contact INTEGER REFERENCES contact (id), host INTEGER REFERENCES host (id), role INTEGER NOT NULL, due INTEGER NOT NULL) STRICT") link ∷ []
+
+abbrev pub makings : List ℕ → Table → List Making
+makings text line =
+    before_lines ++
+    making text line ∷
+    making (codes "CREATE TABLE message (id INTEGER PRIMARY KEY, account INTEGER NOT NULL REFERENCES account (id), moment INTEGER NOT NULL, class INTEGER NOT NULL, number INTEGER NOT NULL, name TEXT NOT NULL, subject INTEGER NOT NULL, notice INTEGER NOT NULL) STRICT") message ∷
+    making (codes "CREATE TABLE transfer (id INTEGER PRIMARY KEY, contact INTEGER REFERENCES contact (id), domain INTEGER REFERENCES domain (id), requester INTEGER NOT NULL REFERENCES account (id), losing INTEGER NOT NULL REFERENCES account (id), requested INTEGER NOT NULL, ac_date INTEGER NOT NULL, due INTEGER, state INTEGER NOT NULL) STRICT") transfer ∷ []
+
+-- an index: its text, the place of its table, and the table
+pub record Indexing : Type 0 where
+  pub text : List ℕ
+  pub at : ℕ
+  pub table : Table
+  pub index : Index
+
+abbrev pub indexing : List ℕ → ℕ → Table → ℕ → List ℕ → List ℕ → Indexing
+indexing text at table tree name columns = record { text = text; at = at; table = record table { tree = tree }; index = index_on tree name columns }
+
+abbrev pub indexed_by : Schema → List Indexing → Schema
+indexed_by schema [] = schema
+indexed_by schema (it ∷ more) = indexed_by (indexed schema it.table it.index) more
+
+-- each keeps its entries in the order of the columns and then of the rows' numbers
+abbrev pub indexings : Table → List Indexing
+indexings line =
+    indexing (codes "CREATE INDEX contact_due ON contact (due)") 2 contact 3 (codes "contact_due") (19 ∷ []) ∷
+    indexing (codes "CREATE INDEX domain_registrant ON domain (registrant)") 3 domain 5 (codes "domain_registrant") (12 ∷ []) ∷
+    indexing (codes "CREATE INDEX domain_due ON domain (due)") 3 domain 5 (codes "domain_due") (15 ∷ []) ∷
+    indexing (codes "CREATE INDEX domain_sponsor ON domain (sponsor, due)") 3 domain 5 (codes "domain_sponsor") (5 ∷ 15 ∷ []) ∷
+    indexing (codes "CREATE INDEX host_above ON host (above)") 4 host 7 (codes "host_above") (5 ∷ []) ∷
+    indexing (codes "CREATE INDEX address_host ON address (host)") 5 address 9 (codes "address_host") (2 ∷ []) ∷
+    indexing (codes "CREATE INDEX link_domain ON link (domain)") 6 link 10 (codes "link_domain") (2 ∷ []) ∷
+    indexing (codes "CREATE INDEX link_contact ON link (contact)") 6 link 10 (codes "link_contact") (3 ∷ []) ∷
+    indexing (codes "CREATE INDEX link_host ON link (host)") 6 link 10 (codes "link_host") (4 ∷ []) ∷
+    indexing (codes "CREATE INDEX line_object ON line (account, creator, serial)") 7 line 11 (codes "line_object") (2 ∷ 4 ∷ 5 ∷ []) ∷
+    indexing (codes "CREATE INDEX message_queue ON message (account, moment, class, number, name, subject, notice)") 8 message 12 (codes "message_queue") (2 ∷ 3 ∷ 4 ∷ 5 ∷ 6 ∷ 7 ∷ 8 ∷ []) ∷
+    indexing (codes "CREATE INDEX transfer_contact ON transfer (contact)") 9 transfer 13 (codes "transfer_contact") (2 ∷ []) ∷
+    indexing (codes "CREATE INDEX transfer_domain ON transfer (domain)") 9 transfer 13 (codes "transfer_domain") (3 ∷ []) ∷
+    indexing (codes "CREATE INDEX transfer_requester ON transfer (requester, due)") 9 transfer 13 (codes "transfer_requester") (4 ∷ 8 ∷ []) ∷
+    indexing (codes "CREATE INDEX contact_sponsor ON contact (sponsor, due)") 2 contact 3 (codes "contact_sponsor") (5 ∷ 19 ∷ []) ∷
+    indexing (codes "CREATE INDEX domain_roid ON domain (creator, serial)") 3 domain 5 (codes "domain_roid") (3 ∷ 4 ∷ []) ∷
+    indexing (codes "CREATE INDEX domain_registrant_due ON domain (registrant, due)") 3 domain 5 (codes "domain_registrant_due") (12 ∷ 15 ∷ []) ∷
+    indexing (codes "CREATE INDEX link_contact_due ON link (contact, due)") 6 link 10 (codes "link_contact_due") (3 ∷ 6 ∷ []) ∷
+    indexing (codes "CREATE INDEX link_host_due ON link (host, due)") 6 link 10 (codes "link_host_due") (4 ∷ 6 ∷ []) ∷
+    indexing (codes "CREATE INDEX transfer_losing ON transfer (losing, due)") 9 transfer 13 (codes "transfer_losing") (5 ∷ 8 ∷ []) ∷ []
+
+abbrev pub made_with : List ℕ → Table → Schema
+made_with text line = indexed_by (created_all no_schema (makings text line)) (indexings line)
+
+-- the texts, in their order
+abbrev pub texts_with : List ℕ → Table → List (List ℕ)
+texts_with text line = map (λ it. it.text) (makings text line) ++ map (λ it. it.text) (indexings line)
+
 -- ---- the schema
 
-abbrev pub with_meta : Schema
-with_meta = created no_schema meta
-
-abbrev pub with_account : Schema
-with_account = created with_meta account
-
-abbrev pub with_contact : Schema
-with_contact = created with_account contact
-
-abbrev pub with_domain : Schema
-with_domain = created with_contact domain
-
-abbrev pub with_host : Schema
-with_host = created with_domain host
-
-abbrev pub with_address : Schema
-with_address = created with_host address
-
-abbrev pub with_link : Schema
-with_link = created with_address link
-
-abbrev pub with_line : Schema
-with_line = created with_link line
-
-abbrev pub with_message : Schema
-with_message = created with_line message
-
-abbrev pub with_transfer : Schema
-with_transfer = created with_message transfer
-
--- ---- indexes, each of which keeps its entries in the order of the columns and then of the rows' numbers
-
-abbrev pub contact_due : Index
-contact_due = index_on 3 (codes "contact_due") (19 ∷ [])
-
-abbrev pub domain_registrant : Index
-domain_registrant = index_on 5 (codes "domain_registrant") (12 ∷ [])
-
-abbrev pub domain_due : Index
-domain_due = index_on 5 (codes "domain_due") (15 ∷ [])
-
-abbrev pub domain_sponsor : Index
-domain_sponsor = index_on 5 (codes "domain_sponsor") (5 ∷ 15 ∷ [])
-
-abbrev pub host_above : Index
-host_above = index_on 7 (codes "host_above") (5 ∷ [])
-
-abbrev pub address_host : Index
-address_host = index_on 9 (codes "address_host") (2 ∷ [])
-
-abbrev pub link_domain : Index
-link_domain = index_on 10 (codes "link_domain") (2 ∷ [])
-
-abbrev pub link_contact : Index
-link_contact = index_on 10 (codes "link_contact") (3 ∷ [])
-
-abbrev pub link_host : Index
-link_host = index_on 10 (codes "link_host") (4 ∷ [])
-
-abbrev pub line_object : Index
-line_object = index_on 11 (codes "line_object") (2 ∷ 4 ∷ 5 ∷ [])
-
-abbrev pub message_queue : Index
-message_queue = index_on 12 (codes "message_queue") (2 ∷ 3 ∷ 4 ∷ 5 ∷ 6 ∷ 7 ∷ 8 ∷ [])
-
-abbrev pub transfer_contact : Index
-transfer_contact = index_on 13 (codes "transfer_contact") (2 ∷ [])
-
-abbrev pub transfer_domain : Index
-transfer_domain = index_on 13 (codes "transfer_domain") (3 ∷ [])
-
-abbrev pub transfer_requester : Index
-transfer_requester = index_on 13 (codes "transfer_requester") (4 ∷ 8 ∷ [])
-
-abbrev pub contact_sponsor : Index
-contact_sponsor = index_on 3 (codes "contact_sponsor") (5 ∷ 19 ∷ [])
-
-abbrev pub domain_roid : Index
-domain_roid = index_on 5 (codes "domain_roid") (3 ∷ 4 ∷ [])
-
-abbrev pub domain_registrant_due : Index
-domain_registrant_due = index_on 5 (codes "domain_registrant_due") (12 ∷ 15 ∷ [])
-
-abbrev pub link_contact_due : Index
-link_contact_due = index_on 10 (codes "link_contact_due") (3 ∷ 6 ∷ [])
-
-abbrev pub link_host_due : Index
-link_host_due = index_on 10 (codes "link_host_due") (4 ∷ 6 ∷ [])
-
-abbrev pub transfer_losing : Index
-transfer_losing = index_on 13 (codes "transfer_losing") (5 ∷ 8 ∷ [])
-
--- ---- the schema with its indexes
-
-abbrev pub with_contact_due : Schema
-with_contact_due = indexed with_transfer (record contact { tree = 3 }) contact_due
-
-abbrev pub with_domain_registrant : Schema
-with_domain_registrant = indexed with_contact_due (record domain { tree = 5 }) domain_registrant
-
-abbrev pub with_domain_due : Schema
-with_domain_due = indexed with_domain_registrant (record domain { tree = 5 }) domain_due
-
-abbrev pub with_domain_sponsor : Schema
-with_domain_sponsor = indexed with_domain_due (record domain { tree = 5 }) domain_sponsor
-
-abbrev pub with_host_above : Schema
-with_host_above = indexed with_domain_sponsor (record host { tree = 7 }) host_above
-
-abbrev pub with_address_host : Schema
-with_address_host = indexed with_host_above (record address { tree = 9 }) address_host
-
-abbrev pub with_link_domain : Schema
-with_link_domain = indexed with_address_host (record link { tree = 10 }) link_domain
-
-abbrev pub with_link_contact : Schema
-with_link_contact = indexed with_link_domain (record link { tree = 10 }) link_contact
-
-abbrev pub with_link_host : Schema
-with_link_host = indexed with_link_contact (record link { tree = 10 }) link_host
-
-abbrev pub with_line_object : Schema
-with_line_object = indexed with_link_host (record line { tree = 11 }) line_object
-
-abbrev pub with_message_queue : Schema
-with_message_queue = indexed with_line_object (record message { tree = 12 }) message_queue
-
-abbrev pub with_transfer_contact : Schema
-with_transfer_contact = indexed with_message_queue (record transfer { tree = 13 }) transfer_contact
-
-abbrev pub with_transfer_domain : Schema
-with_transfer_domain = indexed with_transfer_contact (record transfer { tree = 13 }) transfer_domain
-
-abbrev pub with_transfer_requester : Schema
-with_transfer_requester =
-    indexed with_transfer_domain (record transfer { tree = 13 }) transfer_requester
-
-abbrev pub with_contact_sponsor : Schema
-with_contact_sponsor = indexed with_transfer_requester (record contact { tree = 3 }) contact_sponsor
-
-abbrev pub with_domain_roid : Schema
-with_domain_roid = indexed with_contact_sponsor (record domain { tree = 5 }) domain_roid
-
-abbrev pub with_domain_registrant_due : Schema
-with_domain_registrant_due =
-    indexed with_domain_roid (record domain { tree = 5 }) domain_registrant_due
-
-abbrev pub with_link_contact_due : Schema
-with_link_contact_due =
-    indexed with_domain_registrant_due (record link { tree = 10 }) link_contact_due
-
-abbrev pub with_link_host_due : Schema
-with_link_host_due = indexed with_link_contact_due (record link { tree = 10 }) link_host_due
-
-abbrev pub with_transfer_losing : Schema
-with_transfer_losing = indexed with_link_host_due (record transfer { tree = 13 }) transfer_losing
-
 abbrev pub registry : Schema
-registry = created with_transfer_losing days
+registry = created (made_with line_create line) days
 
 -- the number of this schema, which the table `meta` keeps
 abbrev pub schema_number : ℤ

@@ -1,24 +1,18 @@
 -- The last transfer of each object that had one, and how they lie in their table.
-use Rattle.std.specs.Prelude.{◌&&◌, Bool, ℤ, [], ◌∷◌, refl}
-use Rattle.std.specs.Ordering.{int_eq}
-use Rattle.sqlite_value.specs.declared.value.Value.TheVariants.{Int, Null}
-use Rattle.sqlite_value.specs.Order.{Row}
+use Rattle.std.specs.{Prelude.{◌&&◌, Bool, ℤ, [], ◌∷◌, refl}, Ordering.int_eq}
+use Rattle.sqlite_value.specs.{declared.value.Value.TheVariants.Int, Order.Row}
 use Rattle.sqlite_keyed.specs.Rules.{points_to}
 use Rattle.sqlite_typed.specs.Columns.{or_null}
 use Rattle.sqlrows.specs.Layouts.{Layout}
-use Rattle.sqltables.specs.inner.Due.{falls_due, lies_within}
+use Rattle.sqltables.specs.inner.{Due.{falls_due, lies_within}, Rows.stored}
 pub use Rattle.sqltables.specs.declared.transfer.TransferRow.{TransferRow}
-
--- as it is stored: its key, NULL in the key's column, and then the others
-abbrev pub transfer_row : TransferRow → Row
-transfer_row x = Int x.id ∷ Null ∷ or_null Int x.contact ∷ or_null Int x.domain ∷ Int x.requester ∷ Int x.losing ∷ Int x.requested ∷ Int x.ac_date ∷ or_null Int x.due ∷ Int x.state ∷ []
 
 -- as a query shows it, and as parameters
 abbrev pub transfer_shown : TransferRow → Row
 transfer_shown x = Int x.id ∷ or_null Int x.contact ∷ or_null Int x.domain ∷ Int x.requester ∷ Int x.losing ∷ Int x.requested ∷ Int x.ac_date ∷ or_null Int x.due ∷ Int x.state ∷ []
 
 abbrev pub transfers : Layout TransferRow
-transfers = record { tree = 13; key = λ x. x.id; to_row = transfer_row; keyed = λ x. refl }
+transfers = record { tree = 13; key = λ x. x.id; to_row = λ x. stored (transfer_shown x); keyed = λ x. refl }
 
 abbrev pub transfer_with_contact : ℤ → TransferRow → Bool
 transfer_with_contact v x = points_to x.contact v

@@ -7,6 +7,7 @@ pub mod Due
 pub mod Faults
 pub mod FirstTables
 pub mod Reopening
+pub mod Rows
 pub mod Statements
 pub mod Stored
 pub mod Tables

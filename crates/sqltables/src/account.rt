@@ -1,13 +1,12 @@
 //! Registrars' accounts.
 ghost use Rattle.std.specs.Prelude.{◌≡◌, true, filter, map, [], ◌∷◌};
+ghost use Rattle.sqlite.specs.Values.{bound};
 ghost use Rattle.sqlite_rules.specs.Lists.{Has};
-ghost use Rattle.sqlite_value.specs.Value.{owned};
-ghost use Rattle.sqlite_value.specs.declared.value.Value.TheVariants.{Int};
-ghost use Rattle.sqlite_keyed.specs.Keyed.{insert_by};
-ghost use Rattle.sqlite_keyed.specs.Lists.{update_where};
+ghost use Rattle.sqlite_value.specs.{Value.owned, declared.value.Value.TheVariants.Int};
+ghost use Rattle.sqlite_keyed.specs.{Keyed.insert_by, Lists.update_where};
 ghost use Rattle.sqltables.specs.inner.Content.{accounts_to};
+ghost use Rattle.sqltables.specs.Account.{AccountRow, accounts, account_with_id, account_shown};
 ghost use Rattle.states.specs.States.{Finds, Makes};
-ghost use Rattle.sqltables.specs.Account.{AccountRow, accounts, account_with_id};
 
 use crate::store::RowStore;
 use basis::list::Seq;
@@ -46,9 +45,6 @@ pub struct AccountRow {
 }
 
 impl AccountRow {
-    ghost use Rattle.sqlite.specs.Values.{bound};
-    ghost use Rattle.sqltables.specs.Account.{account_shown};
-
     /// The parameter of the question that finds it.
     fn number(&self) -> [ValueRef<'_>; 1]
         ensures { bound result ≡ Int self.now.id ∷ [] }
@@ -75,8 +71,6 @@ impl AccountRow {
 }
 
 impl Record for AccountRow {
-    ghost use Rattle.sqltables.specs.Account.{account_shown};
-
     ghost shown = { account_shown };
 
     fn from_row(row: &Row) -> Result<AccountRow, Error> {

@@ -1,11 +1,11 @@
 //! Addresses of hosts.
 ghost use Rattle.std.specs.Prelude.{◌≡◌, true, filter};
-ghost use Rattle.sqlite_keyed.specs.Lists.{delete_where};
-ghost use Rattle.sqlite_keyed.specs.Keyed.{insert_by};
+ghost use Rattle.sqlite.specs.Values.{bound};
+ghost use Rattle.sqlite_keyed.specs.{Lists.delete_where, Keyed.insert_by};
 ghost use Rattle.sqltables.specs.inner.Content.{addresses_to};
+ghost use Rattle.sqltables.specs.Address.{addresses, address_with_host, address_shown};
 ghost use Rattle.states.specs.States.{Finds, Makes};
 ghost use Rattle.sqlrows.specs.inner.Layouts.{appended};
-ghost use Rattle.sqltables.specs.Address.{addresses, address_with_host};
 
 use crate::store::RowStore;
 use basis::list::Seq;
@@ -36,9 +36,6 @@ pub struct AddressRow {
 }
 
 impl AddressRow {
-    ghost use Rattle.sqlite.specs.Values.{bound};
-    ghost use Rattle.sqltables.specs.Address.{address_shown};
-
     /// Its columns as parameters, its number first.
     fn params(&self) -> [ValueRef<'_>; 3]
         ensures { bound result ≡ address_shown self.now }
@@ -48,8 +45,6 @@ impl AddressRow {
 }
 
 impl Record for AddressRow {
-    ghost use Rattle.sqltables.specs.Address.{address_shown};
-
     ghost shown = { address_shown };
 
     fn from_row(row: &Row) -> Result<AddressRow, Error> {

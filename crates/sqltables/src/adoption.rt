@@ -1,7 +1,6 @@
 //! A database that was used before, taken anew.
 ghost use Rattle.std.specs.Prelude.{◌≢◌, IfErr, IfOk};
-ghost use Rattle.sqlite.specs.Held.{state};
-ghost use Rattle.sqlite.specs.State.{HasCleanDisk};
+ghost use Rattle.sqlite.specs.{Held.state, State.HasCleanDisk};
 ghost use Rattle.sqltables.specs.inner.Adoption.{IsReread, LeavesNoMore};
 
 use crate::records::fault_of;

@@ -4,10 +4,8 @@ ghost use Rattle.sqlite_trees.specs.Tree.{Trees};
 ghost use Rattle.sqlite_value.specs.Value.{owned};
 ghost use Rattle.sqlite.specs.Values.{bound};
 ghost use Rattle.sqltables.specs.inner.Answers.{AreRight, IsAnsweredByRows, IsOf, IsPutIn, IsQueryOf, beside, is_short, lasts, lasting};
-ghost use Rattle.sqltables.specs.Content.{Content};
-ghost use Rattle.sqltables.specs.inner.Content.{IsContent};
-ghost use Rattle.sqltables.specs.inner.Statements.{AreOthersSame, Asks};
-ghost use Rattle.sqltables.specs.Tables.{registry};
+ghost use Rattle.sqltables.specs.{Content.Content, inner.Content.IsContent};
+ghost use Rattle.sqltables.specs.{inner.Statements.{AreOthersSame, Asks}, Tables.registry};
 
 use crate::records::read_all;
 use crate::{account, day, meta};

@@ -1,7 +1,6 @@
 //! Balances as they are stored: sixteen bytes, two's complement, the highest first.
-ghost use Rattle.std.specs.Prelude.{◌≡◌, ℤ, FitsSigned};
+ghost use Rattle.std.specs.{Prelude.{◌≡◌, ℤ, FitsSigned}, Int.w128};
 ghost use Rattle.sqltables.specs.inner.Balance.{balance_bytes};
-ghost use Rattle.std.specs.Int.{w128};
 
 /// A balance of so many cents, as its column stores it.
 pub fn bytes_of_balance(cents: i128) -> [u8; 16]

@@ -1,11 +1,12 @@
 //! Contacts.
 ghost use Rattle.std.specs.Prelude.{◌≡◌, true, filter, take, IfOk};
+ghost use Rattle.sqlite.specs.Values.{bound};
 ghost use Rattle.sqlite_keyed.specs.Keyed.{insert_by, next_key};
 ghost use Rattle.sqlite_keyed.specs.Lists.{delete_where, update_where};
 ghost use Rattle.sqltables.specs.inner.Content.{contacts_to};
+ghost use Rattle.sqltables.specs.Contact.{ContactRow, contact_shown, contacts, contact_with_id, contact_with_name, contact_within_due, contact_of_sponsor_within, contacts_by_due};
 ghost use Rattle.states.specs.States.{Finds, Makes};
 ghost use Rattle.sqlrows.specs.inner.Layouts.{appended};
-ghost use Rattle.sqltables.specs.Contact.{ContactRow, contact_shown, contacts, contact_with_id, contact_with_name, contact_within_due, contact_of_sponsor_within, contacts_by_due};
 
 use crate::store::RowStore;
 use basis::list::Seq;
@@ -86,9 +87,6 @@ pub struct ContactRow {
 }
 
 impl ContactRow {
-    ghost use Rattle.sqlite.specs.Values.{bound};
-    ghost use Rattle.sqltables.specs.Contact.{contact_shown};
-
     /// Its columns as parameters, its number first.
     fn params(&self) -> [ValueRef<'_>; 20]
         ensures { bound result ≡ contact_shown self.now }
@@ -124,8 +122,6 @@ fn dates_of(row: &Row) -> Result<ContactDates, Error>
 }
 
 impl Record for ContactRow {
-    ghost use Rattle.sqltables.specs.Contact.{contact_shown};
-
     ghost shown = { contact_shown };
 
     fn from_row(row: &Row) -> Result<ContactRow, Error> {

@@ -1,9 +1,9 @@
 //! Lengths of periods that are in force from a moment on.
 ghost use Rattle.std.specs.Prelude.{◌≡◌, true};
-ghost use Rattle.sqltables.specs.inner.Content.{days_to};
+ghost use Rattle.sqlite.specs.Values.{bound};
+ghost use Rattle.sqltables.specs.{inner.Content.days_to, Day.{days, day_shown}};
 ghost use Rattle.states.specs.States.{Finds, Makes};
 ghost use Rattle.sqlrows.specs.inner.Layouts.{appended};
-ghost use Rattle.sqltables.specs.Day.{days};
 
 use crate::store::RowStore;
 use basis::list::Seq;
@@ -38,9 +38,6 @@ pub struct DayRow {
 }
 
 impl DayRow {
-    ghost use Rattle.sqlite.specs.Values.{bound};
-    ghost use Rattle.sqltables.specs.Day.{day_shown};
-
     /// Its columns as parameters, its number first.
     fn params(&self) -> [ValueRef<'_>; 11]
         ensures { bound result ≡ day_shown self.now }
@@ -54,8 +51,6 @@ impl DayRow {
 }
 
 impl Record for DayRow {
-    ghost use Rattle.sqltables.specs.Day.{day_shown};
-
     ghost shown = { day_shown };
 
     fn from_row(row: &Row) -> Result<DayRow, Error> {

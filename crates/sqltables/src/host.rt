@@ -1,11 +1,12 @@
 //! Hosts.
 ghost use Rattle.std.specs.Prelude.{◌≡◌, true, filter, IfOk};
+ghost use Rattle.sqlite.specs.Values.{bound};
 ghost use Rattle.sqlite_keyed.specs.Keyed.{insert_by, next_key};
 ghost use Rattle.sqlite_keyed.specs.Lists.{delete_where, update_where};
 ghost use Rattle.sqltables.specs.inner.Content.{hosts_to};
+ghost use Rattle.sqltables.specs.Host.{hosts, host_takes_sponsor, host_with_id, host_with_name, host_with_above, host_shown};
 ghost use Rattle.states.specs.States.{Finds, Makes};
 ghost use Rattle.sqlrows.specs.inner.Layouts.{appended};
-ghost use Rattle.sqltables.specs.Host.{hosts, host_takes_sponsor, host_with_id, host_with_name, host_with_above};
 
 use crate::store::RowStore;
 use basis::list::Seq;
@@ -61,9 +62,6 @@ pub struct HostRow {
 }
 
 impl HostRow {
-    ghost use Rattle.sqlite.specs.Values.{bound};
-    ghost use Rattle.sqltables.specs.Host.{host_shown};
-
     /// Its columns as parameters, its number first.
     fn params(&self) -> [ValueRef<'_>; 10]
         ensures { bound result ≡ host_shown self.now }
@@ -77,8 +75,6 @@ impl HostRow {
 }
 
 impl Record for HostRow {
-    ghost use Rattle.sqltables.specs.Host.{host_shown};
-
     ghost shown = { host_shown };
 
     fn from_row(row: &Row) -> Result<HostRow, Error> {

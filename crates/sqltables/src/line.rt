@@ -1,11 +1,11 @@
 //! Lines of accounts.
 ghost use Rattle.std.specs.Prelude.{◌≡◌, true, filter, IfOk};
-ghost use Rattle.sqlite_keyed.specs.Lists.{delete_where};
-ghost use Rattle.sqlite_keyed.specs.Keyed.{insert_by};
+ghost use Rattle.sqlite.specs.Values.{bound};
+ghost use Rattle.sqlite_keyed.specs.{Lists.delete_where, Keyed.insert_by};
 ghost use Rattle.sqltables.specs.inner.Content.{lines_to};
+ghost use Rattle.sqltables.specs.Line.{LineRow, lines, line_with_account, line_with_id, line_of_object, line_shown};
 ghost use Rattle.states.specs.States.{Finds, Makes};
 ghost use Rattle.sqlrows.specs.inner.Layouts.{appended};
-ghost use Rattle.sqltables.specs.Line.{LineRow, lines, line_with_account, line_with_id, line_of_object, line_shown};
 
 use crate::store::RowStore;
 use basis::list::Seq;
@@ -61,9 +61,6 @@ pub struct LineRow {
 }
 
 impl LineRow {
-    ghost use Rattle.sqlite.specs.Values.{bound};
-    ghost use Rattle.sqltables.specs.Line.{line_shown};
-
     /// Its columns as parameters, its number first.
     fn params(&self) -> [ValueRef<'_>; 11]
         ensures { bound result ≡ line_shown self.now }
@@ -77,8 +74,6 @@ impl LineRow {
 }
 
 impl Record for LineRow {
-    ghost use Rattle.sqltables.specs.Line.{line_shown};
-
     ghost shown = { line_shown };
 
     fn from_row(row: &Row) -> Result<LineRow, Error> {

@@ -1,11 +1,11 @@
 //! What domains name: contacts in a role, and hosts.
 ghost use Rattle.std.specs.Prelude.{◌≡◌, true, filter, take};
-ghost use Rattle.sqlite_keyed.specs.Lists.{delete_where, update_where};
-ghost use Rattle.sqlite_keyed.specs.Keyed.{insert_by};
+ghost use Rattle.sqlite.specs.Values.{bound};
+ghost use Rattle.sqlite_keyed.specs.{Lists.{delete_where, update_where}, Keyed.insert_by};
 ghost use Rattle.sqltables.specs.inner.Content.{links_to};
+ghost use Rattle.sqltables.specs.Link.{links, link_with_domain, link_of_domains, link_with_contact, link_with_host, link_of_contact_within, link_of_host_within, link_shown};
 ghost use Rattle.states.specs.States.{Finds, Makes};
 ghost use Rattle.sqlrows.specs.inner.Layouts.{appended};
-ghost use Rattle.sqltables.specs.Link.{links, link_with_domain, link_of_domains, link_with_contact, link_with_host, link_of_contact_within, link_of_host_within};
 
 use crate::store::RowStore;
 use basis::list::Seq;
@@ -58,9 +58,6 @@ pub struct LinkRow {
 }
 
 impl LinkRow {
-    ghost use Rattle.sqlite.specs.Values.{bound};
-    ghost use Rattle.sqltables.specs.Link.{link_shown};
-
     /// Its columns as parameters, its number first.
     fn params(&self) -> [ValueRef<'_>; 6]
         ensures { bound result ≡ link_shown self.now }
@@ -73,8 +70,6 @@ impl LinkRow {
 }
 
 impl Record for LinkRow {
-    ghost use Rattle.sqltables.specs.Link.{link_shown};
-
     ghost shown = { link_shown };
 
     fn from_row(row: &Row) -> Result<LinkRow, Error> {

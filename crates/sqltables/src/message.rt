@@ -1,11 +1,11 @@
 //! Messages that wait.
 ghost use Rattle.std.specs.Prelude.{◌≡◌, true, filter, take};
-ghost use Rattle.sqlite_keyed.specs.Lists.{delete_where};
-ghost use Rattle.sqlite_keyed.specs.Keyed.{insert_by};
+ghost use Rattle.sqlite.specs.Values.{bound};
+ghost use Rattle.sqlite_keyed.specs.{Lists.delete_where, Keyed.insert_by};
 ghost use Rattle.sqltables.specs.inner.Content.{messages_to};
+ghost use Rattle.sqltables.specs.Message.{messages, message_with_id, is_same_message, queue_of, message_shown};
 ghost use Rattle.states.specs.States.{Finds, Makes};
 ghost use Rattle.sqlrows.specs.inner.Layouts.{appended};
-ghost use Rattle.sqltables.specs.Message.{messages, message_with_id, is_same_message, queue_of};
 
 use crate::store::RowStore;
 use basis::list::Seq;
@@ -49,9 +49,6 @@ pub struct MessageRow {
 }
 
 impl MessageRow {
-    ghost use Rattle.sqlite.specs.Values.{bound};
-    ghost use Rattle.sqltables.specs.Message.{message_shown};
-
     /// Its columns as parameters, its number first.
     fn params(&self) -> [ValueRef<'_>; 8]
         ensures { bound result ≡ message_shown self.now }
@@ -64,8 +61,6 @@ impl MessageRow {
 }
 
 impl Record for MessageRow {
-    ghost use Rattle.sqltables.specs.Message.{message_shown};
-
     ghost shown = { message_shown };
 
     fn from_row(row: &Row) -> Result<MessageRow, Error> {

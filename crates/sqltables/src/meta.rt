@@ -1,11 +1,11 @@
 //! What holds of the whole registry, in one row.
 ghost use Rattle.std.specs.Prelude.{◌≡◌, true, map, [], ◌∷◌};
+ghost use Rattle.sqlite.specs.Values.{bound};
 ghost use Rattle.sqlite_value.specs.Value.{owned};
-ghost use Rattle.sqlite_keyed.specs.Keyed.{insert_by};
-ghost use Rattle.sqlite_keyed.specs.Lists.{update_where};
+ghost use Rattle.sqlite_keyed.specs.{Keyed.insert_by, Lists.update_where};
 ghost use Rattle.sqltables.specs.inner.Content.{metas_to};
+ghost use Rattle.sqltables.specs.Meta.{MetaRow, meta_with_id, metas, meta_shown};
 ghost use Rattle.states.specs.States.{Finds, Makes};
-ghost use Rattle.sqltables.specs.Meta.{MetaRow, meta_with_id, metas};
 
 use crate::store::RowStore;
 use basis::list::Seq;
@@ -50,9 +50,6 @@ pub struct MetaRow {
 }
 
 impl MetaRow {
-    ghost use Rattle.sqlite.specs.Values.{bound};
-    ghost use Rattle.sqltables.specs.Meta.{meta_shown};
-
     /// The parameters of the statement that puts it.
     fn params(&self) -> [ValueRef<'_>; 17]
         ensures bound { bound result ≡ meta_shown self.now }
@@ -69,8 +66,6 @@ impl MetaRow {
 }
 
 impl Record for MetaRow {
-    ghost use Rattle.sqltables.specs.Meta.{meta_shown};
-
     ghost shown = { meta_shown };
 
     fn from_row(row: &Row) -> Result<MetaRow, Error> {

@@ -1,8 +1,7 @@
 //! What a database is, before anything is made in it: never used, a registry of this schema, or another.
 ghost use Rattle.std.specs.Prelude.{◌≡◌, IfOk};
 ghost use Rattle.sqlite.specs.Held.{state};
-ghost use Rattle.sqltables.specs.Readiness.{IsFormOf, is_numbered};
-ghost use Rattle.sqltables.specs.Tables.{registry};
+ghost use Rattle.sqltables.specs.{Readiness.{IsFormOf, is_numbered}, Tables.registry};
 
 use crate::form::Form;
 use crate::meta::MetaRow;

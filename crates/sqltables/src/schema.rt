@@ -1,38 +1,12 @@
 //! The schema: eleven tables with their indexes, made in a database that was never used; and the one before it.
 ghost use Rattle.std.specs.Prelude.{◌≡◌, true, OnOk, IsTrue};
-ghost use Rattle.sqlrows.specs.inner.Calls.{ForgetsNoFault};
-ghost use Rattle.sqlrows.specs.Columns.{no_schema};
-ghost use Rattle.sqlrows.specs.inner.Definitions.{Makes};
-ghost use Rattle.sqlite.specs.Held.{state};
-ghost use Rattle.sqlite.specs.State.{HasCleanDisk};
-ghost use Rattle.sqltables.specs.inner.Content.{IsContent};
-ghost use Rattle.sqltables.specs.Content.{no_content};
-ghost use Rattle.sqltables.specs.inner.FirstTables.{first_registry};
-ghost use Rattle.sqltables.specs.Tables.{registry};
+ghost use Rattle.sqlrows.specs.{inner.{Calls.ForgetsNoFault, Definitions.Makes}, Columns.no_schema};
+ghost use Rattle.sqlite.specs.{Held.state, State.HasCleanDisk};
+ghost use Rattle.sqltables.specs.{inner.Content.IsContent, Content.no_content};
+ghost use Rattle.sqltables.specs.{inner.FirstTables.first_registry, Tables.registry};
 
 use sqlite::{Alter, Connection, Error};
 use sqlrows::define;
-
-const META: &str =
-    "CREATE TABLE meta (id INTEGER PRIMARY KEY, version INTEGER NOT NULL, clock INTEGER NOT NULL, zone TEXT NOT NULL, reserved TEXT NOT NULL, days_add INTEGER NOT NULL, days_auto_renew INTEGER NOT NULL, days_renew INTEGER NOT NULL, days_transfer INTEGER NOT NULL, days_redemption INTEGER NOT NULL, days_restore INTEGER NOT NULL, days_pending_delete INTEGER NOT NULL, days_answer INTEGER NOT NULL, days_lock INTEGER NOT NULL, price_create INTEGER NOT NULL, price_renew INTEGER NOT NULL, price_transfer INTEGER NOT NULL) STRICT";
-
-const ACCOUNT: &str =
-    "CREATE TABLE account (id INTEGER PRIMARY KEY, ident TEXT NOT NULL UNIQUE, commands INTEGER NOT NULL, messages INTEGER NOT NULL, serial INTEGER NOT NULL, waiting INTEGER NOT NULL, balance BLOB NOT NULL, held INTEGER NOT NULL) STRICT";
-
-const CONTACT: &str =
-    "CREATE TABLE contact (id INTEGER PRIMARY KEY, name TEXT NOT NULL UNIQUE, creator INTEGER NOT NULL, serial INTEGER NOT NULL, sponsor INTEGER NOT NULL REFERENCES account (id), created INTEGER NOT NULL, transferred INTEGER, updated INTEGER, statuses TEXT NOT NULL, secret TEXT NOT NULL, postal_name TEXT NOT NULL, org TEXT, street TEXT NOT NULL, city TEXT NOT NULL, state TEXT, postal_code TEXT, country TEXT NOT NULL, voice TEXT, due INTEGER, mail TEXT NOT NULL) STRICT";
-
-const DOMAIN: &str =
-    "CREATE TABLE domain (id INTEGER PRIMARY KEY, name TEXT NOT NULL UNIQUE, creator INTEGER NOT NULL, serial INTEGER NOT NULL, sponsor INTEGER NOT NULL REFERENCES account (id), created INTEGER NOT NULL, years INTEGER NOT NULL, transferred INTEGER, updated INTEGER, statuses TEXT NOT NULL, secret TEXT NOT NULL, registrant INTEGER NOT NULL REFERENCES contact (id), deleted INTEGER, restore_requested INTEGER, due INTEGER NOT NULL) STRICT";
-
-const HOST: &str =
-    "CREATE TABLE host (id INTEGER PRIMARY KEY, name TEXT NOT NULL UNIQUE, creator INTEGER NOT NULL, serial INTEGER NOT NULL, above TEXT NOT NULL, external_sponsor INTEGER REFERENCES account (id), sponsor INTEGER REFERENCES account (id), created INTEGER NOT NULL, updated INTEGER, statuses TEXT NOT NULL) STRICT";
-
-const ADDRESS: &str =
-    "CREATE TABLE address (id INTEGER PRIMARY KEY, host INTEGER NOT NULL REFERENCES host (id), address TEXT NOT NULL) STRICT";
-
-const LINK: &str =
-    "CREATE TABLE link (id INTEGER PRIMARY KEY, domain INTEGER NOT NULL REFERENCES domain (id), contact INTEGER REFERENCES contact (id), host INTEGER REFERENCES host (id), role INTEGER NOT NULL, due INTEGER NOT NULL) STRICT";
 
 const LINE: &str =
     "CREATE TABLE line (id INTEGER PRIMARY KEY, account INTEGER NOT NULL REFERENCES account (id), kind INTEGER NOT NULL, creator INTEGER, serial INTEGER, years INTEGER NOT NULL, cents INTEGER NOT NULL, started INTEGER, ends INTEGER, refunded INTEGER, recorded INTEGER NOT NULL) STRICT";
@@ -40,91 +14,44 @@ const LINE: &str =
 const FIRST_LINE: &str =
     "CREATE TABLE line (id INTEGER PRIMARY KEY, account INTEGER NOT NULL REFERENCES account (id), kind INTEGER NOT NULL, creator INTEGER, serial INTEGER, years INTEGER NOT NULL, cents INTEGER NOT NULL, started INTEGER, refunded INTEGER, recorded INTEGER NOT NULL) STRICT";
 
-const MESSAGE: &str =
-    "CREATE TABLE message (id INTEGER PRIMARY KEY, account INTEGER NOT NULL REFERENCES account (id), moment INTEGER NOT NULL, class INTEGER NOT NULL, number INTEGER NOT NULL, name TEXT NOT NULL, subject INTEGER NOT NULL, notice INTEGER NOT NULL) STRICT";
-
-const TRANSFER: &str =
-    "CREATE TABLE transfer (id INTEGER PRIMARY KEY, contact INTEGER REFERENCES contact (id), domain INTEGER REFERENCES domain (id), requester INTEGER NOT NULL REFERENCES account (id), losing INTEGER NOT NULL REFERENCES account (id), requested INTEGER NOT NULL, ac_date INTEGER NOT NULL, due INTEGER, state INTEGER NOT NULL) STRICT";
-
 const DAYS: &str =
     "CREATE TABLE days (id INTEGER PRIMARY KEY, starts INTEGER NOT NULL, days_add INTEGER NOT NULL, days_auto_renew INTEGER NOT NULL, days_renew INTEGER NOT NULL, days_transfer INTEGER NOT NULL, days_redemption INTEGER NOT NULL, days_restore INTEGER NOT NULL, days_pending_delete INTEGER NOT NULL, days_answer INTEGER NOT NULL, days_lock INTEGER NOT NULL) STRICT";
 
-const CONTACT_DUE: &str = "CREATE INDEX contact_due ON contact (due)";
-
-const DOMAIN_REGISTRANT: &str = "CREATE INDEX domain_registrant ON domain (registrant)";
-
-const DOMAIN_DUE: &str = "CREATE INDEX domain_due ON domain (due)";
-
-const DOMAIN_SPONSOR: &str = "CREATE INDEX domain_sponsor ON domain (sponsor, due)";
-
-const HOST_ABOVE: &str = "CREATE INDEX host_above ON host (above)";
-
-const ADDRESS_HOST: &str = "CREATE INDEX address_host ON address (host)";
-
-const LINK_DOMAIN: &str = "CREATE INDEX link_domain ON link (domain)";
-
-const LINK_CONTACT: &str = "CREATE INDEX link_contact ON link (contact)";
-
-const LINK_HOST: &str = "CREATE INDEX link_host ON link (host)";
-
-const LINE_OBJECT: &str = "CREATE INDEX line_object ON line (account, creator, serial)";
-
-const MESSAGE_QUEUE: &str =
-    "CREATE INDEX message_queue ON message (account, moment, class, number, name, subject, notice)";
-
-const TRANSFER_CONTACT: &str = "CREATE INDEX transfer_contact ON transfer (contact)";
-
-const TRANSFER_DOMAIN: &str = "CREATE INDEX transfer_domain ON transfer (domain)";
-
-const TRANSFER_REQUESTER: &str = "CREATE INDEX transfer_requester ON transfer (requester, due)";
-
-const CONTACT_SPONSOR: &str = "CREATE INDEX contact_sponsor ON contact (sponsor, due)";
-
-const DOMAIN_ROID: &str = "CREATE INDEX domain_roid ON domain (creator, serial)";
-
-const DOMAIN_REGISTRANT_DUE: &str =
-    "CREATE INDEX domain_registrant_due ON domain (registrant, due)";
-
-const LINK_CONTACT_DUE: &str = "CREATE INDEX link_contact_due ON link (contact, due)";
-
-const LINK_HOST_DUE: &str = "CREATE INDEX link_host_due ON link (host, due)";
-
-const TRANSFER_LOSING: &str = "CREATE INDEX transfer_losing ON transfer (losing, due)";
-
-/// The texts that make a schema: those of both, round the one of its lines, and its own after them.
+/// The texts that make a schema: those of both, round the one of its lines, and its own after them. First
+/// its tables, then their indexes.
 macro_rules! texts {
     ($line:ident $(, $more:ident)*) => {
         &[
-            META,
-            ACCOUNT,
-            CONTACT,
-            DOMAIN,
-            HOST,
-            ADDRESS,
-            LINK,
+            "CREATE TABLE meta (id INTEGER PRIMARY KEY, version INTEGER NOT NULL, clock INTEGER NOT NULL, zone TEXT NOT NULL, reserved TEXT NOT NULL, days_add INTEGER NOT NULL, days_auto_renew INTEGER NOT NULL, days_renew INTEGER NOT NULL, days_transfer INTEGER NOT NULL, days_redemption INTEGER NOT NULL, days_restore INTEGER NOT NULL, days_pending_delete INTEGER NOT NULL, days_answer INTEGER NOT NULL, days_lock INTEGER NOT NULL, price_create INTEGER NOT NULL, price_renew INTEGER NOT NULL, price_transfer INTEGER NOT NULL) STRICT",
+            "CREATE TABLE account (id INTEGER PRIMARY KEY, ident TEXT NOT NULL UNIQUE, commands INTEGER NOT NULL, messages INTEGER NOT NULL, serial INTEGER NOT NULL, waiting INTEGER NOT NULL, balance BLOB NOT NULL, held INTEGER NOT NULL) STRICT",
+            "CREATE TABLE contact (id INTEGER PRIMARY KEY, name TEXT NOT NULL UNIQUE, creator INTEGER NOT NULL, serial INTEGER NOT NULL, sponsor INTEGER NOT NULL REFERENCES account (id), created INTEGER NOT NULL, transferred INTEGER, updated INTEGER, statuses TEXT NOT NULL, secret TEXT NOT NULL, postal_name TEXT NOT NULL, org TEXT, street TEXT NOT NULL, city TEXT NOT NULL, state TEXT, postal_code TEXT, country TEXT NOT NULL, voice TEXT, due INTEGER, mail TEXT NOT NULL) STRICT",
+            "CREATE TABLE domain (id INTEGER PRIMARY KEY, name TEXT NOT NULL UNIQUE, creator INTEGER NOT NULL, serial INTEGER NOT NULL, sponsor INTEGER NOT NULL REFERENCES account (id), created INTEGER NOT NULL, years INTEGER NOT NULL, transferred INTEGER, updated INTEGER, statuses TEXT NOT NULL, secret TEXT NOT NULL, registrant INTEGER NOT NULL REFERENCES contact (id), deleted INTEGER, restore_requested INTEGER, due INTEGER NOT NULL) STRICT",
+            "CREATE TABLE host (id INTEGER PRIMARY KEY, name TEXT NOT NULL UNIQUE, creator INTEGER NOT NULL, serial INTEGER NOT NULL, above TEXT NOT NULL, external_sponsor INTEGER REFERENCES account (id), sponsor INTEGER REFERENCES account (id), created INTEGER NOT NULL, updated INTEGER, statuses TEXT NOT NULL) STRICT",
+            "CREATE TABLE address (id INTEGER PRIMARY KEY, host INTEGER NOT NULL REFERENCES host (id), address TEXT NOT NULL) STRICT",
+            "CREATE TABLE link (id INTEGER PRIMARY KEY, domain INTEGER NOT NULL REFERENCES domain (id), contact INTEGER REFERENCES contact (id), host INTEGER REFERENCES host (id), role INTEGER NOT NULL, due INTEGER NOT NULL) STRICT",
             $line,
-            MESSAGE,
-            TRANSFER,
-            CONTACT_DUE,
-            DOMAIN_REGISTRANT,
-            DOMAIN_DUE,
-            DOMAIN_SPONSOR,
-            HOST_ABOVE,
-            ADDRESS_HOST,
-            LINK_DOMAIN,
-            LINK_CONTACT,
-            LINK_HOST,
-            LINE_OBJECT,
-            MESSAGE_QUEUE,
-            TRANSFER_CONTACT,
-            TRANSFER_DOMAIN,
-            TRANSFER_REQUESTER,
-            CONTACT_SPONSOR,
-            DOMAIN_ROID,
-            DOMAIN_REGISTRANT_DUE,
-            LINK_CONTACT_DUE,
-            LINK_HOST_DUE,
-            TRANSFER_LOSING,
+            "CREATE TABLE message (id INTEGER PRIMARY KEY, account INTEGER NOT NULL REFERENCES account (id), moment INTEGER NOT NULL, class INTEGER NOT NULL, number INTEGER NOT NULL, name TEXT NOT NULL, subject INTEGER NOT NULL, notice INTEGER NOT NULL) STRICT",
+            "CREATE TABLE transfer (id INTEGER PRIMARY KEY, contact INTEGER REFERENCES contact (id), domain INTEGER REFERENCES domain (id), requester INTEGER NOT NULL REFERENCES account (id), losing INTEGER NOT NULL REFERENCES account (id), requested INTEGER NOT NULL, ac_date INTEGER NOT NULL, due INTEGER, state INTEGER NOT NULL) STRICT",
+            "CREATE INDEX contact_due ON contact (due)",
+            "CREATE INDEX domain_registrant ON domain (registrant)",
+            "CREATE INDEX domain_due ON domain (due)",
+            "CREATE INDEX domain_sponsor ON domain (sponsor, due)",
+            "CREATE INDEX host_above ON host (above)",
+            "CREATE INDEX address_host ON address (host)",
+            "CREATE INDEX link_domain ON link (domain)",
+            "CREATE INDEX link_contact ON link (contact)",
+            "CREATE INDEX link_host ON link (host)",
+            "CREATE INDEX line_object ON line (account, creator, serial)",
+            "CREATE INDEX message_queue ON message (account, moment, class, number, name, subject, notice)",
+            "CREATE INDEX transfer_contact ON transfer (contact)",
+            "CREATE INDEX transfer_domain ON transfer (domain)",
+            "CREATE INDEX transfer_requester ON transfer (requester, due)",
+            "CREATE INDEX contact_sponsor ON contact (sponsor, due)",
+            "CREATE INDEX domain_roid ON domain (creator, serial)",
+            "CREATE INDEX domain_registrant_due ON domain (registrant, due)",
+            "CREATE INDEX link_contact_due ON link (contact, due)",
+            "CREATE INDEX link_host_due ON link (host, due)",
+            "CREATE INDEX transfer_losing ON transfer (losing, due)",
             $($more,)*
         ]
     };

@@ -1,11 +1,11 @@
 //! The last transfer of each object that had one.
 ghost use Rattle.std.specs.Prelude.{◌≡◌, true, filter};
-ghost use Rattle.sqlite_keyed.specs.Lists.{delete_where};
-ghost use Rattle.sqlite_keyed.specs.Keyed.{insert_by};
+ghost use Rattle.sqlite.specs.Values.{bound};
+ghost use Rattle.sqlite_keyed.specs.{Lists.delete_where, Keyed.insert_by};
 ghost use Rattle.sqltables.specs.inner.Content.{transfers_to};
+ghost use Rattle.sqltables.specs.Transfer.{transfers, transfer_with_contact, transfer_with_domain, transfer_of_domains, transfer_pending_by, transfer_pending_from, transfer_shown};
 ghost use Rattle.states.specs.States.{Finds, Makes};
 ghost use Rattle.sqlrows.specs.inner.Layouts.{appended};
-ghost use Rattle.sqltables.specs.Transfer.{transfers, transfer_with_contact, transfer_with_domain, transfer_of_domains, transfer_pending_by, transfer_pending_from};
 
 use crate::store::RowStore;
 use basis::list::Seq;
@@ -57,9 +57,6 @@ pub struct TransferRow {
 }
 
 impl TransferRow {
-    ghost use Rattle.sqlite.specs.Values.{bound};
-    ghost use Rattle.sqltables.specs.Transfer.{transfer_shown};
-
     /// Its columns as parameters, its number first.
     fn params(&self) -> [ValueRef<'_>; 9]
         ensures { bound result ≡ transfer_shown self.now }
@@ -72,8 +69,6 @@ impl TransferRow {
 }
 
 impl Record for TransferRow {
-    ghost use Rattle.sqltables.specs.Transfer.{transfer_shown};
-
     ghost shown = { transfer_shown };
 
     fn from_row(row: &Row) -> Result<TransferRow, Error> {

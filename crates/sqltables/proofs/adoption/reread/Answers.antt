@@ -1,7 +1,7 @@
 use Rattle.std.proofs.Common.{◌≡◌, sym, ap, subst, ◌∙◌, arith}
 use Rattle.sqltables.proofs.Words.{AllByRecursion, Database, IsClean, IsShaped, IsSound, Table, Trees, View}
-use Rattle.sqlite_trees.specs.declared.store.Shape.TheVariants as shape
 use Rattle.sqltables.proofs.AdoptionLemmas.{commit_adds_none, fresh_if_committed, last_commit, lies_in_order, open_if_consistent}
+use Rattle.sqlite_trees.specs.declared.store.Shape.TheVariants as shape
 use Rattle.sqltables.proofs.adoption.reread.Goals as goal
 
 pub returns-in-Ok-over-clause-clean : goal.returns-in-Ok-over-clause-clean

@@ -1,5 +1,4 @@
-use Rattle.sqltables.proofs.Words.{no_schema, registry, state}
-use Rattle.sqltables.proofs.SchemaLemmas.{creation_defines, made_empty}
+use Rattle.sqltables.proofs.{Words.{no_schema, registry, state}, SchemaLemmas.{creation_defines, made_empty}}
 use Rattle.sqltables.proofs.schema.create.Goals as goal
 
 pub returns-clause-makes : goal.returns-clause-makes

@@ -1,5 +1,4 @@
-use Rattle.sqltables.proofs.Words.{first_registry, no_schema}
-use Rattle.sqltables.proofs.FirstSchemaLemmas.{first_creation_defines}
+use Rattle.sqltables.proofs.{Words.{first_registry, no_schema}, SchemaLemmas.first_creation_defines}
 use Rattle.sqltables.proofs.schema.create_first.Goals as goal
 
 pub returns : goal.returns

@@ -1,6 +1,5 @@
-use Rattle.std.proofs.Common.{refl, sym, ◌∙◌}
+use Rattle.std.proofs.{Common.{refl, sym, ◌∙◌}, lemmas.Slice.Eq.slice_eq-Decides}
 use Rattle.std.specs.Cmp.{unsigned_Decides}
-use Rattle.std.proofs.lemmas.Slice.Eq.{slice_eq-Decides}
 use Rattle.sqltables.proofs.AnswerLemmas.{same_bound}
 use Rattle.sqltables.proofs.answers.Answer.is_of.Goals as goal
 

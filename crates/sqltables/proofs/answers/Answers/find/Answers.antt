@@ -1,6 +1,5 @@
 use Rattle.std.proofs.Common.{List, ◌<◌, length, get_or, refl, sym, ap, subst, ◌∙◌}
-use Rattle.sqltables.proofs.Words.{All, Answer, bound, IsRight}
-use Rattle.sqltables.proofs.AnswerLemmas.{shown-by}
+use Rattle.sqltables.proofs.{Words.{All, Answer, bound, IsRight}, AnswerLemmas.shown-by}
 use Rattle.sqltables.proofs.answers.Answers.find.Goals as goal
 
 pub returns-then-is_of : goal.returns-then-is_of

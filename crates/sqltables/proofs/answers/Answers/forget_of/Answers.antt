@@ -1,7 +1,5 @@
-use Rattle.std.proofs.Common.{◌==◌, not, sym, subst, rules}
-use Rattle.std.proofs.lemmas.Fn.{filter_same}
-use Rattle.sqltables.proofs.Words.{All, Answer, IsRight}
-use Rattle.sqltables.proofs.AnswerLemmas.{few-left, rights-after}
+use Rattle.std.proofs.{Common.{◌==◌, not, sym, subst, rules}, lemmas.Fn.filter_same}
+use Rattle.sqltables.proofs.{Words.{All, Answer, IsRight}, AnswerLemmas.{few-left, rights-after}}
 use Rattle.sqltables.proofs.answers.Answers.forget_of.Goals as goal
 
 pub invariant_of-self : goal.invariant_of-self

@@ -1,7 +1,5 @@
-use Rattle.std.proofs.Common.{ap, rules, ◌∙◌}
-use Rattle.std.proofs.lemmas.Fn.{filter_same}
-use Rattle.sqltables.proofs.Words.{Answer, lasting, lasts}
-use Rattle.sqltables.proofs.AnswerLemmas.{few-left}
+use Rattle.std.proofs.{Common.{ap, rules, ◌∙◌}, lemmas.Fn.filter_same}
+use Rattle.sqltables.proofs.{Words.{Answer, lasting, lasts}, AnswerLemmas.few-left}
 use Rattle.sqltables.proofs.answers.Answers.forget_passing.Goals as goal
 
 pub invariant_of-self : goal.invariant_of-self

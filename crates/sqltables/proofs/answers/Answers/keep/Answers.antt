@@ -1,6 +1,5 @@
 use Rattle.std.proofs.Common.{inr}
-use Rattle.sqltables.proofs.Words.{bound, IsRight}
-use Rattle.sqltables.proofs.AnswerLemmas.{all-put, right-as}
+use Rattle.sqltables.proofs.{Words.{bound, IsRight}, AnswerLemmas.{all-put, right-as}}
 use Rattle.sqltables.proofs.answers.Answers.keep.Goals as goal
 
 pub returns-in-Ok-clause-right : goal.returns-in-Ok-clause-right

@@ -1,10 +1,9 @@
 use Rattle.std.proofs.Common.{List, false, refl, sym, subst}
 use Rattle.sqltables.proofs.Words.{AllByRecursion, Content, Guards, IsFound, IsShaped, Remains, state, Table, Unused}
+use Rattle.sqltables.proofs.{AdoptedLemmas.{fits_found, guards_found}, TurningLemmas.noted-alone}
 use Rattle.sqlite_trees.specs.declared.store.Shape.TheVariants as shape
 use Rattle.sqlite_schema.specs.declared.schema.Schema.{Schema}
 use Rattle.sqlite.specs.Steps.{over_memory}
-use Rattle.sqltables.proofs.AdoptedLemmas.{fits_found, guards_found}
-use Rattle.sqltables.proofs.TurningLemmas.{noted-alone}
 use Rattle.sqltables.proofs.store.RowStore+MemStore.in_memory.Goals as goal
 
 pub invariant_of-result : goal.invariant_of-result

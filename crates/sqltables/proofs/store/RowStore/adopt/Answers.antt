@@ -1,5 +1,4 @@
-use Rattle.std.proofs.Common.{◌≡◌, inl, inr, Result, Ok, Err, IfErr, sym, ap, subst, ◌∙◌}
-use Rattle.std.proofs.lemmas.Result.{IfErr-weaker}
+use Rattle.std.proofs.{Common.{◌≡◌, inl, inr, Result, Ok, Err, IfErr, sym, ap, subst, ◌∙◌}, lemmas.Result.IfErr-weaker}
 use Rattle.sqltables.proofs.Words.{Database, IsReread, IsSameRegistry, State, state, Trees}
 use Rattle.sqltables.proofs.store.RowStore.adopt.Goals as goal
 

@@ -1,7 +1,6 @@
 use Rattle.std.proofs.Common.{false, sym, subst, true≢false}
 use Rattle.sqltables.proofs.Words.{Closes, Content, Fits, Form, leaves_of, state, StateOf, store_state}
-use Rattle.sqltables.proofs.StandingLemmas.{guards-on, leaves-no-more}
-use Rattle.sqltables.proofs.TurningLemmas.{closes-back, fits-back}
+use Rattle.sqltables.proofs.{StandingLemmas.{guards-on, leaves-no-more}, TurningLemmas.{closes-back, fits-back}}
 use Rattle.sqltables.proofs.store.RowStore.back.Goals as goal
 
 pub invariant_of-self : goal.invariant_of-self

@@ -1,6 +1,5 @@
 use Rattle.std.proofs.Common.{◌≡◌, ◌==◌, true, not, List, filter, length, ap, sym, subst, ◌∙◌}
-use Rattle.sqltables.proofs.Words.{account_with_id, AccountRow, Content, Finds}
-use Rattle.sqltables.proofs.PuttingLemmas.{account-there}
+use Rattle.sqltables.proofs.{Words.{account_with_id, AccountRow, Content, Finds}, PuttingLemmas.account-there}
 use Rattle.sqltables.proofs.QueryLemmas.{accounts_by_id, asks-by}
 use Rattle.sqltables.proofs.store.RowStore.has_account.Goals as goal
 

@@ -1,6 +1,5 @@
 use Rattle.std.proofs.Common.{sym, subst, ◌∙◌}
-use Rattle.sqltables.proofs.Words.{Content, Finds}
-use Rattle.sqltables.proofs.QueryLemmas.{all_metas}
+use Rattle.sqltables.proofs.{Words.{Content, Finds}, QueryLemmas.all_metas}
 use Rattle.sqltables.proofs.store.RowStore.has_only.Goals as goal
 
 pub returns : goal.returns

@@ -1,6 +1,5 @@
 use Rattle.std.proofs.Common.{sym, ◌∙◌, arith}
-use Rattle.sqltables.proofs.Words.{HasCleanDisk, state}
-use Rattle.sqltables.proofs.StandingLemmas.{clean-of}
+use Rattle.sqltables.proofs.{Words.{HasCleanDisk, state}, StandingLemmas.clean-of}
 use Rattle.sqltables.proofs.store.RowStore.into_store.Goals as goal
 
 pub returns : goal.returns

@@ -1,8 +1,6 @@
 use Rattle.std.proofs.Common.{[], ◌∷◌, sym, subst₂}
-use Rattle.sqltables.proofs.Words.{account_by_id, account_shown, accounts, IsAnsweredByRows, Row}
-use Rattle.sqltables.proofs.AnswerLemmas.{reads-by}
-use Rattle.sqltables.proofs.KnownLemmas.{account-known}
-use Rattle.sqltables.proofs.QueryLemmas.{accounts_by_id}
+use Rattle.sqltables.proofs.{Words.{account_by_id, account_shown, accounts, IsAnsweredByRows, Row}, AnswerLemmas.reads-by}
+use Rattle.sqltables.proofs.{KnownLemmas.account-known, QueryLemmas.accounts_by_id}
 use Rattle.sqltables.proofs.store.RowStore.know_account.Goals as goal
 
 pub know-requires-clause-reads : goal.know-requires-clause-reads

@@ -1,7 +1,5 @@
 use Rattle.std.proofs.Common.{[], ◌∷◌, sym, subst}
-use Rattle.sqltables.proofs.Words.{IsAnsweredByRows, meta_all, meta_shown, metas, Row}
-use Rattle.sqltables.proofs.AnswerLemmas.{reads-by}
-use Rattle.sqltables.proofs.KnownLemmas.{meta-known}
+use Rattle.sqltables.proofs.{Words.{IsAnsweredByRows, meta_all, meta_shown, metas, Row}, AnswerLemmas.reads-by, KnownLemmas.meta-known}
 use Rattle.sqltables.proofs.QueryLemmas.{all_metas}
 use Rattle.sqltables.proofs.store.RowStore.know_only.Goals as goal
 

@@ -1,6 +1,5 @@
 use Rattle.std.proofs.Common.{IfSome, sym, subst, ◌∙◌}
-use Rattle.sqltables.proofs.Words.{Content, Finds, leaves_of, state, StateOf}
-use Rattle.sqltables.proofs.AnswerLemmas.{recalled}
+use Rattle.sqltables.proofs.{Words.{Content, Finds, leaves_of, state, StateOf}, AnswerLemmas.recalled}
 use Rattle.sqltables.proofs.store.RowStore.known.Goals as goal
 
 pub returns : goal.returns

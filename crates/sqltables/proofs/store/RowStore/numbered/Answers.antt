@@ -1,6 +1,5 @@
 use Rattle.std.proofs.Common.{sym, ap, ◌∙◌}
-use Rattle.sqltables.proofs.Words.{Content, is_numbered, readiness_of, StateOf}
-use Rattle.sqltables.proofs.AdoptedLemmas.{known-other}
+use Rattle.sqltables.proofs.{Words.{Content, is_numbered, readiness_of, StateOf}, AdoptedLemmas.known-other}
 use Rattle.sqltables.proofs.store.RowStore.numbered.Goals as goal
 
 pub returns-then-not-is_numbered-clause-others : goal.returns-then-not-is_numbered-clause-others

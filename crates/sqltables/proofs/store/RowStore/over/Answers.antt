@@ -1,7 +1,6 @@
 use Rattle.std.proofs.Common.{List, false, refl, sym, subst, arith}
 use Rattle.sqltables.proofs.Words.{Content, Guards, IsShown, Remains, state, store_state}
-use Rattle.sqltables.proofs.AdoptedLemmas.{fits_found, found-other, guards_found, shown}
-use Rattle.sqltables.proofs.TurningLemmas.{noted-alone}
+use Rattle.sqltables.proofs.{AdoptedLemmas.{fits_found, found-other, guards_found, shown}, TurningLemmas.noted-alone}
 use Rattle.sqltables.proofs.store.RowStore.over.Goals as goal
 
 pub invariant_of-result : goal.invariant_of-result

@@ -1,6 +1,5 @@
 use Rattle.std.proofs.Common.{filter, ap, ◌∙◌}
-use Rattle.sqltables.proofs.Words.{account_with_id, Content}
-use Rattle.sqltables.proofs.PuttingLemmas.{account-put}
+use Rattle.sqltables.proofs.{Words.{account_with_id, Content}, PuttingLemmas.account-put}
 use Rattle.sqltables.proofs.store.RowStore.put_account.Goals as goal
 
 pub know_account-requires : goal.know_account-requires

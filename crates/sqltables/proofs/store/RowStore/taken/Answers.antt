@@ -1,7 +1,5 @@
-use Rattle.std.proofs.Common.{◌≡◌, inr, sym, ap, ◌∙◌}
-use Rattle.std.proofs.lemmas.Result.{IfErr-weaker, IfOk-weaker}
-use Rattle.sqltables.proofs.Words.{Database, HasCleanDisk, IsFound, State, state}
-use Rattle.sqltables.proofs.StandingLemmas.{honest}
+use Rattle.std.proofs.{Common.{◌≡◌, inr, sym, ap, ◌∙◌}, lemmas.Result.{IfErr-weaker, IfOk-weaker}}
+use Rattle.sqltables.proofs.{Words.{Database, HasCleanDisk, IsFound, State, state}, StandingLemmas.honest}
 use Rattle.sqltables.proofs.store.RowStore.taken.Goals as goal
 
 -- the database that was found is the last commit's
