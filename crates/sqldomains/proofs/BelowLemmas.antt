@@ -3,15 +3,13 @@ use Rattle.std.proofs.Common.{◌≡◌, inl, inr, ℕ, ◌≤◌, Bool, true, f
 use Rattle.std.specs.Str as str
 use Rattle.sqldomains.proofs.Words.{addresses_of, bytes_eq-Decides, bytes_is, bytes_same, Content, empty, filter-has, get, Has, has-filter, Host}
 use Rattle.sqldomains.proofs.Words.{host_read, host_standing, HostRow, hosts_below, hosts_of, is_below, is_dotted, keys, ltb-true, Named}
-use Rattle.sqldomains.proofs.Words.{rows_around, statuses_in, with_read, ◌>>=◌}
-use Rattle.sqlcolumns.specs.Above.{above}
-use Rattle.sqlcolumns.specs.Hosts.{columns_in, host_with}
+use Rattle.sqldomains.proofs.{Words.{rows_around, statuses_in, with_read, ◌>>=◌}, LinkedLemmas.first-has}
+use Rattle.sqldomains.proofs.NameOrderLemmas.{by-rows, gives, keys-where}
+use Rattle.sqlcolumns.specs.{Above.above, Hosts.{columns_in, host_with}}
 use Rattle.sqlcolumns.proofs.AboveLemmas.{same_above}
 use Rattle.sqlcolumns.proofs.ReadLemmas as reading
 use Rattle.sqltables.specs.Host as table
 use Rattle.sqlobjects.proofs.NameLemmas.{host-named}
-use Rattle.sqldomains.proofs.LinkedLemmas.{first-has}
-use Rattle.sqldomains.proofs.NameOrderLemmas.{by-rows, gives, keys-where}
 
 -- a host that reads lies below the last two labels of its name
 above-read : (xs : Content) (row : HostRow) (h : Host) → host_read xs row ≡ Some h → row.above ≡ above row.name

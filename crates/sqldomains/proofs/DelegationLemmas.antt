@@ -3,10 +3,9 @@ use Rattle.std.proofs.Common.{◌≡◌, ℕ, true, List, map, Option, Some, Non
 use Rattle.sqldomains.proofs.Words.{bytes_same, Content, delegated, delegation_read, delegations_of_rows, Domain, domain_read, DomainRow, domains_of}
 use Rattle.sqldomains.proofs.Words.{entries, entries-map_values, get, get-map_values, Has, IsAllOfRows, IsConsistent, map-map, Named, names_apart}
 use Rattle.sqldomains.proofs.Words.{nat_cmp, nat_list_cmp_total, same_map, same_some, slice_cmp, values}
-use Rattle.basis.specs.Maps.{map_values}
-use Rattle.objects.specs.declared.zone.Delegation.{Delegation}
-use Rattle.objects.specs.Delegations.{delegation_of}
 use Rattle.sqldomains.proofs.NameOrderLemmas.{by-rows, gives, name-read, row-under, stands-there}
+use Rattle.basis.specs.Maps.{map_values}
+use Rattle.objects.specs.{declared.zone.Delegation.Delegation, Delegations.delegation_of}
 
 module _ (xs : Content) (consistent : IsConsistent xs) where
   abbrev of : List ℕ → Option Delegation

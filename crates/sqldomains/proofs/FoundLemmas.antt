@@ -1,9 +1,9 @@
 -- What is found by name is what stands under the name, what is found after a question, and what a domain
 -- that reads has of its rows.
-use Rattle.std.proofs.Common.{◌≡◌, ℕ, List, Option, Some, Result, Ok, Err, true, sym, ap, ◌∙◌}
+use Rattle.std.proofs.Common.{◌≡◌, ℕ, List, Some, Result, Ok, Err, true, sym, ap, ◌∙◌}
 use Rattle.std.specs.Prelude.{filter}
 use Rattle.sqldomains.proofs.Words.{Content, deletion_in, Domain, domain_read, domain_registration_columns, domain_with, DomainRow, domains_of}
-use Rattle.sqldomains.proofs.Words.{Finds, finds-on, FindsSome, first_read, get, last_transfer, links_of, maybe_moment_in, moment_in_column, Reads}
+use Rattle.sqldomains.proofs.Words.{FindsSome, first_read, get, last_transfer, links_of, maybe_moment_in, moment_in_column, Reads}
 use Rattle.sqldomains.proofs.Words.{reads-on, registrar_in, registration_in, same_some, StateOf, statuses_in, stays-on, step, transfer_with_domain}
 use Rattle.sqldomains.proofs.Words.{years_in_column}
 use Rattle.objects.specs.declared.roid.ObjectKind.TheVariants as kinds
@@ -14,14 +14,6 @@ use Rattle.sqlrows.proofs.NameLemmas.{stands}
 
 pub domain-named : (xs : Content) (name : List ℕ) → first_read (domain_read xs) (filter (table.domain_with_name name) xs.domains) ≡ get (domains_of xs) name
 domain-named xs name = stands (λ (r : DomainRow). r.name) (domain_read xs) name xs.domains
-
-pub domain-found : (s m t : StateOf Content) (given name : List ℕ) (same : given ≡ name) (r : Result (Option Domain) BookFault) (rows : List DomainRow)
-    → Finds {A = List DomainRow} (Ok rows) (filter (table.domain_with_name given) s.content.domains) s m
-    → Finds r (first_read (domain_read m.content) rows) m t → Finds r (get (domains_of s.content) name) s t
-domain-found s m t given name same r rows asked found = finds-on r s m t (first_read (domain_read m.content) rows) (get (domains_of s.content) name) asked.0 (λ e.
-    (λ i. first_read (domain_read (asked.0.content e i)) (asked.1 e i))
-    ∙ ap (λ (n : List ℕ). first_read (domain_read s.content) (filter (table.domain_with_name n) s.content.domains)) same
-    ∙ domain-named s.content name) found
 
 -- what is found after a question, of what it answered
 pub asked-finds : {A C : Type 0} (r : Result A BookFault) (is was : A → Type 0) (a b c : StateOf C) → Reads a b → FindsSome r is b c → ((it : A) → b.is_clean ≡ true → is it → was it) → FindsSome r was a c

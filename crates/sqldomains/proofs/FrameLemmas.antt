@@ -4,13 +4,11 @@ use Rattle.std.proofs.Common.{◌≡◌, inl, inr, ℕ, ℤ, Bool, true, false, 
 use Rattle.sqldomains.proofs.Words.{cons_option, contact_name_by_number, Content, domain_entry, domain_read, DomainRow, domains_of, filter_map}
 use Rattle.sqldomains.proofs.Words.{from_entries, get_by, get_by-update_where, Has, has-filter, Host, host_name_by_number, HostRow, IsContactPut}
 use Rattle.sqldomains.proofs.Words.{IsHostPut, link_with_domain, LinkRow, maybe_registrar_column, named, named_contacts, named_hosts}
-use Rattle.sqldomains.proofs.Words.{transfer_with_domain}
+use Rattle.sqldomains.proofs.{Words.transfer_with_domain, LinkLemmas.{name-where, read-where}, NumberLemmas.name-kept}
 use Rattle.objects.specs.declared.contact.Contact.{Contact}
 use Rattle.sqlcolumns.specs.Transfers.{is_same}
 use Rattle.sqltables.specs.Host as host_table
 use Rattle.sqlobjects.specs.Sponsors.{IsSponsorSetBelow, sponsor_by_name, takes_sponsor, with_sponsor}
-use Rattle.sqldomains.proofs.LinkLemmas.{name-where, read-where}
-use Rattle.sqldomains.proofs.NumberLemmas.{name-kept}
 
 entries-where : {R E : Type 0} (f g : R → Option E) (rows : List R) → ((row : R) → Has rows row → f row ≡ g row) → filter_map f rows ≡ filter_map g rows
 entries-where f g [] same = refl

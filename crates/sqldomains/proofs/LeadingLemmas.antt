@@ -4,11 +4,10 @@ use Rattle.std.specs.Str as str
 use Rattle.sqldomains.proofs.Words.{alone, bytes_eq-Decides, contact_name_by_number, Content, Domain, domain_read, DomainRow, each-passes, Has}
 use Rattle.sqldomains.proofs.Words.{has-filter, has_name, HasLinkRows, host_name_by_number, HostRow, int_eq, link_with_domain, LinkRow}
 use Rattle.sqldomains.proofs.Words.{named_contacts, named_hosts, names_contact, names_host, or_cases, registrant_alone, Role, same_int, ◌>>=◌}
+use Rattle.sqldomains.proofs.{FoundLemmas.parts, LinkedLemmas.{IsLedTo, all-rows, links-led, names_in}}
 use Rattle.sqlcolumns.specs.declared.code.Role.TheVariants as roles
 use Rattle.sqltables.specs.declared.contact.ContactRow.{ContactRow}
-use Rattle.sqldomains.proofs.FoundLemmas.{parts}
-use Rattle.sqldomains.proofs.LinkedLemmas.{IsLedTo, all-rows, links-led, names_in}
-use Rattle.sqldomains.proofs.NumberLemmas.{row-named}
+use Rattle.sqlobjects.proofs.PutLemmas.{row-named}
 
 -- a link of a domain's row leads to the contact, or the host, with this number, and says when the domain is due
 pub record LinksContact (xs : Content) (row : DomainRow) (id : ℤ) : Type 0 where
@@ -57,7 +56,7 @@ module _ (xs : Content) (row : DomainRow) (d : Domain) (reads : domain_read xs r
 
   by-registrant : str.bytes_eq d.links.registrant name ≡ true → NamesContact xs row name
   by-registrant same =
-      let it = row-named named_contacts xs name row.registrant (led.0 ∙ ap Some ((bytes_eq-Decides d.links.registrant name).0 same)) in
+      let it = row-named named_contacts.key named_contacts.name xs.contacts row.registrant name (led.0 ∙ ap Some ((bytes_eq-Decides d.links.registrant name).0 same)) in
       record { contact = it.0; there = it.1; named = it.2; way = inl (sym it.3) }
 
   by-link : (l : LinkRow) × Has (filter (link_with_domain row.id) xs.links) l × ((alone l.contact l.host >>= contact_name_by_number xs) ≡ Some name) → NamesContact xs row name
@@ -65,7 +64,7 @@ module _ (xs : Content) (row : DomainRow) (d : Domain) (reads : domain_read xs r
       let l = found.0 in
       let there = has-filter (link_with_domain row.id) xs.links l found.1 in
       let at = alone-leads l.contact l.host (contact_name_by_number xs) name found.2 in
-      let it = row-named named_contacts xs name at.0 at.2 in
+      let it = row-named named_contacts.key named_contacts.name xs.contacts at.0 name at.2 in
       record {
         contact = it.0;
         there = it.1;
@@ -85,7 +84,7 @@ module _ (xs : Content) (row : DomainRow) (d : Domain) (reads : domain_read xs r
       let l = found.0 in
       let there = has-filter (link_with_domain row.id) xs.links l found.1 in
       let at = alone-leads l.host l.contact (host_name_by_number xs) name found.2 in
-      let it = row-named named_hosts xs name at.0 at.2 in
+      let it = row-named named_hosts.key named_hosts.name xs.hosts at.0 name at.2 in
       record {
         host = it.0;
         there = it.1;

@@ -1,18 +1,18 @@
 -- Rows that lead from a domain, removed and added.
-use Rattle.std.proofs.Common.{◌≡◌, ◌+◌, ◌<◌, get_or, length, take, inl, inr, ℕ, ℤ, Bool, true, false, true≢false, cond, List, [], ◌∷◌, ◌++◌, map, filter, fold, Option, Some, None, refl, sym, ap, subst, ◌∙◌, append_assoc, int_eq}
+use Rattle.std.proofs.Common.{◌≡◌, ◌+◌, ◌<◌, get_or, length, take, ℕ, ℤ, Bool, true, false, true≢false, cond, List, [], ◌∷◌, ◌++◌, map, filter, fold, Option, Some, None, refl, sym, ap, subst, ◌∙◌, append_assoc, int_eq}
 use Rattle.std.proofs.lemmas.Bool.Decides.{Decides-int_eq}
 use Rattle.sqldomains.proofs.Words.{all-changed, all-pass, append-nil, are_dated, AreLinksCleared, AreLinksPutOver, AreNamesAdded, AreOtherLinksKept}
 use Rattle.sqldomains.proofs.Words.{Content, delete_where, filter-append, filter-append_pass, filter-delete, filter-deleted, filter-map, filter_same}
-use Rattle.sqldomains.proofs.Words.{Has, has-filter, HasLinkRows, in_places, int_eq_apart, IsLinkTo, link_with_domain, linked_name, LinkRow, Links}
+use Rattle.sqldomains.proofs.Words.{has-filter, HasLinkRows, in_places, int_eq_apart, IsLinkTo, link_with_domain, linked_name, LinkRow, Links}
 use Rattle.sqldomains.proofs.Words.{links_to, list_all_push, next_key, placed, registrant_alone, Role, role_in, same_int, take_more, update_where}
-use Rattle.sqldomains.proofs.Words.{with_link_read, with_linked_name, with_links, with_names, ◌>>=◌}
+use Rattle.sqldomains.proofs.{Words.{with_link_read, with_linked_name, with_links, with_names, ◌>>=◌}, LinkLemmas.links-alike}
+use Rattle.sqldomains.proofs.LinkedLemmas.{registrant-more}
 use Rattle.sqlrows.specs.inner.Layouts.{appended}
 use Rattle.sqlcolumns.specs.declared.code.Role.TheVariants as roles
 use Rattle.sqlcolumns.proofs.CodeLemmas.{role_back}
 use Rattle.sqltables.specs.Link as table
+use Rattle.sqlobjects.proofs.PutLemmas.{map-stays}
 use Rattle.sqldomains.specs.declared.comparison.LinkComparison.TheVariants as comparisons
-use Rattle.sqldomains.proofs.LinkLemmas.{links-alike}
-use Rattle.sqldomains.proofs.LinkedLemmas.{registrant-more}
 
 -- ---- one row more
 
@@ -127,10 +127,6 @@ links-replaced id due number l a b c same clear added so any =
     record { here = put.here; others = then-kept id a b c cleared.others put.others }
 
 -- ---- rows that stay
-
-map-stays : {A : Type 0} (f : A → A) (xs : List A) → ((x : A) → Has xs x → f x ≡ x) → map f xs ≡ xs
-map-stays f [] same = refl
-map-stays f (x ∷ xs) same = λ i. same x (inl refl) i ∷ map-stays f xs (λ y h. same y (inr h)) i
 
 module _ (id due : ℤ) where
   abbrev due_then : LinkRow → LinkRow

@@ -1,20 +1,17 @@
 -- What the domain of a row names, by the rows that lead from it, and whether any domain passes a test.
 use Rattle.std.proofs.Common.{◌≡◌, ◌⊎◌, ⊎_elim, inl, inr, ℕ, Bool, true, false, ◌||◌, cond, List, [], ◌∷◌, ◌++◌, map, filter, Option, Some, None, refl, sym, ap, ◌∙◌}
-use Rattle.std.proofs.Math.Bool.{or-false, or_comm}
-use Rattle.std.proofs.lemmas.List.Folds.{list_any-append}
+use Rattle.std.proofs.{Math.Bool.{or-false, or_comm}, lemmas.List.Folds.list_any-append}
 use Rattle.std.specs.Str as str
 use Rattle.sqldomains.proofs.Words.{are_dated, bytes_eq-Decides, contact_name_by_number, Content, dated, Domain, domain_read, DomainRow, domains_of}
 use Rattle.sqldomains.proofs.Words.{entries, first_read, get, Has, has-filter, has_name, HasLinkRows, IsConsistent, link_with_domain, linked_name}
 use Rattle.sqldomains.proofs.Words.{LinkRow, Links, links_of, list_any, names_apart, nat_cmp, nat_list_cmp_total, only_named, or_cases, or_else}
 use Rattle.sqldomains.proofs.Words.{PassesTest, placed, registrant_alone, Role, role_in, same_some, slice_cmp, step, values, with_link_read}
-use Rattle.sqldomains.proofs.Words.{with_linked_name, with_links, ◌>>=◌}
+use Rattle.sqldomains.proofs.{Words.{with_linked_name, with_links, ◌>>=◌}, FoundLemmas.domain-named}
 use Rattle.basis.specs.Bag.{add, precedes}
-use Rattle.basis.proofs.BagLaws.{any-add}
-use Rattle.basis.proofs.EntryLaws.{Each, among_values, each_entry}
+use Rattle.basis.proofs.{BagLaws.any-add, EntryLaws.{Each, among_values, each_entry}}
 use Rattle.sqlcolumns.specs.declared.code.Role.TheVariants as roles
 use Rattle.sqlcolumns.proofs.ReadLemmas.{kept}
 use Rattle.sqltables.specs.Domain as table
-use Rattle.sqldomains.proofs.FoundLemmas.{domain-named}
 
 -- ---- the domains that rows mean, one by one
 

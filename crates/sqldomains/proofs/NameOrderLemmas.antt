@@ -1,19 +1,14 @@
 -- What rows give under names, gathered one by one, is what the names stand for.
 use Rattle.std.proofs.Common.{◌≡◌, inl, inr, ℕ, Bool, true, false, ◌||◌, cond, List, [], ◌∷◌, filter, Option, Some, None, option_map, refl, sym, ap, ◌∙◌, true≢false}
 use Rattle.std.proofs.lemmas.Map.Made.{keys_of-map_values}
-use Rattle.std.specs.Map.{keys_of}
-use Rattle.std.specs.Option.{option_map_or}
+use Rattle.std.specs.{Map.keys_of, Option.option_map_or}
 use Rattle.sqldomains.proofs.Words.{all_at, bytes_is, Content, Domain, domain_read, DomainRow, domains_of, empty, entries, entries-map_values}
 use Rattle.sqldomains.proofs.Words.{eq_by_cmp, get, get-empty, get-insert, get-map_values, Has, has-filter, insert, keys, list_any, Named}
 use Rattle.sqldomains.proofs.Words.{names_apart, nat_cmp, nat_list_cmp_total, none_from_any, same_map, same_some, slice_cmp, with_one, with_read}
-use Rattle.sqldomains.proofs.Words.{◌>>=◌}
-use Rattle.basis.specs.Maps.{map_values}
-use Rattle.basis.specs.Sweeps.{kept, kept_list}
-use Rattle.basis.proofs.ApartLaws.{get-kept}
-use Rattle.basis.proofs.SweepLaws.{entries-kept}
+use Rattle.sqldomains.proofs.{Words.◌>>=◌, FoundLemmas.{domain-named, parts}, LinkedLemmas.first-has}
+use Rattle.basis.specs.{Maps.map_values, Sweeps.{kept, kept_list}}
+use Rattle.basis.proofs.{ApartLaws.get-kept, SweepLaws.entries-kept}
 use Rattle.sqltables.specs.Domain as table
-use Rattle.sqldomains.proofs.FoundLemmas.{domain-named, parts}
-use Rattle.sqldomains.proofs.LinkedLemmas.{first-has}
 pub use Rattle.sqldomains.proofs.LinkedLemmas.{stands-there}
 
 -- ---- what rows give

@@ -7,8 +7,7 @@ use Rattle.sqldomains.proofs.Words.{link_of_domains, link_with_domain, LinkRow, 
 use Rattle.sqldomains.proofs.Words.{transfer_with_domain, with_one, with_page, with_read, ◌>>=◌}
 use Rattle.sqlite_keyed.specs.Rules.{points_to}
 use Rattle.objects.specs.declared.zone.Delegation.{Delegation}
-use Rattle.sqltables.specs.declared.transfer.TransferRow.{TransferRow}
-use Rattle.sqltables.specs.inner.Due.{lies_within}
+use Rattle.sqltables.specs.{declared.transfer.TransferRow.TransferRow, inner.Due.lies_within}
 
 -- ---- numbers that rise
 

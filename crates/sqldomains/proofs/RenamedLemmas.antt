@@ -6,11 +6,11 @@ use Rattle.sqldomains.proofs.Words.{domain_read, domain_registration_columns, do
 use Rattle.sqldomains.proofs.Words.{get, Host, host_name_by_number, IsRowRenamed, last_transfer, link_with_domain, linked_name, LinkRow, Links}
 use Rattle.sqldomains.proofs.Words.{links_of, new_name, or_else, placed, registrant_alone, registration_in, Role, role_in, same_some, statuses_in}
 use Rattle.sqldomains.proofs.Words.{step, transfer_with_domain, with_link_read, with_linked_name, with_links, years_in_column, ◌>>=◌}
+use Rattle.sqldomains.proofs.FoundLemmas.{domain-named}
 use Rattle.objects.specs.declared.roid.ObjectKind.TheVariants as kinds
 use Rattle.objects.specs.declared.transfer.Transfer.{Transfer}
 use Rattle.sqlcolumns.specs.declared.code.Role.TheVariants as roles
 use Rattle.sqltables.specs.Domain as table
-use Rattle.sqldomains.proofs.FoundLemmas.{domain-named}
 
 -- steps that go on alike afterwards
 mapped : {A C B D : Type 0} (o : Option A) (f : A → C) (g : B → D) (k : A → Option B) (m : C → Option D) → ((x : A) → o ≡ Some x → m (f x) ≡ option_map g (k x)) → (option_map f o >>= m) ≡ option_map g (o >>= k)

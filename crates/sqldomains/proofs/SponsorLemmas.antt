@@ -1,16 +1,16 @@
 -- Whether stored sponsors of hosts are right is the same after a change as before.
-use Rattle.std.proofs.Common.{◌≡◌, inl, ℕ, ℤ, Bool, true, false, not, cond, ◌&&◌, List, [], ◌∷◌, filter, Option, Some, None, is_some, refl, sym, ap, subst, ◌∙◌}
+use Rattle.std.proofs.Common.{◌≡◌, inl, ℕ, ℤ, Bool, true, false, cond, List, [], ◌∷◌, filter, Option, Some, None, refl, sym, ap, subst, ◌∙◌}
 use Rattle.sqldomains.proofs.Words.{all-alike, all-changed, bytes_is, bytes_same, Content, Domain, domain_read, DomainRow, domains_of, first_read}
 use Rattle.sqldomains.proofs.Words.{get, get-insert, Has, has-filter, Host, HostRow, IsContactPut, IsDomainPut, IsHostPut, list_all}
 use Rattle.sqldomains.proofs.Words.{maybe_registrar_column, nat_list_cmp_total, or_else, registrar_column, same-verdict, sponsor_in, with_named}
+use Rattle.sqldomains.proofs.FoundLemmas.{domain-named}
 use Rattle.sqlite_typed.specs.Tests.{bytes_eq}
 use Rattle.objects.specs.declared.contact.Contact.{Contact}
 use Rattle.sqlcolumns.specs.Transfers.{is_same}
-use Rattle.sqlcolumns.proofs.NumberLemmas.{registrar_written}
+use Rattle.sqlcolumns.proofs.{NumberLemmas.registrar_written, TransferLemmas.same_is_equal}
 use Rattle.sqltables.specs.Domain as table
-use Rattle.sqlobjects.specs.Sponsors.{AreMoved, IsSponsorSetBelow, first_sponsor, is_sponsor_right, sponsor_by_name, sponsors_are_right, takes_sponsor, with_sponsor}
-use Rattle.sqlobjects.proofs.SponsorLemmas.{same-from, same-is, sponsor-kept}
-use Rattle.sqldomains.proofs.FoundLemmas.{domain-named}
+use Rattle.sqlobjects.specs.Sponsors.{AreMoved, IsSponsorSetBelow, first_sponsor, is_sponsor_right, sponsor_by_name, sponsors_are_right, with_sponsor}
+use Rattle.sqlobjects.proofs.SponsorLemmas.{same-from, sponsor-kept}
 pub use Rattle.sqldomains.proofs.FoundLemmas.{parts}
 
 -- ---- hosts and domains as they were
@@ -84,7 +84,7 @@ module _ (name : List ℕ) (value : Option Domain) (due : Option ℕ) (old mid c
       ∙ all-alike (is_sponsor_right old) (is_sponsor_right new) old.hosts (λ row there. alike row (at row.above (bytes_eq row.above name) refl))
     where
       at : (q : List ℕ) (b : Bool) → bytes_eq q name ≡ b → sponsor_by_name new q ≡ sponsor_by_name old q
-      at q true f = own-sponsor q f ∙ sym (ap (sponsor_by_name old) (bytes_is q name f) ∙ same-is before after e)
+      at q true f = own-sponsor q f ∙ sym (ap (sponsor_by_name old) (bytes_is q name f) ∙ same_is_equal before after e)
       at q false f = other-sponsor q f
 
   -- a host that takes it had the one and has the other
@@ -93,25 +93,13 @@ module _ (name : List ℕ) (value : Option Domain) (due : Option ℕ) (old mid c
       ap (list_all (is_sponsor_right new)) (rows_now ∙ moved.has)
       ∙ all-changed (is_sponsor_right old) (is_sponsor_right new) (with_sponsor name after) old.hosts (λ row there. each row there (bytes_eq row.above name) row.external_sponsor refl refl)
     where
-      so : (row : HostRow) (a : Bool) (o : Option ℤ) → bytes_eq row.above name ≡ a → row.external_sponsor ≡ o → takes_sponsor name row ≡ (a && not (is_some o))
-      so row a o e f = λ i. e i && not (is_some (f i))
-
-      chosen : (row : HostRow) (b : Bool) → takes_sponsor name row ≡ b → with_sponsor name after row ≡ cond b (record row { sponsor = after }) row
-      chosen row b e = ap (λ (t : Bool). cond t (record row { sponsor = after }) row) e
-
-      external : (xs : Content) (row : HostRow) (s : ℤ) → row.external_sponsor ≡ Some s → is_sponsor_right xs row ≡ is_same row.sponsor (Some s)
-      external xs row s f = ap (λ o. is_same row.sponsor (or_else o (sponsor_by_name xs row.above))) f
-
       each : (row : HostRow) → Has old.hosts row → (a : Bool) (o : Option ℤ) → bytes_eq row.above name ≡ a → row.external_sponsor ≡ o
           → is_sponsor_right new (with_sponsor name after row) ≡ is_sponsor_right old row
-      each row there false o e f =
-          ap (is_sponsor_right new) (chosen row false (so row false o e f)) ∙ alike row (other-sponsor row.above e)
-      each row there true (Some s) e f =
-          ap (is_sponsor_right new) (chosen row false (so row true (Some s) e f)) ∙ external new row s f ∙ sym (external old row s f)
+      each row there false o e f = rw e (alike row (other-sponsor row.above e))
+      each row there true (Some s) e f = rw (e, f) refl
       each row there true None e f =
-          ap (is_sponsor_right new) (chosen row true (so row true None e f))
-          ∙ same-from after (or_else row.external_sponsor (sponsor_by_name new row.above)) (sym (ap (λ o. or_else o (sponsor_by_name new row.above)) f ∙ own-sponsor row.above e))
-          ∙ sym (ap (λ o. is_same row.sponsor (or_else o (sponsor_by_name old row.above))) f ∙ ap (λ q. is_same row.sponsor (sponsor_by_name old q)) (bytes_is row.above name e) ∙ moved.had row there (so row true None e f))
+          let had : is_same row.sponsor before ≡ true = moved.had row there (rw (e, f) refl) in
+          rw (e, f) (same-from after (sponsor_by_name new row.above) (sym (own-sponsor row.above e)) ∙ sym (ap (λ q. is_same row.sponsor (sponsor_by_name old q)) (bytes_is row.above name e) ∙ had))
 
   pub domain-sponsors : sponsors_are_right new ≡ sponsors_are_right old
   domain-sponsors = go (is_same before after) refl

@@ -1,6 +1,5 @@
 //! The hosts below a domain.
-ghost use Rattle.std.specs.Prelude.{◌≡◌, Some, IfOk, filter, map};
-ghost use Rattle.std.specs.FinMap.{empty, keys};
+ghost use Rattle.std.specs.{Prelude.{◌≡◌, Some, IfOk, filter, map}, FinMap.{empty, keys}};
 ghost use Rattle.objects.specs.Hosts as hosts;
 ghost use Rattle.sqltables.specs.declared.host.HostRow.{HostRow};
 ghost use Rattle.states.specs.States.{Finds, FindsSome};

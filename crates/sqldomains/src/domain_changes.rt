@@ -1,25 +1,32 @@
 //! Domains put under their names and dropped.
-ghost use Rattle.std.specs.Prelude.{◌≡◌, true, Some, None};
-ghost use Rattle.sqlrows.specs.Meanings.{Changes};
+ghost use Rattle.std.specs.Prelude.{◌≡◌, true, pos, Some, None, IfOk};
+ghost use Rattle.sqlrows.specs.{Meanings.Changes, Read.rows_of};
 ghost use Rattle.states.specs.States.{FindsSome};
 ghost use Rattle.sqlobjects.specs.Changes.{contact_name_by_number};
 ghost use Rattle.sqlobjects.specs.inner.Stages.{named_domains, rows_named};
-ghost use Rattle.sqlrows.specs.Read.{rows_of};
 ghost use Rattle.sqldomains.specs.inner.Changes.{IsDomainPut};
-ghost use Rattle.sqldomains.specs.inner.Stages.{ArePartsPut, HasNoParts};
+ghost use Rattle.sqldomains.specs.inner.Stages.{ArePartsPut, HasNoParts, row_beside};
 
-use crate::domain_rows::{DerivedColumns, place, remove_found};
 use crate::link_rows::{number_there, put_links};
+use crate::links::number_of;
 use crate::names;
 use basis::text::Text;
 use calendar::Moment;
 use objects::Domain;
-use sqlcolumns::is_domain;
+use sqlcolumns::{domain_row, is_domain};
 use sqlite::Alter;
-use sqlobjects::{Transferable, put_last_transfer, row_named};
+use sqlobjects::{Transferable, clear_transfer, place_row, put_last_transfer, row_named};
+use sqlrows::or_fault;
 use sqltables::{ContactRow, DomainRow, RowStore};
 use states::BookFault;
 use std::alloc::Global;
+
+/// What a domain's row has that the domain hasn't: the number of its registrant, and when it is due.
+#[derive(Clone, Copy, Drop)]
+pub(crate) struct DerivedColumns {
+    pub registrant: i64,
+    pub due: Moment,
+}
 
 /// The domain is under this name, which has to be its own, and its row is due at this moment. What
 /// it names has to be there.
@@ -37,22 +44,6 @@ pub fn put_domain<S: Alter>(
         return Err(BookFault::Store);
     }
     let found = row_named(store, &domain.name)?;
-    put_over(store, alloc, found, domain, due)
-}
-
-/// The domain is under its name, of which this row was found.
-fn put_over<S: Alter>(
-    store: &mut RowStore<S>,
-    alloc: Global,
-    found: Option<DomainRow>,
-    domain: &Domain,
-    due: Moment,
-) -> Result<(), BookFault>
-    requires { store.old.is_open ≡ true }
-    ensures { Changes result (λ old new.
-        rows_named named_domains domain.now.name old ≡ rows_of found
-        → IsDomainPut domain.now.name (Some domain.now) (Some due) old new) store.old store.new }
-{
     let registrant = registrant_number(store, &found, domain)?;
     let beside = DerivedColumns { registrant, due };
     put_beside(store, alloc, &beside, found, domain)
@@ -108,11 +99,19 @@ fn put_beside<S: Alter>(
     }
     let is_new = found.is_none();
     store.show_consistent();
-    let row = place(store, alloc, beside, found, domain)?;
+    let bare = row_of(alloc, beside, domain)?;
+    let row = place_row(store, found, bare)?;
     store.show_consistent();
     put_parts(store, alloc, &row, domain, is_new)?;
     store.show_consistent();
     Ok(())
+}
+
+/// A domain's row, but for its number, its links and its transfer. One that can't be written is refused.
+fn row_of(alloc: Global, beside: &DerivedColumns, domain: &Domain) -> Result<DomainRow, BookFault>
+    ensures { IfOk result (λ row. row_beside (pos 0) beside.now domain.now ≡ Some row) }
+{
+    or_fault(domain_row(alloc, 0, beside.registrant, beside.due, domain)?)
 }
 
 /// The domain in this row has its links and its transfer. To a new row nothing leads, so nothing is
@@ -138,14 +137,19 @@ fn put_parts<S: Alter>(
     Ok(())
 }
 
-/// No domain is under this name.
+/// No domain is under this name, and no link and no transfer is of the one that was.
 pub fn drop_domain<S: Alter>(store: &mut RowStore<S>, name: &Text) -> Result<(), BookFault>
     requires { store.old.is_open ≡ true }
     ensures { Changes result (IsDomainPut name.now None None) store.old store.new }
 {
     store.show_consistent();
-    let row = row_named(store, name)?;
-    remove_found(store, row)?;
+    let Some(row) = row_named::<DomainRow, S>(store, name)? else {
+        return Ok(());
+    };
+    let number = number_of(&row);
+    store.remove_links_by_domain(number)?;
+    clear_transfer(store, Transferable::of_domain(&row))?;
+    store.remove_domains_by_id(number)?;
     store.show_consistent();
     Ok(())
 }

@@ -1,7 +1,6 @@
 //! Domains, by name.
-ghost use Rattle.std.specs.Prelude.{◌≡◌, true, IfOk, Some, filter};
-ghost use Rattle.std.specs.FinMap.{get};
-ghost use Rattle.sqlrows.specs.Read.{IsRead, first_read};
+ghost use Rattle.std.specs.{Prelude.{◌≡◌, true, IfOk, Some, filter}, FinMap.get};
+ghost use Rattle.sqlrows.specs.Read.{IsRead};
 ghost use Rattle.sqldomains.specs.Domains as spec;
 ghost use Rattle.sqltables.specs.Domain.{domain_with_name};
 ghost use Rattle.states.specs.States.{Finds, FindsSome};
@@ -12,8 +11,8 @@ use basis::text::Text;
 use objects::Domain;
 use sqlcolumns::domain_of_row;
 use sqlite::Alter;
-use sqlobjects::last_transfer;
-use sqlrows::{only, or_fault};
+use sqlobjects::{last_transfer, row_named};
+use sqlrows::or_fault;
 use sqltables::{DomainRow, LinkRow, RowStore, TransferRow};
 use states::BookFault;
 use std::alloc::Global;
@@ -29,21 +28,7 @@ pub fn domain<S: Alter>(
     ensures read { IfOk result (λ domain. store.new.is_clean ≡ true
         → IsRead (filter (domain_with_name name.now) store.old.content.domains) domain) }
 {
-    let rows = store.domains_by_name(name.as_str())?;
-    first_domain(store, alloc, rows)
-}
-
-/// The domain of the one of these rows, if there is one.
-fn first_domain<S: Alter>(
-    store: &mut RowStore<S>,
-    alloc: Global,
-    rows: Seq<DomainRow>,
-) -> Result<Option<Domain>, BookFault>
-    ensures found { Finds result (first_read (spec.domain_read store.old.content) rows) store.old
-        store.new }
-    ensures read { IfOk result (λ domain. IsRead rows domain) }
-{
-    let Some(row) = only(rows)? else {
+    let Some(row) = row_named::<DomainRow, S>(store, name)? else {
         return Ok(None);
     };
     Ok(Some(domain_of(store, alloc, row)?))

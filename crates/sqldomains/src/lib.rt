@@ -5,7 +5,6 @@
 mod below;
 mod comparison;
 mod domain_changes;
-mod domain_rows;
 mod domains;
 mod link_rows;
 mod linked;

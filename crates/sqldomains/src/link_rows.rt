@@ -2,22 +2,19 @@
 ghost use Rattle.std.specs.Prelude.{◌≡◌, true, ◌∷◌, [], filter, Some};
 ghost use Rattle.states.specs.States.{FindsSome};
 ghost use Rattle.sqlrows.specs.Meanings.{Changes};
-ghost use Rattle.sqldomains.specs.Domains.{linked_name};
-ghost use Rattle.sqldomains.specs.inner.Links.{name_at};
+ghost use Rattle.sqldomains.specs.{Domains.linked_name, inner.Links.name_at};
+ghost use Rattle.sqldomains.specs.inner.Stages.{AreCompared, AreDuesSet, AreLinksPut, AreLinksPutOver, AreNamesAdded, IsLinkTo};
 ghost use Rattle.sqldomains.specs.declared.comparison.LinkComparison.TheVariants as comparisons;
 ghost use Rattle.sqltables.specs.Link.{link_with_domain};
-ghost use Rattle.sqldomains.specs.inner.Stages.{AreCompared, AreDuesSet, AreLinksCleared, AreLinksPut, AreLinksPutOver, AreNamesAdded, IsLinkTo};
 
 use crate::comparison::{LinkComparison, compare_links};
-use crate::linked::number_named;
 use crate::links::{due_of, number_of};
 use crate::placing::check_places;
 use basis::text::Text;
 use objects::Links;
 use sqlcolumns::{Coded, Role};
 use sqlite::Alter;
-use sqlobjects::NamedRow;
-use sqlrows::Number;
+use sqlobjects::{NamedRow, row_named};
 use sqltables::{ContactRow, DomainRow, HostRow, LinkRow, RowStore};
 use states::BookFault;
 use std::alloc::Global;
@@ -117,20 +114,8 @@ fn replace_links<S: Alter>(
     ensures { Changes result (AreLinksPutOver domain.now.id domain.now.due links.now
         comparisons.Different) store.old store.new }
 {
-    clear_links(store, number_of(domain))?;
+    store.remove_links_by_domain(number_of(domain))?;
     add_links(store, domain, links)?;
-    Ok(())
-}
-
-/// Removes what leads from the domain with this number.
-pub(crate) fn clear_links<S: Alter>(
-    store: &mut RowStore<S>,
-    domain: Number,
-) -> Result<(), BookFault>
-    requires { store.old.is_open ≡ true }
-    ensures { Changes result (AreLinksCleared domain) store.old store.new }
-{
-    store.remove_links_by_domain(domain)?;
     Ok(())
 }
 
@@ -212,8 +197,8 @@ pub(crate) fn number_there<R: NamedRow, S: Alter>(
         store.old store.new }
 {
     store.show_consistent();
-    match number_named::<R, S>(store, name)? {
+    match row_named::<R, S>(store, name)? {
         None => Err(BookFault::Store),
-        Some(id) => Ok(id),
+        Some(row) => Ok(row.id()),
     }
 }

@@ -1,5 +1,5 @@
 //! Whether domains name a contact or a host.
-ghost use Rattle.std.specs.Prelude.{◌≡◌, filter, option_map, take};
+ghost use Rattle.std.specs.Prelude.{◌≡◌, filter, take};
 ghost use Rattle.sqlrows.specs.Read.{rows_of};
 ghost use Rattle.sqlite_rules.specs.Lists.{Has};
 ghost use Rattle.sqltables.specs.Domain.{domain_with_registrant};
@@ -11,7 +11,7 @@ ghost use Rattle.sqldomains.specs.inner.Links as spec;
 use crate::domains::domain_of;
 use basis::text::Text;
 use sqlite::Alter;
-use sqlobjects::{NamedRow, row_named};
+use sqlobjects::row_named;
 use sqlrows::{Number, only};
 use sqltables::{ContactRow, DomainRow, HostRow, LinkRow, RowStore};
 use states::BookFault;
@@ -27,71 +27,56 @@ pub fn is_linked_contact<S: Alter>(
         store.old store.new }
 {
     store.show_consistent();
-    let Some(id) = number_named::<ContactRow, S>(store, name)? else {
+    let Some(contact) = row_named::<ContactRow, S>(store, name)? else {
         return Ok(false);
     };
-    let Some(row) = use_of_contact(store, id)? else {
+    let Some(row) = use_of_contact(store, &contact)? else {
         return Ok(false);
     };
     naming_contact(store, alloc, row, name)?;
     Ok(true)
 }
 
-/// The number of the row of this name, if there is one.
-pub(crate) fn number_named<R: NamedRow, S: Alter>(
-    store: &mut RowStore<S>,
-    name: &Text,
-) -> Result<Option<i64>, BookFault>
-    ensures { FindsSome result (spec.IsNumberOf R.table store.old.content name.now)
-        store.old store.new }
-{
-    let row = row_named(store, name)?;
-    Ok(id_of::<R>(row))
-}
-
-fn id_of<R: NamedRow>(row: Option<R>) -> Option<i64>
-    ensures { result ≡ option_map R.table.key row }
-{
-    match row {
-        None => None,
-        Some(row) => Some(row.id()),
-    }
-}
-
-/// A domain's row, if any row refers to the contact with this number.
+/// A domain's row, if any row refers to the contact in this row.
 fn use_of_contact<S: Alter>(
     store: &mut RowStore<S>,
-    id: i64,
+    contact: &ContactRow,
 ) -> Result<Option<DomainRow>, BookFault>
-    ensures { FindsSome result (spec.IsUseOfContact store.old.content id) store.old store.new }
+    ensures { FindsSome result (spec.IsUseOfContact store.old.content contact.now.id) store.old store.new }
 {
-    if let Some(row) = registered_by(store, id)? {
+    if let Some(row) = registered_by(store, contact)? {
         return Ok(Some(row));
     }
-    let Some(link) = link_to_contact(store, id)? else {
+    let Some(link) = link_to_contact(store, contact)? else {
         return Ok(None);
     };
     Ok(Some(domain_at(store, link.domain)?))
 }
 
-/// The first domain's row that has the contact with this number as its registrant.
-fn registered_by<S: Alter>(store: &mut RowStore<S>, id: i64) -> Result<Option<DomainRow>, BookFault>
-    ensures { FindsSome result
-        (λ row. take 1 (filter (domain_with_registrant id) store.old.content.domains) ≡ rows_of row)
-        store.old store.new }
+/// The first domain's row that has the contact as its registrant.
+fn registered_by<S: Alter>(
+    store: &mut RowStore<S>,
+    contact: &ContactRow,
+) -> Result<Option<DomainRow>, BookFault>
+    ensures { FindsSome result (λ row.
+        take 1 (filter (domain_with_registrant contact.now.id) store.old.content.domains)
+        ≡ rows_of row) store.old store.new }
 {
-    let number = Number::new(id);
+    let number = Number::new(contact.id);
     let rows = store.first_domains_by_registrant(number)?;
     only(rows)
 }
 
-/// The first link to the contact with this number.
-fn link_to_contact<S: Alter>(store: &mut RowStore<S>, id: i64) -> Result<Option<LinkRow>, BookFault>
-    ensures { FindsSome result
-        (λ row. take 1 (filter (link_with_contact id) store.old.content.links) ≡ rows_of row)
-        store.old store.new }
+/// The first link to the contact.
+fn link_to_contact<S: Alter>(
+    store: &mut RowStore<S>,
+    contact: &ContactRow,
+) -> Result<Option<LinkRow>, BookFault>
+    ensures { FindsSome result (λ row.
+        take 1 (filter (link_with_contact contact.now.id) store.old.content.links)
+        ≡ rows_of row) store.old store.new }
 {
-    let number = Number::new(id);
+    let number = Number::new(contact.id);
     let rows = store.first_links_by_contact(number)?;
     only(rows)
 }
@@ -137,32 +122,39 @@ pub fn is_linked_host<S: Alter>(
         store.old store.new }
 {
     store.show_consistent();
-    let Some(id) = number_named::<HostRow, S>(store, name)? else {
+    let Some(host) = row_named::<HostRow, S>(store, name)? else {
         return Ok(false);
     };
-    let Some(row) = use_of_host(store, id)? else {
+    let Some(row) = use_of_host(store, &host)? else {
         return Ok(false);
     };
     naming_host(store, alloc, row, name)?;
     Ok(true)
 }
 
-/// A domain's row, if any row refers to the host with this number.
-fn use_of_host<S: Alter>(store: &mut RowStore<S>, id: i64) -> Result<Option<DomainRow>, BookFault>
-    ensures { FindsSome result (spec.IsUseOfHost store.old.content id) store.old store.new }
+/// A domain's row, if any row refers to the host in this row.
+fn use_of_host<S: Alter>(
+    store: &mut RowStore<S>,
+    host: &HostRow,
+) -> Result<Option<DomainRow>, BookFault>
+    ensures { FindsSome result (spec.IsUseOfHost store.old.content host.now.id) store.old store.new }
 {
-    let Some(link) = link_to_host(store, id)? else {
+    let Some(link) = link_to_host(store, host)? else {
         return Ok(None);
     };
     Ok(Some(domain_at(store, link.domain)?))
 }
 
-/// The first link to the host with this number.
-fn link_to_host<S: Alter>(store: &mut RowStore<S>, id: i64) -> Result<Option<LinkRow>, BookFault>
-    ensures { FindsSome result (λ row. take 1 (filter (link_with_host id) store.old.content.links)
-        ≡ rows_of row) store.old store.new }
+/// The first link to the host.
+fn link_to_host<S: Alter>(
+    store: &mut RowStore<S>,
+    host: &HostRow,
+) -> Result<Option<LinkRow>, BookFault>
+    ensures { FindsSome result (λ row.
+        take 1 (filter (link_with_host host.now.id) store.old.content.links) ≡ rows_of row)
+        store.old store.new }
 {
-    let number = Number::new(id);
+    let number = Number::new(host.id);
     let rows = store.first_links_by_host(number)?;
     only(rows)
 }

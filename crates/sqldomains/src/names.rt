@@ -2,8 +2,7 @@
 ghost use Rattle.std.specs.Prelude.{◌≡◌, Some};
 ghost use Rattle.states.specs.States.{Finds, FindsSome};
 ghost use Rattle.sqlite_keyed.specs.Keyed.{get_by};
-ghost use Rattle.sqltables.specs.Contact.{contacts};
-ghost use Rattle.sqltables.specs.Host.{hosts};
+ghost use Rattle.sqltables.specs.{Contact.contacts, Host.hosts};
 ghost use Rattle.sqlobjects.specs.Changes as changes;
 
 use basis::text::Text;

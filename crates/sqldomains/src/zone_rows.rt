@@ -1,9 +1,7 @@
 //! What a zone has of the domains.
-ghost use Rattle.std.specs.Prelude.{◌≡◌, Some, IfOk, filter};
-ghost use Rattle.std.specs.FinMap.{insert, values};
+ghost use Rattle.std.specs.{Prelude.{◌≡◌, Some, IfOk, filter}, FinMap.{insert, values}};
 ghost use Rattle.objects.specs.Delegations.{delegation_of};
-ghost use Rattle.sqltables.specs.Link.{link_with_domain};
-ghost use Rattle.sqltables.specs.Transfer.{transfer_with_domain};
+ghost use Rattle.sqltables.specs.{Link.link_with_domain, Transfer.transfer_with_domain};
 ghost use Rattle.states.specs.States.{Finds, FindsSome};
 ghost use Rattle.sqldomains.specs.inner.Delegations as spec;
 

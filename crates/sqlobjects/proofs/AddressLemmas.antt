@@ -1,10 +1,11 @@
 -- The addresses of a host, removed and added.
 use Rattle.std.proofs.Common.{◌≡◌, ◌+◌, ◌<◌, length, get_or, take, ℕ, ℤ, List, [], ◌∷◌, ◌++◌, sym, ap, subst, ◌∙◌, refl, append_assoc, int_eq}
 use Rattle.sqlobjects.proofs.Words.{address_with_host, addresses, addresses_of, addresses_to, append-nil, AreAddressesAdded, AreAddressesPut}
+use Rattle.sqlobjects.proofs.Words.{AreOtherAddressesKept}
 use Rattle.sqlobjects.proofs.Words.{Content, Decides-int_eq, delete_where, filter, map-append, next_key, same_int, take_more, texts_of}
+use Rattle.sqlobjects.proofs.PutLemmas.{filter-append, filter-append_pass, filter-delete, filter-deleted}
 use Rattle.sqlrows.specs.inner.Layouts.{appended}
 use Rattle.sqltables.specs.declared.address.AddressRow.{AddressRow}
-use Rattle.sqlobjects.proofs.PutLemmas.{filter-append, filter-append_pass, filter-delete, filter-deleted}
 
 pub cleared : (id : ℤ) (xs : Content) → AreAddressesPut id [] xs (addresses_to (delete_where (address_with_host id)) xs)
 cleared id xs = record {
@@ -33,13 +34,16 @@ one-added id text xs row host address =
 pub none-added : (id : ℤ) (xs : Content) → AreAddressesAdded id [] xs xs
 none-added id xs = record { here = sym (append-nil (addresses_of xs id)); others = record { hosts = λ other apart. refl; rest = refl } }
 
+then-kept : (id : ℤ) (a b c : Content) → AreOtherAddressesKept id a b → AreOtherAddressesKept id b c → AreOtherAddressesKept id a c
+then-kept id a b c one two = record {
+  hosts = λ other apart. two.hosts other apart ∙ one.hosts other apart;
+  rest = two.rest ∙ ap (λ (x : Content). record x { addresses = c.addresses }) one.rest;
+}
+
 more-added : (id : ℤ) (ts us : List (List ℕ)) (a b c : Content) → AreAddressesAdded id ts a b → AreAddressesAdded id us b c → AreAddressesAdded id (ts ++ us) a c
 more-added id ts us a b c one two = record {
   here = two.here ∙ ap (λ l. l ++ us) one.here ∙ append_assoc (addresses_of a id) ts us;
-  others = record {
-    hosts = λ other apart. two.others.hosts other apart ∙ one.others.hosts other apart;
-    rest = two.others.rest ∙ ap (λ (x : Content). record x { addresses = c.addresses }) one.others.rest;
-  };
+  others = then-kept id a b c one.others two.others;
 }
 
 -- the next of some
@@ -56,13 +60,7 @@ added-put id ts a b none add = record { here = add.here ∙ ap (λ l. l ++ ts) n
 pub addresses-put : (id number : ℤ) (ts : List (List ℕ)) (a b c : Content) → number ≡ id → AreAddressesPut number [] a b → AreAddressesAdded id ts b c → AreAddressesPut id ts a c
 addresses-put id number ts a b c same clear add =
     let one : AreAddressesPut id [] a b = subst (λ k. AreAddressesPut k [] a b) same clear in
-    record {
-      here = add.here ∙ ap (λ l. l ++ ts) one.here;
-      others = record {
-        hosts = λ other apart. add.others.hosts other apart ∙ one.others.hosts other apart;
-        rest = add.others.rest ∙ ap (λ (x : Content). record x { addresses = c.addresses }) one.others.rest;
-      };
-    }
+    record { here = add.here ∙ ap (λ l. l ++ ts) one.here; others = then-kept id a b c one.others add.others }
 
 -- those that were there
 pub already-put : (id : ℤ) (ts : List (List ℕ)) (a : Content) → addresses_of a id ≡ ts → AreAddressesPut id ts a a

@@ -1,30 +1,32 @@
 -- What is found by name is what stands under the name.
-use Rattle.std.proofs.Common.{◌≡◌, ℕ, ℤ, List, Option, Some, Result, Ok, Err, IfOk, sym, ap, ◌∙◌}
-use Rattle.sqlobjects.proofs.Words.{contact_read, ContactRow, contacts_of, Content, filter, finds-on, first_read, get, Host, host_of_columns}
-use Rattle.sqlobjects.proofs.Words.{host_read, HostRow, hosts_of, texts_of}
-use Rattle.objects.specs.declared.contact.Contact.{Contact}
+use Rattle.std.proofs.Common.{◌≡◌, true, ℕ, ℤ, List, [], ◌∷◌, Option, Some, None, Result, Ok, Err, IfOk, sym, ap, ◌∙◌}
+use Rattle.sqlobjects.proofs.Words.{Content, filter, get, Host, host_of_columns, host_read, HostRow, NamedTable, or_else, reads-on, rows_named, texts_of}
+use Rattle.sqlobjects.proofs.PutLemmas.{map_of}
+use Rattle.sqlrows.proofs.NameLemmas.{stands}
+use Rattle.sqlrows.specs.Read.{first_read}
 use Rattle.sqltables.specs.Address as address_table
 use Rattle.sqltables.specs.declared.address.AddressRow.{AddressRow}
-use Rattle.sqltables.specs.Contact as contact_table
-use Rattle.sqltables.specs.Host as host_table
-use Rattle.states.specs.declared.fault.BookFault.{BookFault}
-use Rattle.states.specs.States.{Finds, FindsSome, StateOf}
-use Rattle.sqlobjects.proofs.NameLemmas.{contact-named, host-named}
+use Rattle.states.specs.{declared.fault.BookFault.BookFault, States.{Finds, FindsSome, Reads, StateOf}}
 
-module _ (s m t : StateOf Content) (given name : List ℕ) (same : given ≡ name) where
-  pub contact-found : (r : Result (Option Contact) BookFault) (rows : List ContactRow) → Finds {A = List ContactRow} (Ok rows) (filter (contact_table.contact_with_name given) s.content.contacts) s m
-      → Finds r (first_read (contact_read m.content) rows) m t → Finds r (get (contacts_of s.content) name) s t
-  contact-found r rows asked found = finds-on r s m t (first_read (contact_read m.content) rows) (get (contacts_of s.content) name) asked.0 (λ e.
-      (λ i. first_read (contact_read (asked.0.content e i)) (asked.1 e i))
-      ∙ ap (λ (n : List ℕ). first_read (contact_read s.content) (filter (contact_table.contact_with_name n) s.content.contacts)) same
-      ∙ contact-named s.content name) found
+module _ {R X : Type 0} (table : NamedTable R) (read : Content → R → Option X) (name : List ℕ) (s m : StateOf Content) (asked : Reads s m) where
+  abbrev under : Option X
+  under = get (map_of table.name (read s.content) (table.rows s.content)) name
 
-  pub host-found : (r : Result (Option Host) BookFault) (rows : List HostRow) → Finds {A = List HostRow} (Ok rows) (filter (host_table.host_with_name given) s.content.hosts) s m
-      → Finds r (first_read (host_read m.content) rows) m t → Finds r (get (hosts_of s.content) name) s t
-  host-found r rows asked found = finds-on r s m t (first_read (host_read m.content) rows) (get (hosts_of s.content) name) asked.0 (λ e.
-      (λ i. first_read (host_read (asked.0.content e i)) (asked.1 e i))
-      ∙ ap (λ (n : List ℕ). first_read (host_read s.content) (filter (host_table.host_with_name n) s.content.hosts)) same
-      ∙ host-named s.content name) found
+  under-first : (rows : List R) → rows_named table name s.content ≡ rows → first_read (read s.content) rows ≡ under
+  under-first rows are = ap (first_read (read s.content)) (sym are) ∙ stands table.name (read s.content) name (table.rows s.content)
+
+  -- nothing, where no row has the name
+  pub none-stands : (m.is_clean ≡ true → rows_named table name s.content ≡ []) → Finds (Ok None) under s m
+  none-stands none = (asked, λ e. under-first [] (none e))
+
+  -- and else what its row reads as
+  pub one-stands : (t : StateOf Content) (row : R) (x : X) → (m.is_clean ≡ true → rows_named table name s.content ≡ row ∷ []) → FindsSome (Ok x) (λ it. read m.content row ≡ Some it) m t → Finds (Ok (Some x)) under s t
+  one-stands t row x one told = (
+    reads-on s m t asked told.0,
+    λ e.
+        let there = told.0.clean e in
+        ap (λ o. or_else o None) (sym (ap (λ xs. read xs row) (sym (asked.content there)) ∙ told.1 e)) ∙ under-first (row ∷ []) (one there),
+  )
 
 -- a host is read from its row and the addresses with its number
 pub host-read : (s m : StateOf Content) (row : HostRow) (id : ℤ) (rows : List AddressRow) (texts : List (List ℕ)) (r : Result Host BookFault)

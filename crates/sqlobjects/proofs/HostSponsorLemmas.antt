@@ -1,13 +1,11 @@
 -- Rows of hosts that take a domain's sponsor.
-use Rattle.std.proofs.Common.{◌≡◌, ℕ, ℤ, Bool, true, false, not, cond, ◌&&◌, ◌||◌, List, [], ◌∷◌, map, filter, Option, is_some, refl, sym, ap, subst, ◌∙◌, true≢false}
-use Rattle.sqlobjects.proofs.Words.{and_parts, AreHostsMoved, cons_option, Content, filter_map, from_entries, Has, host_entry, HostRow, hosts_of}
-use Rattle.sqlobjects.proofs.Words.{hosts_to, is_same, IsConsistent, IsSponsorSetBelow, list_all, update_where}
+use Rattle.std.proofs.Common.{◌≡◌, ℕ, ℤ, Bool, true, false, not, cond, ◌||◌, List, [], ◌∷◌, map, filter, Option, is_some, refl, sym, ap, subst, ◌∙◌, true≢false}
+use Rattle.sqlobjects.proofs.Words.{and_parts, AreHostsMoved, cons_option, Content, false_from_ne_true, filter_map, from_entries, Has, host_entry, HostRow}
+use Rattle.sqlobjects.proofs.Words.{hosts_of, hosts_to, is_same, IsConsistent, IsSponsorSetBelow, list_all, update_where}
+use Rattle.sqlobjects.proofs.{PutLemmas.{filter-has, map-stays}, VerdictLemmas.each-passes}
 use Rattle.sqlcolumns.specs.Numbers.{maybe_registrar_column}
 use Rattle.sqltables.specs.Host as table
-use Rattle.sqlobjects.specs.declared.host_sponsors.Sponsors.{Sponsors}
-use Rattle.sqlobjects.specs.Sponsors.{AreMoved, sponsor_by_name, takes_sponsor, with_sponsor}
-use Rattle.sqlobjects.proofs.PutLemmas.{filter-has}
-use Rattle.sqlobjects.proofs.VerdictLemmas.{each-passes}
+use Rattle.sqlobjects.specs.{declared.host_sponsors.Sponsors.Sponsors, Sponsors.{AreMoved, sponsor_by_name, takes_sponsor, with_sponsor}}
 
 -- ---- what hosts are isn't changed
 
@@ -31,13 +29,8 @@ moved-stand xs ys above before after moved addresses =
 
 -- rows of which none lies below it are as they were
 none-moved : (above : List ℕ) (after : Option ℤ) (rows : List HostRow) → filter (table.host_with_above above) rows ≡ [] → map (with_sponsor above after) rows ≡ rows
-none-moved above after [] none = refl
-none-moved above after (row ∷ rows) none = go (table.host_with_above above row) refl none (λ e. none-moved above after rows e)
-  where
-    go : (b : Bool) → table.host_with_above above row ≡ b → cond b (row ∷ filter (table.host_with_above above) rows) (filter (table.host_with_above above) rows) ≡ []
-        → (filter (table.host_with_above above) rows ≡ [] → map (with_sponsor above after) rows ≡ rows) → map (with_sponsor above after) (row ∷ rows) ≡ row ∷ rows
-    go true is e more = cc
-    go false is e more = λ i. cond (is i && not (is_some row.external_sponsor)) (record row { sponsor = after }) row ∷ more e i
+none-moved above after rows none = map-stays (with_sponsor above after) rows (λ row there.
+    rw (false_from_ne_true (table.host_with_above above row) (λ e. subst (λ l. Has l row) none (filter-has (table.host_with_above above) rows row there e))) refl)
 
 -- it has the sponsor before, unless somebody sponsors it outside the zone
 abbrev pub Had : Sponsors → HostRow → Bool

@@ -1,9 +1,8 @@
 -- A row of a table in which no name comes twice, put or added.
-use Rattle.std.proofs.Common.{◌≡◌, inl, ℕ, ℤ, List, [], ◌∷◌, ◌++◌, Option, Some, None, refl, sym, ap, subst, ◌∙◌}
-use Rattle.sqlobjects.proofs.Words.{bytes_eq, Content, Has, insert_by, IsConsistent, IsPlaced, IsPlacedAt, IsRowPlaced, NamedTable, next_key}
-use Rattle.sqlobjects.proofs.Words.{rows_named, rows_of, with_last, with_replaced}
+use Rattle.std.proofs.Common.{◌≡◌, ℕ, ℤ, List, [], ◌∷◌, ◌++◌, Option, Some, None, sym, ap, subst, ◌∙◌}
+use Rattle.sqlobjects.proofs.Words.{Content, insert_by, IsConsistent, IsPlaced, IsPlacedAt, IsRowPlaced, NamedTable, next_key}
+use Rattle.sqlobjects.proofs.{Words.{rows_named, rows_of, with_last, with_replaced}, PutLemmas.{placed-added, placed-put, row_there}}
 use Rattle.sqlrows.proofs.ReplaceLemmas.{replaced-is-put}
-use Rattle.sqlobjects.proofs.PutLemmas.{has-filter, placed-added, placed-put}
 
 module _ {R : Type 0} (t : NamedTable R) where
   -- in the place of the row of its name
@@ -12,7 +11,7 @@ module _ {R : Type 0} (t : NamedTable R) where
       let number : t.key row ≡ t.key found = ap t.key is ∙ t.number_is given (t.key found) in
       let name : t.name row ≡ t.name given = ap t.name is ∙ t.name_is given (t.key found) in
       let all : List R = insert_by t.key (t.rows xs) row in
-      let has = has-filter (λ r. bytes_eq (t.name r) (t.name given)) (t.rows xs) found (subst (λ rows. Has rows found) (sym there) (inl refl)) in
+      let has = row_there t.key t.name (t.name given) (t.rows xs) found there in
       let put : t.with_rows all xs ≡ with_replaced t row xs =
       ap (λ l. t.with_rows l xs) (sym (replaced-is-put t.key (t.rows xs) found row (λ it. t.numbered row (t.key it)) (t.keyed xs consistent) has.0 (sym number) (λ it e. ap (t.numbered row) e ∙ t.itself row))) in
       subst (IsRowPlaced t (λ it. it ≡ t.numbered given (t.key it)) (t.name given) row xs) put (record {

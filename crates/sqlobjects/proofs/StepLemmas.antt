@@ -1,8 +1,7 @@
 -- One step of a change after another.
 use Rattle.std.proofs.Common.{◌≡◌, true, Result, Ok, Err, refl, sym, subst, ◌∙◌}
-use Rattle.sqlobjects.proofs.Words.{Changes, ChangesGiving, HasChanged, stays-on, then-made}
-use Rattle.states.specs.declared.fault.BookFault.{BookFault}
-use Rattle.states.specs.States.{Makes, Reads, StateOf, Writes}
+use Rattle.sqlobjects.proofs.Words.{Changes, HasChanged, stays-on, then-made}
+use Rattle.states.specs.{declared.fault.BookFault.BookFault, States.{Makes, Reads, StateOf, Writes}}
 use Rattle.states.proofs.LeavingLemmas.{leaves-on, leaves-refl}
 
 pub asked-then : {C : Type 0} (step way : C → C → Type 0) (a b c : StateOf C) → Reads a b → HasChanged step b c → (c.is_clean ≡ true → step a.content c.content → way a.content c.content) → HasChanged way a c
@@ -35,29 +34,25 @@ became-made step way h a b c made write is = record {
   leaves = leaves-on a b c made.leaves write.leaves;
 }
 
--- a change after a question, which answers for both
-pub asked-brings : {A C : Type 0} (r : Result A BookFault) (step way : A → C → C → Type 0) (a b c : StateOf C) → Reads a b → ChangesGiving r step b c
-    → ((it : A) → b.is_clean ≡ true → step it a.content c.content → way it a.content c.content) → ChangesGiving r way a c
-asked-brings (Ok it) step way a b c asked made is = asked-then (step it) (way it) a b c asked made (λ e. is it (made.clean e))
-asked-brings (Err fault) step way a b c asked made is = record { clean = λ e. asked.clean (made.clean e); before = λ e. made.before e ∙ asked.before (made.clean e); leaves = leaves-on a b c asked.leaves made.leaves }
-
--- the same where nothing is answered
+-- a change after a question, which both may fail
 pub asked-turns : {A C : Type 0} (r : Result A BookFault) (step way : C → C → Type 0) (a b c : StateOf C) → Reads a b → Changes r step b c
     → (b.is_clean ≡ true → step a.content c.content → way a.content c.content) → Changes r way a c
 asked-turns (Ok done) step way a b c asked made is = asked-then step way a b c asked made (λ e. is (made.clean e))
 asked-turns (Err fault) step way a b c asked made is = record { clean = λ e. asked.clean (made.clean e); before = λ e. made.before e ∙ asked.before (made.clean e); leaves = leaves-on a b c asked.leaves made.leaves }
 
--- one change after another, where something always holds before and after
-pub became-consistent : {C : Type 0} (first second way : C → C → Type 0) (always : C → Type 0) (a b c : StateOf C) → HasChanged first a b → HasChanged second b c
-    → (a.is_clean ≡ true → always a.content) → (c.is_clean ≡ true → always c.content)
-    → (always a.content → always c.content → first a.content b.content → second b.content c.content → way a.content c.content) → HasChanged way a c
-became-consistent first second way always a b c one two before after is = record {
-  clean = λ e. one.clean (two.clean e);
-  before = λ e. two.before e ∙ one.before (two.clean e);
+-- one change after another, behind a question
+pub asked-became : {C : Type 0} (first second way : C → C → Type 0) (a b m c : StateOf C) → Reads a b → HasChanged first b m → HasChanged second m c
+    → (a.is_clean ≡ true → b.is_clean ≡ true → m.is_clean ≡ true → c.is_clean ≡ true → first a.content m.content → second m.content c.content → way a.content c.content) → HasChanged way a c
+asked-became first second way a b m c asked one two is = record {
+  clean = λ e. asked.clean (one.clean (two.clean e));
+  before = λ e. two.before e ∙ one.before (two.clean e) ∙ asked.before (one.clean (two.clean e));
   opened = two.opened;
-  content = λ e. is (before (one.clean (two.clean e))) (after e) (one.content (two.clean e)) (two.content e);
-  answers = λ was. two.answers (one.answers was);
-  leaves = leaves-on a b c one.leaves two.leaves;
+  content = λ e.
+      let between = two.clean e in
+      let there = one.clean between in
+      is (asked.clean there) there between e (subst (λ x. first x m.content) (asked.content there) (one.content between)) (two.content e);
+  answers = λ was. two.answers (one.answers (asked.answers was));
+  leaves = leaves-on a b c asked.leaves (leaves-on b m c one.leaves two.leaves);
 }
 
 -- a question, after which nothing has to be done

@@ -1,18 +1,16 @@
 -- The last transfer of a contact or a domain, removed, replaced and added.
-use Rattle.std.proofs.Common.{◌≡◌, ◌&&◌, inl, inr, ℤ, true, false, [], ◌∷◌, ◌++◌, filter, Option, Some, None, IfSome, is_some, option_map, refl, sym, ap, subst, ◌∙◌, int_eq, true≢false}
-use Rattle.std.specs.Option.{option_map_or}
+use Rattle.std.proofs.Common.{◌≡◌, ◌&&◌, inl, ℤ, true, false, [], ◌∷◌, ◌++◌, Option, Some, None, IfSome, is_some, option_map, refl, sym, ap, subst, ◌∙◌, int_eq, true≢false}
 use Rattle.std.proofs.Math.Bool.{and_comm}
-use Rattle.sqlobjects.proofs.Words.{Content, Decides-int_eq, delete_where, Has, insert_by, is_transfer_of, IsKeyedBy, IsStorableTransfer}
-use Rattle.sqlobjects.proofs.Words.{IsTransferCleared, IsTransferPut, last_transfer, next_key, rows_of, same_by_key, same_int, Transferable}
+use Rattle.sqlobjects.proofs.Words.{Content, Decides-int_eq, delete_where, Has, is_transfer_of, IsKeyedBy, IsStorableTransfer}
+use Rattle.sqlobjects.proofs.Words.{IsTransferCleared, IsTransferPut, last_transfer, next_key, same_by_key, same_int, Transferable}
 use Rattle.sqlobjects.proofs.Words.{transfers_to, with_over}
+use Rattle.sqlobjects.proofs.PutLemmas.{filter-append, filter-append_pass, filter-delete, filter-deleted, filter-has, filter-in-place, filter-insert_by, has-filter, the-one}
 use Rattle.sqlite_keyed.specs.Rules.{points_to}
 use Rattle.objects.specs.declared.transfer.Transfer as object
 use Rattle.sqlcolumns.proofs.TransferLemmas.{transfer_back}
-use Rattle.sqltables.specs.Transfer.{transfers}
-use Rattle.sqltables.specs.declared.transfer.TransferRow.{TransferRow}
+use Rattle.sqltables.specs.{Transfer.transfers, declared.transfer.TransferRow.TransferRow}
 use Rattle.sqlobjects.specs.declared.transfers.Transferable.TheVariants.{Contact, Domain}
 use Rattle.sqlobjects.specs.inner.Transfers.{IsRowOf, are_same, maybe_row, names_both, transfer_row_of}
-use Rattle.sqlobjects.proofs.PutLemmas.{filter-append, filter-append_pass, filter-delete, filter-deleted, filter-has, filter-in-place, filter-insert_by, has-filter}
 
 -- ---- whose a row is
 
@@ -54,64 +52,47 @@ module _ (k : ℤ) (t : object.Transfer) (is : IsStorableTransfer t) where
 
 -- ---- removed, replaced and added
 
--- there was none
-pub clear-already : (it : Transferable) (xs : Content) → filter (is_transfer_of it) xs.transfers ≡ [] → IsTransferCleared it xs xs
-clear-already it xs none = record { none = none; kept = record { others = λ other apart. refl; rest = refl } }
-
-module _ (it : Transferable) (xs : Content) (one : TransferRow) (found : filter (is_transfer_of it) xs.transfers ≡ one ∷ []) (single : names_both one ≡ false) where
-  the-one : (t : TransferRow) → Has xs.transfers t → is_transfer_of it t ≡ true → t ≡ one
-  the-one t h e = elim (subst (λ l. Has l t) found (filter-has (is_transfer_of it) xs.transfers t h e)) [ inl same ↦ same | inr none ↦ absurd none ]
-
-  cleared : IsTransferCleared it xs (transfers_to (delete_where (is_transfer_of it)) xs)
-  cleared = record {
-    none = filter-deleted (is_transfer_of it) (is_transfer_of it) xs.transfers (λ t h e. e);
-    kept = record {
-      others = λ other apart. filter-delete (is_transfer_of other) (is_transfer_of it) xs.transfers (λ t h e. alone it other t (ap names_both (the-one t h e) ∙ single) apart e);
-      rest = refl;
-    };
-  }
-
-  replaced : IsKeyedBy transfers.key xs.transfers → (t : object.Transfer) (is : IsStorableTransfer t) → IsTransferPut it (Some t) xs (transfers_to (λ rows. insert_by transfers.key rows (row_under one.id t is it)) xs)
-  replaced keyed t is =
-      let row : TransferRow = row_under one.id t is it in
-      let there = has-filter (is_transfer_of it) xs.transfers one (subst (λ l. Has l one) (sym found) (inl refl)) in
-      record {
-        last = ap last_transfer (filter-in-place transfers.key (is_transfer_of it) xs.transfers one row keyed refl (own-row one.id t is it) found) ∙ read-back one.id t is it;
-        kept = record {
-          others = λ other apart. filter-insert_by transfers.key (is_transfer_of other) xs.transfers row (alone it other row (single-row one.id t is it) apart (own-row one.id t is it))
-              (λ x h e. ap (is_transfer_of other) (same_by_key transfers.key xs.transfers x one keyed h there.0 e) ∙ alone it other one single apart there.1);
-          rest = refl;
-        };
-      }
+-- a row of the object is of no other object
+only-its : (it : Transferable) (xs : Content) (there : Option TransferRow) → IsRowOf it xs.transfers there → (t : TransferRow) → Has xs.transfers t → is_transfer_of it t ≡ true → names_both t ≡ false
+only-its it xs None of t h e = absurd (subst (λ l. Has l t) of.is (filter-has (is_transfer_of it) xs.transfers t h e))
+only-its it xs (Some one) of t h e = ap names_both (the-one (is_transfer_of it) xs.transfers one t of.is h e) ∙ of.alone
 
 -- whatever was there
 pub transfer-cleared : (it : Transferable) (xs : Content) (there : Option TransferRow) → IsRowOf it xs.transfers there → IsTransferCleared it xs (transfers_to (delete_where (is_transfer_of it)) xs)
-transfer-cleared it xs None of = record {
+transfer-cleared it xs there of = record {
   none = filter-deleted (is_transfer_of it) (is_transfer_of it) xs.transfers (λ t h e. e);
   kept = record {
-    others = λ other apart. filter-delete (is_transfer_of other) (is_transfer_of it) xs.transfers (λ t h e. absurd (subst (λ l. Has l t) of.is (filter-has (is_transfer_of it) xs.transfers t h e)));
+    others = λ other apart. filter-delete (is_transfer_of other) (is_transfer_of it) xs.transfers (λ t h e. alone it other t (only-its it xs there of t h e) apart e);
     rest = refl;
   };
 }
-transfer-cleared it xs (Some one) of = cleared it xs one of.is of.alone
 
 pub transfer-put : (it : Transferable) (xs : Content) (transfer : Option object.Transfer) (there row : Option TransferRow) → row ≡ maybe_row it transfer → IfSome transfer IsStorableTransfer
     → IsRowOf it xs.transfers there → IsKeyedBy transfers.key xs.transfers → IsTransferPut it transfer xs (transfers_to (with_over it there row) xs)
 transfer-put it xs transfer there row given is of keyed =
-    subst (λ r. IsTransferPut it transfer xs (transfers_to (with_over it there r) xs)) (sym given) (go there transfer is of.is of.alone)
+    subst (λ r. IsTransferPut it transfer xs (transfers_to (with_over it there r) xs)) (sym given) (go there transfer is of)
   where
-    go : (there : Option TransferRow) (transfer : Option object.Transfer) → IfSome transfer IsStorableTransfer → filter (is_transfer_of it) xs.transfers ≡ rows_of there → option_map_or names_both there false ≡ false
-        → IsTransferPut it transfer xs (transfers_to (with_over it there (maybe_row it transfer)) xs)
-    go None None is none single = record { last = ap last_transfer none; kept = (clear-already it xs none).kept }
-    go None (Some t) is none single =
+    go : (there : Option TransferRow) (transfer : Option object.Transfer) → IfSome transfer IsStorableTransfer → IsRowOf it xs.transfers there → IsTransferPut it transfer xs (transfers_to (with_over it there (maybe_row it transfer)) xs)
+    go None None is of = record { last = ap last_transfer of.is; kept = record { others = λ other apart. refl; rest = refl } }
+    go None (Some t) is of =
         let k = next_key transfers.key xs.transfers in
         let row : TransferRow = row_under k t is it in
         record {
-          last = ap last_transfer (filter-append_pass (is_transfer_of it) xs.transfers row (own-row k t is it) ∙ ap (λ rows. rows ++ row ∷ []) none) ∙ read-back k t is it;
+          last = ap last_transfer (filter-append_pass (is_transfer_of it) xs.transfers row (own-row k t is it) ∙ ap (λ rows. rows ++ row ∷ []) of.is) ∙ read-back k t is it;
           kept = record {
             others = λ other apart. filter-append (is_transfer_of other) xs.transfers row (alone it other row (single-row k t is it) apart (own-row k t is it));
             rest = refl;
           };
         }
-    go (Some one) None is found single = let clear = cleared it xs one found single in record { last = ap last_transfer clear.none; kept = clear.kept }
-    go (Some one) (Some t) is found single = replaced it xs one found single keyed t is
+    go (Some one) None is of = let clear = transfer-cleared it xs (Some one) of in record { last = ap last_transfer clear.none; kept = clear.kept }
+    go (Some one) (Some t) is of =
+        let row : TransferRow = row_under one.id t is it in
+        let there = has-filter (is_transfer_of it) xs.transfers one (subst (λ l. Has l one) (sym of.is) (inl refl)) in
+        record {
+          last = ap last_transfer (filter-in-place transfers.key (is_transfer_of it) xs.transfers one row keyed refl (own-row one.id t is it) of.is) ∙ read-back one.id t is it;
+          kept = record {
+            others = λ other apart. filter-insert_by transfers.key (is_transfer_of other) xs.transfers row (alone it other row (single-row one.id t is it) apart (own-row one.id t is it))
+                (λ x h e. ap (is_transfer_of other) (same_by_key transfers.key xs.transfers x one keyed h there.0 e) ∙ alone it other one of.alone apart there.1);
+            rest = refl;
+          };
+        }

@@ -8,22 +8,9 @@ ghost use Rattle.sqlobjects.specs.inner.Stages.{AreAddressesAdded, AreAddressesP
 use crate::hosts::{number_of, texts_of};
 use basis::text::Text;
 use sqlite::Alter;
-use sqlrows::Number;
 use sqltables::{AddressRow, HostRow, RowStore};
 use states::BookFault;
 use std::alloc::{AllocError, Global};
-
-/// Removes the addresses of the host with this number.
-pub(crate) fn clear_addresses<S: Alter>(
-    store: &mut RowStore<S>,
-    host: Number,
-) -> Result<(), BookFault>
-    requires { store.old.is_open ≡ true }
-    ensures { Changes result (AreAddressesPut host []) store.old store.new }
-{
-    store.remove_addresses_by_host(host)?;
-    Ok(())
-}
 
 /// Gives a host, which lies in this row, these addresses in place of those that it had. To a new row none
 /// leads, so none is looked for.
@@ -58,7 +45,7 @@ fn replace_addresses<S: Alter>(
     if is_there {
         return Ok(());
     }
-    clear_addresses(store, number_of(host))?;
+    store.remove_addresses_by_host(number_of(host))?;
     add_addresses(store, host, addresses)?;
     Ok(())
 }

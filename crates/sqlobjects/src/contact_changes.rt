@@ -1,17 +1,16 @@
 //! Contacts put under their names and dropped.
-ghost use Rattle.std.specs.Prelude.{◌≡◌, true, Some, None};
+ghost use Rattle.std.specs.Prelude.{◌≡◌, true, pos, Some, None, IfOk};
+ghost use Rattle.sqlcolumns.specs.inner.Contacts.{row_of_contact};
 ghost use Rattle.sqlrows.specs.Meanings.{Changes};
-ghost use Rattle.sqlrows.specs.Read.{rows_of};
 ghost use Rattle.sqlobjects.specs.inner.Changes.{IsContactPut};
-ghost use Rattle.sqlobjects.specs.inner.Stages.{named_contacts, rows_named};
 
-use crate::contact_rows::{place, remove_found};
-use crate::named_rows::row_named;
-use crate::transfers::{Transferable, put_last_transfer};
+use crate::named_rows::{place_row, row_named};
+use crate::transfers::{Transferable, clear_transfer, put_last_transfer};
 use basis::text::Text;
 use objects::Contact;
-use sqlcolumns::is_contact;
+use sqlcolumns::{contact_row, is_contact};
 use sqlite::Alter;
+use sqlrows::{Number, or_fault};
 use sqltables::{ContactRow, RowStore};
 use states::BookFault;
 use std::alloc::Global;
@@ -26,42 +25,26 @@ pub fn put_contact<S: Alter>(
     requires { store.old.is_open ≡ true }
     ensures { Changes result (IsContactPut name (Some contact)) store.old store.new }
 {
-    put_named(store, alloc, &name, &contact)
-}
-
-fn put_named<S: Alter>(
-    store: &mut RowStore<S>,
-    alloc: Global,
-    name: &Text,
-    contact: &Contact,
-) -> Result<(), BookFault>
-    requires { store.old.is_open ≡ true }
-    ensures { Changes result (IsContactPut name.now (Some contact.now)) store.old store.new }
-{
     if contact.name.as_str() != name.as_str() {
         return Err(BookFault::Store);
     }
-    let found = row_named(store, &contact.name)?;
-    put_over(store, alloc, found, contact)
+    put(store, alloc, &contact)
 }
 
-/// The contact is under its name, of which this row was found. One that wouldn't be read back is refused.
-fn put_over<S: Alter>(
-    store: &mut RowStore<S>,
-    alloc: Global,
-    found: Option<ContactRow>,
-    contact: &Contact,
-) -> Result<(), BookFault>
+/// The same of a contact that is kept: in the row that has its name, or else in a new one, and then its
+/// transfer. One that wouldn't be read back is refused.
+fn put<S: Alter>(store: &mut RowStore<S>, alloc: Global, contact: &Contact) -> Result<(), BookFault>
     requires { store.old.is_open ≡ true }
-    ensures { Changes result (λ old new. rows_named named_contacts contact.now.name old ≡ rows_of found
-        → IsContactPut contact.now.name (Some contact.now) old new) store.old store.new }
+    ensures { Changes result (IsContactPut contact.now.name (Some contact.now)) store.old store.new }
 {
+    store.show_consistent();
+    let found = row_named(store, &contact.name)?;
     if !is_contact(contact) {
         return Err(BookFault::Store);
     }
     let is_new = found.is_none();
-    store.show_consistent();
-    let row = place(store, alloc, found, contact)?;
+    let bare = row_of(alloc, contact)?;
+    let row = place_row(store, found, bare)?;
     store.show_consistent();
     put_last_transfer(
         store,
@@ -73,7 +56,14 @@ fn put_over<S: Alter>(
     Ok(())
 }
 
-/// No contact is under this name.
+/// A contact's row, but for its number and its transfer. One that can't be written is refused.
+fn row_of(alloc: Global, contact: &Contact) -> Result<ContactRow, BookFault>
+    ensures { IfOk result (λ row. row_of_contact (pos 0) contact.now ≡ Some row) }
+{
+    or_fault(contact_row(alloc, 0, contact)?)
+}
+
+/// No contact is under this name, and no transfer is of the one that was.
 pub fn drop_contact<S: Alter>(
     store: &mut RowStore<S>,
     alloc: Global,
@@ -83,8 +73,17 @@ pub fn drop_contact<S: Alter>(
     ensures { Changes result (IsContactPut name None) store.old store.new }
 {
     store.show_consistent();
-    let row = row_named(store, &name)?;
-    remove_found(store, row)?;
+    let Some(row) = row_named::<ContactRow, S>(store, &name)? else {
+        return Ok(());
+    };
+    clear_transfer(store, Transferable::of_contact(&row))?;
+    store.remove_contacts_by_id(number_of(&row))?;
     store.show_consistent();
     Ok(())
+}
+
+fn number_of(row: &ContactRow) -> Number
+    ensures { result ≡ row.now.id }
+{
+    Number::new(row.id)
 }

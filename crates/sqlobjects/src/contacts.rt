@@ -1,13 +1,12 @@
 //! Contacts, by name.
-ghost use Rattle.std.specs.Prelude.{◌≡◌, true, IfOk, Some, filter, is_some};
-ghost use Rattle.std.specs.FinMap.{get};
+ghost use Rattle.std.specs.{Prelude.{◌≡◌, true, IfOk, Some, filter, is_some}, FinMap.get};
 ghost use Rattle.sqlcolumns.specs.Contacts.{contact_of_columns};
-ghost use Rattle.sqltables.specs.Contact.{contact_with_name};
-ghost use Rattle.sqltables.specs.Transfer.{transfer_with_contact};
+ghost use Rattle.sqltables.specs.{Contact.contact_with_name, Transfer.transfer_with_contact};
 ghost use Rattle.states.specs.States.{Finds, FindsSome};
 ghost use Rattle.sqlobjects.specs.Objects as spec;
-ghost use Rattle.sqlrows.specs.Read.{IsRead, first_read};
+ghost use Rattle.sqlrows.specs.Read.{IsRead};
 
+use crate::named_rows::row_named;
 use basis::list::Seq;
 use basis::text::Text;
 use objects::{Contact, Transfer};
@@ -29,21 +28,7 @@ pub fn contact<S: Alter>(
     ensures read { IfOk result (λ contact. store.new.is_clean ≡ true
         → IsRead (filter (contact_with_name name.now) store.old.content.contacts) contact) }
 {
-    let rows = store.contacts_by_name(name.as_str())?;
-    first_contact(store, alloc, rows)
-}
-
-/// The contact of the one of these rows, if there is one.
-fn first_contact<S: Alter>(
-    store: &mut RowStore<S>,
-    alloc: Global,
-    rows: Seq<ContactRow>,
-) -> Result<Option<Contact>, BookFault>
-    ensures found { Finds result (first_read (spec.contact_read store.old.content) rows) store.old
-        store.new }
-    ensures read { IfOk result (λ contact. IsRead rows contact) }
-{
-    let Some(row) = only(rows)? else {
+    let Some(row) = row_named::<ContactRow, S>(store, name)? else {
         return Ok(None);
     };
     Ok(Some(contact_of(store, alloc, row)?))

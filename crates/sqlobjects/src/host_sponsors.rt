@@ -1,11 +1,9 @@
 //! Hosts in the zone are sponsored by whoever sponsors the domain above them.
-ghost use Rattle.std.specs.Prelude.{◌≡◌, ◌||◌, true, is_some};
-ghost use Rattle.std.specs.List.{list_all};
+ghost use Rattle.std.specs.{Prelude.{◌≡◌, ◌||◌, true, is_some}, List.list_all};
 ghost use Rattle.sqlcolumns.specs.Transfers as columns;
 ghost use Rattle.sqlrows.specs.Meanings.{Changes};
-ghost use Rattle.sqlobjects.specs.Sponsors.{IsSponsorSetBelow};
+ghost use Rattle.sqlobjects.specs.{Sponsors.IsSponsorSetBelow, inner.Stages.AreHostsMoved};
 ghost use Rattle.sqltables.specs.declared.host.HostRow.{HostRow};
-ghost use Rattle.sqlobjects.specs.inner.Stages.{AreHostsMoved};
 
 use crate::sponsors::domain_sponsor;
 use basis::registrar::RegistrarNo;

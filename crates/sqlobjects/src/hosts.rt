@@ -5,14 +5,15 @@ ghost use Rattle.sqlcolumns.specs.Hosts.{host_of_columns};
 ghost use Rattle.sqltables.specs.Host.{host_with_name};
 ghost use Rattle.states.specs.States.{Finds, FindsSome};
 ghost use Rattle.sqlobjects.specs.Objects as spec;
-ghost use Rattle.sqlrows.specs.Read.{IsRead, first_read};
+ghost use Rattle.sqlrows.specs.Read.{IsRead};
 
+use crate::named_rows::row_named;
 use basis::list::Seq;
 use basis::text::Text;
 use objects::Host;
 use sqlcolumns::host_of_row;
 use sqlite::Alter;
-use sqlrows::{Number, only, or_fault};
+use sqlrows::{Number, or_fault};
 use sqltables::{AddressRow, HostRow, RowStore};
 use states::BookFault;
 use std::alloc::{AllocError, Global};
@@ -28,26 +29,13 @@ pub fn host<S: Alter>(
     ensures read { IfOk result (λ host. store.new.is_clean ≡ true
         → IsRead (filter (host_with_name name.now) store.old.content.hosts) host) }
 {
-    let rows = store.hosts_by_name(name.as_str())?;
-    first_host(store, alloc, rows)
-}
-
-/// The host of the one of these rows, if there is one.
-fn first_host<S: Alter>(
-    store: &mut RowStore<S>,
-    alloc: Global,
-    rows: Seq<HostRow>,
-) -> Result<Option<Host>, BookFault>
-    ensures found { Finds result (first_read (spec.host_read store.old.content) rows) store.old
-        store.new }
-    ensures read { IfOk result (λ host. IsRead rows host) }
-{
-    let Some(row) = only(rows)? else {
+    let Some(row) = row_named::<HostRow, S>(store, name)? else {
         return Ok(None);
     };
     Ok(Some(host_of(store, alloc, row)?))
 }
 
+/// The host of a row.
 fn host_of<S: Alter>(
     store: &mut RowStore<S>,
     alloc: Global,

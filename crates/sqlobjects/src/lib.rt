@@ -15,7 +15,6 @@
 
 mod addresses;
 mod contact_changes;
-mod contact_rows;
 mod contacts;
 mod host_changes;
 mod host_names;

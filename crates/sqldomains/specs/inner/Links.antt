@@ -10,7 +10,7 @@ use Rattle.sqltables.specs.Content.{Content}
 use Rattle.sqltables.specs.Domain.{domain_with_registrant}
 use Rattle.sqltables.specs.declared.domain.DomainRow.{DomainRow}
 use Rattle.sqltables.specs.Link.{link_with_contact, link_with_host}
-use Rattle.sqlobjects.specs.inner.Stages.{NamedTable, rows_named}
+use Rattle.sqlobjects.specs.inner.Stages.{NamedTable}
 use Rattle.sqldomains.specs.Domains.{domain_read, domains_of}
 
 -- a contact, or a host, is linked where some domain names it (RFC 5731, 2.2; RFC 5732, 2.3)
@@ -23,12 +23,6 @@ some_domain_names_host xs name = list_any (λ d. names_host name d.links) (value
 -- the name of the row with a number, if there is one
 abbrev pub name_at : {R : Type 0} → NamedTable R → Content → ℤ → Option (List ℕ)
 name_at table xs id = option_map table.name (get_by table.key (table.rows xs) id)
-
--- the number of the row of this name, if there is one
-abbrev pub IsNumberOf : {R : Type 0} → NamedTable R → Content → List ℕ → Option ℤ → Type 0
-IsNumberOf table xs name None = rows_named table name xs ≡ []
-IsNumberOf {R} table xs name (Some id) =
-    (row : R) × Has (table.rows xs) row × (table.name row ≡ name) × (table.key row ≡ id)
 
 -- no row refers to the contact with this number
 pub record IsNoContact (xs : Content) (id : ℤ) : Type 0 where

@@ -1,7 +1,7 @@
 -- What single steps of a change of a domain make.
-use Rattle.std.specs.Prelude.{◌≡◌, ℕ, ℤ, true, false, List, [], ◌∷◌, filter, Option, Some, None, ⊤}
+use Rattle.std.specs.Prelude.{◌≡◌, ℕ, ℤ, true, false, List, [], ◌∷◌, filter, Option, Some, ⊤}
 use Rattle.std.specs.Ordering.{int_eq}
-use Rattle.sqlite_keyed.specs.Lists.{delete_where, update_where}
+use Rattle.sqlite_keyed.specs.Lists.{update_where}
 use Rattle.objects.specs.declared.domain.Domain.{Domain}
 use Rattle.objects.specs.declared.domain.Links.{Links}
 use Rattle.sqlcolumns.specs.declared.code.Role.{Role}
@@ -9,15 +9,13 @@ use Rattle.sqlcolumns.specs.Codes.{role_column}
 use Rattle.sqlcolumns.specs.inner.Domains.{row_of_domain}
 use Rattle.sqltables.specs.Content.{Content}
 use Rattle.sqltables.specs.inner.Content.{links_to}
-use Rattle.sqltables.specs.Domain as table
 use Rattle.sqltables.specs.declared.domain.DomainRow.{DomainRow}
 use Rattle.sqltables.specs.Link.{link_with_domain}
 use Rattle.sqltables.specs.declared.link.LinkRow.{LinkRow}
 use Rattle.sqltables.specs.Transfer.{transfer_with_contact, transfer_with_domain}
 use Rattle.sqlobjects.specs.declared.transfers.Transferable.TheVariants as transferable
-use Rattle.sqlobjects.specs.inner.Stages.{IsRowPlaced, named_domains}
 use Rattle.sqlobjects.specs.inner.Transfers.{IsTransferPut}
-use Rattle.sqldomains.specs.declared.domain_rows.DerivedColumns.{DerivedColumns}
+use Rattle.sqldomains.specs.declared.domain_changes.DerivedColumns.{DerivedColumns}
 use Rattle.sqldomains.specs.declared.comparison.LinkComparison.{LinkComparison}
 use Rattle.sqldomains.specs.declared.comparison.LinkComparison.TheVariants as comparisons
 use Rattle.sqldomains.specs.Domains.{are_dated, in_places, linked_name, registrant_alone, with_linked_name, with_links}
@@ -101,11 +99,6 @@ pub record AreOtherPartsKept (id : ℤ) (old new : Content) : Type 0 where
 abbrev pub row_beside : ℤ → DerivedColumns → Domain → Option DomainRow
 row_beside id beside d = row_of_domain id beside.registrant beside.due d
 
--- the domain, but for its links and its transfer, is in this row, and no other row is changed
-abbrev pub IsDomainPlaced : Domain → DerivedColumns → DomainRow → Content → Content → Type 0
-IsDomainPlaced d beside =
-    IsRowPlaced named_domains (λ (row : DomainRow). row_beside row.id beside d ≡ Some row) d.name
-
 -- no link and no transfer is of the domain with this number
 pub record HasNoParts (id : ℤ) (xs : Content) : Type 0 where
   pub links : filter (link_with_domain id) xs.links ≡ []
@@ -116,15 +109,3 @@ pub record ArePartsPut (id due : ℤ) (d : Domain) (old new : Content) : Type 0 
   pub between : Content
   pub links : AreLinksPut id due d.links old between
   pub transfer : IsTransferPut (transferable.Domain id) d.transfer between new
-
--- the domain with this number, its links and its transfer aren't there any more
-pub record IsDomainRemoved (id : ℤ) (old new : Content) : Type 0 where
-  pub kept : AreOtherPartsKept id old new
-  pub domains : new.domains ≡ delete_where (table.domain_with_id id) old.domains
-  pub links : filter (link_with_domain id) new.links ≡ []
-  pub transfers : filter (transfer_with_domain id) new.transfers ≡ []
-
--- the same of the row that was found, if there was one
-abbrev pub IsDomainDropped : Option DomainRow → Content → Content → Type 0
-IsDomainDropped None old new = new ≡ old
-IsDomainDropped (Some row) old new = IsDomainRemoved row.id old new

@@ -1,17 +1,12 @@
 -- What single steps of a change make.
-use Rattle.std.specs.Prelude.{◌≡◌, refl, ℕ, ℤ, true, false, List, [], ◌++◌, ◌∷◌, filter, Option, Some, None, IfSome, is_some, if◌then◌else◌, Result, Ok, Err}
+use Rattle.std.specs.Prelude.{◌≡◌, refl, ℕ, ℤ, false, List, [], ◌++◌, ◌∷◌, filter, Option, Some, IfSome, Result, Ok, Err}
 use Rattle.std.specs.Ordering.{int_eq}
 use Rattle.sqlite_keyed.specs.Keyed.{IsKeyedBy, insert_by, next_key}
-use Rattle.sqlite_keyed.specs.Lists.{delete_where, update_where}
+use Rattle.sqlite_keyed.specs.Lists.{update_where}
 use Rattle.sqlite_rules.specs.Lists.{Has}
 use Rattle.sqlite_typed.specs.Tests.{bytes_eq}
-use Rattle.objects.specs.declared.contact.Contact.{Contact}
 use Rattle.objects.specs.declared.host.Host.{Host}
-use Rattle.sqlcolumns.specs.inner.Contacts.{row_of_contact}
 use Rattle.sqlcolumns.specs.inner.Hosts.{row_of_host}
-use Rattle.sqlcolumns.specs.Steps.{◌>>=◌}
-use Rattle.sqlcolumns.specs.Transfers.{is_same}
-use Rattle.sqltables.specs.Contact as contact_table
 use Rattle.sqltables.specs.declared.contact.ContactRow.{ContactRow}
 use Rattle.sqltables.specs.Content.{Content}
 use Rattle.sqltables.specs.inner.Content.{hosts_to}
@@ -24,10 +19,8 @@ use Rattle.states.specs.States.{StateOf, Stays}
 use Rattle.sqlrows.specs.Meanings.{HasChanged}
 use Rattle.sqlrows.specs.Read.{rows_of}
 use Rattle.sqlobjects.specs.declared.host_sponsors.Sponsors.{Sponsors}
-use Rattle.sqlobjects.specs.declared.transfers.Transferable.TheVariants as transferable
 use Rattle.sqlobjects.specs.Objects.{addresses_of}
 use Rattle.sqlobjects.specs.Sponsors.{AreMoved, sponsor_of}
-use Rattle.sqlobjects.specs.inner.Transfers.{IsTransferCleared}
 
 -- a change in a way that depends on what is answered
 abbrev pub ChangesGiving : {A C : Type 0} → Result A BookFault → (A → C → C → Type 0) → StateOf C
@@ -133,23 +126,6 @@ IsPlacedAt table found given row old new =
     IsConsistent old → rows_named table (table.name given) old ≡ rows_of found
     → IsRowPlaced table (λ it. it ≡ table.numbered given (table.key it)) (table.name given) row old new
 
--- ---- contacts
-
--- the contact, but for its transfer, is in this row, and no other row is changed
-abbrev pub IsContactPlaced : Contact → ContactRow → Content → Content → Type 0
-IsContactPlaced c =
-    IsRowPlaced named_contacts (λ (row : ContactRow). row_of_contact row.id c ≡ Some row) c.name
-
--- the contact with this number, and its transfer, aren't there any more
-pub record IsContactRemoved (id : ℤ) (old new : Content) : Type 0 where
-  pub cleared : IsTransferCleared (transferable.Contact id) old (record new { contacts = old.contacts })
-  pub contacts : new.contacts ≡ delete_where (contact_table.contact_with_id id) old.contacts
-
--- the same of the row that was found, if there was one
-abbrev pub IsContactDropped : Option ContactRow → Content → Content → Type 0
-IsContactDropped None old new = new ≡ old
-IsContactDropped (Some row) old new = IsContactRemoved row.id old new
-
 -- ---- hosts
 
 -- no host but the one with this number has other addresses than before
@@ -181,21 +157,6 @@ pub record IsHostRow (xs : Content) (id : ℤ) (h : Host) (row : HostRow) : Type
 pub record IsHostFound (xs : Content) (name : List ℕ) (found : Option HostRow) : Type 0 where
   pub rows : filter (host_table.host_with_name name) xs.hosts ≡ rows_of found
   pub sponsor : IfSome found (HasRightSponsor xs)
-
--- the host, but for its addresses, is in this row, and no other row is changed
-abbrev pub IsHostPlaced : Host → HostRow → Content → Content → Type 0
-IsHostPlaced h row old =
-    IsRowPlaced named_hosts (λ (it : HostRow). IsHostRow old it.id h it) h.name row old
-
--- the host with this number, and its addresses, aren't there any more
-pub record IsHostRemoved (id : ℤ) (old new : Content) : Type 0 where
-  pub cleared : AreAddressesPut id [] old (record new { hosts = old.hosts })
-  pub hosts : new.hosts ≡ delete_where (host_table.host_with_id id) old.hosts
-
--- the same of the row that was found, if there was one
-abbrev pub IsHostDropped : Option HostRow → Content → Content → Type 0
-IsHostDropped None old new = new ≡ old
-IsHostDropped (Some row) old new = IsHostRemoved row.id old new
 
 -- no row has the name of this host, and the row of the one name, whose sponsor was right, is its now
 pub record IsRowTaken (from : List ℕ) (h : Host) (row : HostRow) (old new : Content) : Type 0 where

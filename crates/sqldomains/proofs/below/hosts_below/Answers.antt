@@ -1,6 +1,5 @@
 use Rattle.std.proofs.Common.{◌≡◌, Some, ap, subst, ◌∙◌, filter, map}
-use Rattle.sqldomains.proofs.Words.{empty, HostRow, is_below, reads-on, with_hosts}
-use Rattle.sqldomains.proofs.BelowLemmas.{below-listed}
+use Rattle.sqldomains.proofs.{Words.{empty, HostRow, is_below, reads-on, with_hosts}, BelowLemmas.below-listed}
 use Rattle.sqldomains.proofs.below.hosts_below.Goals as goal
 
 pub returns : goal.returns

@@ -1,6 +1,5 @@
 use Rattle.std.proofs.Common.{sym, ap, ◌∙◌, filter}
-use Rattle.sqldomains.proofs.Words.{domain_by, link_with_domain, reads-on, transfer_with_domain}
-use Rattle.sqldomains.proofs.FoundLemmas.{asked-finds}
+use Rattle.sqldomains.proofs.{Words.{domain_by, link_with_domain, reads-on, transfer_with_domain}, FoundLemmas.asked-finds}
 use Rattle.sqldomains.proofs.domains.domain_of.Goals as goal
 
 pub returns : goal.returns

@@ -1,7 +1,6 @@
 use Rattle.std.proofs.Common.{[], ◌∷◌}
-use Rattle.sqldomains.proofs.Words.{AreNamesAdded, links, links_to, then-made}
+use Rattle.sqldomains.proofs.{Words.{AreNamesAdded, links, links_to, then-made}, LinkRowLemmas.name-added}
 use Rattle.sqlrows.specs.inner.Layouts.{appended}
-use Rattle.sqldomains.proofs.LinkRowLemmas.{name-added}
 use Rattle.sqldomains.proofs.link_rows.add_name.Goals as goal
 
 pub returns : goal.returns

@@ -1,6 +1,5 @@
 use Rattle.std.proofs.Common.{◌+◌, [], ◌∷◌, subst, take}
-use Rattle.sqldomains.proofs.Words.{AreNamesAdded, HasChanged, stood, take_all, then-became}
-use Rattle.sqldomains.proofs.LinkRowLemmas.{next-named, none-named}
+use Rattle.sqldomains.proofs.{Words.{AreNamesAdded, HasChanged, stood, take_all, then-became}, LinkRowLemmas.{next-named, none-named}}
 use Rattle.sqldomains.proofs.link_rows.add_names.Goals as goal
 
 pub loop-name-init : goal.loop-name-init

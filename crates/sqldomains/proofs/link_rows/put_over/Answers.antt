@@ -1,8 +1,7 @@
 use Rattle.std.proofs.Common.{sym, subst}
-use Rattle.sqldomains.proofs.Words.{AreDuesSet, AreLinksPutOver, asked-turns, reads-same}
+use Rattle.sqldomains.proofs.{Words.{AreDuesSet, AreLinksPutOver, asked-turns, reads-same}, LinkRowLemmas.dues-set}
 use Rattle.sqldomains.specs.declared.comparison.LinkComparison.{LinkComparison}
 use Rattle.sqldomains.specs.declared.comparison.LinkComparison.TheVariants as comparisons
-use Rattle.sqldomains.proofs.LinkRowLemmas.{dues-set}
 use Rattle.sqldomains.proofs.link_rows.put_over.Goals as goal
 
 pub returns-in-Misdated : goal.returns-in-Misdated

@@ -1,6 +1,5 @@
 use Rattle.std.proofs.Common.{ap, sym, take, ◌∙◌}
-use Rattle.sqldomains.proofs.Words.{domain_with_id, rows_of}
-use Rattle.sqldomains.proofs.AnswerLemmas.{first-in}
+use Rattle.sqldomains.proofs.{Words.{domain_with_id, rows_of}, AnswerLemmas.first-in}
 use Rattle.sqldomains.proofs.linked.domain_at.Goals as goal
 
 pub returns-in-Some : goal.returns-in-Some

@@ -1,6 +1,5 @@
 use Rattle.std.proofs.Common.{ap, subst, ◌∙◌}
-use Rattle.sqldomains.proofs.Words.{Content, domain_with_registrant, Has, reads-on, rows_of}
-use Rattle.sqldomains.proofs.AnswerLemmas.{first-in}
+use Rattle.sqldomains.proofs.{Words.{Content, domain_with_registrant, Has, reads-on, rows_of}, AnswerLemmas.first-in}
 use Rattle.sqldomains.proofs.linked.use_of_contact.Goals as goal
 
 pub returns-in-Some : goal.returns-in-Some

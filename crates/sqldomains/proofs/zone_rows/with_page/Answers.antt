@@ -1,6 +1,5 @@
 use Rattle.std.proofs.Common.{sym, ap, ◌∙◌, filter}
-use Rattle.sqldomains.proofs.Words.{Content, reads-on, transfer_of_domains, with_rows}
-use Rattle.sqldomains.proofs.FoundLemmas.{asked-finds}
+use Rattle.sqldomains.proofs.{Words.{Content, reads-on, transfer_of_domains, with_rows}, FoundLemmas.asked-finds}
 use Rattle.sqldomains.proofs.zone_rows.with_page.Goals as goal
 
 pub returns : goal.returns

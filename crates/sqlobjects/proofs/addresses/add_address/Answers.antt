@@ -1,8 +1,6 @@
 use Rattle.std.proofs.Common.{[], ◌∷◌}
-use Rattle.sqlobjects.proofs.Words.{addresses, addresses_to, AreAddressesAdded}
+use Rattle.sqlobjects.proofs.{Words.{addresses, addresses_to, AreAddressesAdded}, AddressLemmas.one-added, StepLemmas.made}
 use Rattle.sqlrows.specs.inner.Layouts.{appended}
-use Rattle.sqlobjects.proofs.AddressLemmas.{one-added}
-use Rattle.sqlobjects.proofs.StepLemmas.{made}
 use Rattle.sqlobjects.proofs.addresses.add_address.Goals as goal
 
 pub returns : goal.returns

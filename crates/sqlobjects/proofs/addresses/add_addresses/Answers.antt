@@ -1,6 +1,5 @@
 use Rattle.std.proofs.Common.{◌+◌, [], ◌∷◌, subst, take}
-use Rattle.sqlobjects.proofs.Words.{AreAddressesAdded, HasChanged, take_all, then-became}
-use Rattle.sqlobjects.proofs.AddressLemmas.{next-added, none-added}
+use Rattle.sqlobjects.proofs.{Words.{AreAddressesAdded, HasChanged, take_all, then-became}, AddressLemmas.{next-added, none-added}}
 use Rattle.sqlobjects.proofs.StepLemmas.{stood}
 use Rattle.sqlobjects.proofs.addresses.add_addresses.Goals as goal
 

@@ -1,6 +1,5 @@
 use Rattle.std.proofs.Common.{◌≡◌, true, []}
-use Rattle.sqlobjects.proofs.Words.{addresses_of, AreAddressesAdded, AreAddressesPut, reads-same}
-use Rattle.sqlobjects.proofs.AddressLemmas.{added-put}
+use Rattle.sqlobjects.proofs.{Words.{addresses_of, AreAddressesAdded, AreAddressesPut, reads-same}, AddressLemmas.added-put}
 use Rattle.sqlobjects.proofs.StepLemmas.{asked-turns}
 use Rattle.sqlobjects.proofs.addresses.put_addresses.Goals as goal
 

@@ -1,7 +1,6 @@
 use Rattle.std.proofs.Common.{length, ap, sym, ◌∙◌}
 use Rattle.sqlobjects.proofs.Words.{AreHostsMoved, eqb-true, host_takes_sponsor, HostRow, hosts_to, list_all, nil_from_length, update_where}
-use Rattle.sqlobjects.proofs.HostSponsorLemmas.{Had, hosts-moved, none-below}
-use Rattle.sqlobjects.proofs.StepLemmas.{asked-makes, asked-stood}
+use Rattle.sqlobjects.proofs.{HostSponsorLemmas.{Had, hosts-moved, none-below}, StepLemmas.{asked-makes, asked-stood}}
 use Rattle.sqlobjects.proofs.host_sponsors.move_hosts.Goals as goal
 
 pub returns-then-is_empty : goal.returns-then-is_empty

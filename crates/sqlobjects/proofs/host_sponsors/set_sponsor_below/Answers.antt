@@ -1,7 +1,5 @@
 use Rattle.std.proofs.Common.{sym, ◌∙◌}
-use Rattle.sqlobjects.proofs.Words.{AreHostsMoved, IsSponsorSetBelow}
-use Rattle.sqlobjects.proofs.HostSponsorLemmas.{followed}
-use Rattle.sqlobjects.proofs.StepLemmas.{asked-then}
+use Rattle.sqlobjects.proofs.{Words.{AreHostsMoved, IsSponsorSetBelow}, HostSponsorLemmas.followed, StepLemmas.asked-then}
 use Rattle.sqlobjects.proofs.host_sponsors.set_sponsor_below.Goals as goal
 
 pub returns : goal.returns

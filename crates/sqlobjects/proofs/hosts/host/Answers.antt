@@ -1,5 +1,13 @@
-use Rattle.sqlobjects.proofs.FoundLemmas.{host-found}
+use Rattle.std.proofs.Common.{ap, ◌∙◌}
+use Rattle.sqlobjects.proofs.{Words.{host_read, named_hosts, rows_of}, FoundLemmas.{none-stands, one-stands}}
 use Rattle.sqlobjects.proofs.hosts.host.Goals as goal
 
+pub returns-in_default-clause-found : goal.returns-in_default-clause-found
+returns-in_default-clause-found g c =
+    let asked = c.in_ok-row.ensures {u = tt} in
+    none-stands named_hosts host_read c.args.name.now c.args.store.now c.row_named.new.store asked.0 (λ e. asked.1 e ∙ ap rows_of c.in_default.is)
+
 pub returns-clause-found : goal.returns-clause-found
-returns-clause-found g c = host-found c.args.store.now c.hosts_by_name.new.self c.first_host.new.store c.as_str.result.now c.args.name.now c.as_str.ensures c.first_host.result c.in_ok-rows.rows c.in_ok-rows.ensures c.first_host.ensures.found
+returns-clause-found g c =
+    let asked = c.in_ok-row.ensures {u = tt} in
+    one-stands named_hosts host_read c.args.name.now c.args.store.now c.row_named.new.store asked.0 c.host_of.new.store c.in-Some.row c.in_ok-host_of.field-0 (λ e. asked.1 e ∙ ap rows_of c.in-Some.is) (c.in_ok-host_of.ensures {u = tt})

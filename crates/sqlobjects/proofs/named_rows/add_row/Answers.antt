@@ -1,7 +1,6 @@
 use Rattle.std.proofs.Common.{◌∙◌, None, FitsSigned, ap, rules, to_z-of_z, w64}
 use Rattle.sqlobjects.specs.inner.Stages.{IsPlacedAt, with_last}
-use Rattle.sqlobjects.proofs.NamedRowLemmas.{added-placed}
-use Rattle.sqlobjects.proofs.StepLemmas.{wrote}
+use Rattle.sqlobjects.proofs.{NamedRowLemmas.added-placed, StepLemmas.wrote}
 use Rattle.sqlobjects.proofs.named_rows.add_row.Goals as goal
 
 pub returns : goal.returns

@@ -1,7 +1,6 @@
 use Rattle.std.proofs.Common.{Some, FitsSigned, ap, rules, to_z-of_z, w64, ◌∙◌}
 use Rattle.sqlobjects.specs.inner.Stages.{IsPlacedAt, with_replaced}
-use Rattle.sqlobjects.proofs.NamedRowLemmas.{replaced-placed}
-use Rattle.sqlobjects.proofs.StepLemmas.{made}
+use Rattle.sqlobjects.proofs.{NamedRowLemmas.replaced-placed, StepLemmas.made}
 use Rattle.sqlobjects.proofs.named_rows.put_row.Goals as goal
 
 pub returns : goal.returns

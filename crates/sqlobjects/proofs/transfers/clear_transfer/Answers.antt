@@ -1,5 +1,4 @@
-use Rattle.sqlobjects.proofs.Words.{delete_where, is_transfer_of, IsTransferCleared, transfers_to}
-use Rattle.sqlobjects.proofs.StepLemmas.{asked-makes}
+use Rattle.sqlobjects.proofs.{Words.{delete_where, is_transfer_of, IsTransferCleared, transfers_to}, StepLemmas.asked-makes}
 use Rattle.sqlobjects.proofs.TransferLemmas.{transfer-cleared}
 use Rattle.sqlobjects.proofs.transfers.clear_transfer.Goals as goal
 

@@ -1,6 +1,5 @@
 use Rattle.std.proofs.Common.{subst}
-use Rattle.sqlobjects.proofs.Words.{IsConsistent, IsTransferPut, transfers_to, with_over}
-use Rattle.sqlobjects.proofs.StepLemmas.{asked-makes}
+use Rattle.sqlobjects.proofs.{Words.{IsConsistent, IsTransferPut, transfers_to, with_over}, StepLemmas.asked-makes}
 use Rattle.sqlobjects.proofs.TransferLemmas.{transfer-put}
 use Rattle.sqlobjects.proofs.transfers.put_transfer.Goals as goal
 
