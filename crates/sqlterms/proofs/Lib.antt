@@ -1,4 +1,3 @@
-pub mod CallLemmas
 pub mod MetaLemmas
 pub mod NameLemmas
 pub mod TermsLemmas

@@ -1,26 +1,15 @@
 -- Accounts that have other idents.
-use Rattle.std.proofs.Common.{◌≡◌, ◌&&◌, ℕ, ℤ, ◌<ℤ◌, Bool, true, false, cond, List, [], ◌∷◌, map, filter, Option, Some, None, refl, sym, ap, ◌∙◌, int_cmp, int_eq}
-use Rattle.std.specs.Cmp.{int_cmp_total, tied_itself}
-use Rattle.std.specs.FinMap.{from_entries}
-use Rattle.std.specs.List.{filter_map, list_all}
-use Rattle.std.specs.Option.{option_map, option_map_or}
-use Rattle.std.specs.Ordering.{match_ordering}
+use Rattle.std.proofs.Common.{◌≡◌, ℕ, ℤ, ◌<ℤ◌, Bool, true, false, cond, List, [], ◌∷◌, map, Some, refl, sym, ap, ◌∙◌, int_cmp, int_eq}
+use Rattle.std.proofs.lemmas.List.Folds.{list_all-map}
+use Rattle.std.specs.{Cmp.{int_cmp_total, tied_itself}, FinMap.from_entries, List.list_all, Option.option_map_or, Ordering.match_ordering}
 use Rattle.std.specs.declared.cmp.Ordering.{Ordering}
 use Rattle.sqlite_keyed.specs.Keyed.{IsKeyedBy, get_by, insert_by}
 use Rattle.sqlite_keyed.proofs.KeyedLemmas.{Less-from_lt}
 use Rattle.sqlite_rules.proofs.ListLemmas.{all_has, has_found}
-use Rattle.basis.specs.Bag.{bag_of}
-use Rattle.accounts.specs.Lines.{in_order}
-use Rattle.sqlcolumns.specs.Lines.{line_of_columns}
-use Rattle.sqlcolumns.specs.Messages.{message_of_columns}
-use Rattle.sqlcolumns.specs.Numbers.{counter_in, registrar_in}
-use Rattle.sqltables.specs.Account.{accounts}
-use Rattle.sqltables.specs.declared.account.AccountRow.{AccountRow}
-use Rattle.sqltables.specs.Content.{Content}
-use Rattle.sqltables.specs.inner.Content.{accounts_to}
-use Rattle.sqltables.specs.Line.{line_with_account}
-use Rattle.sqltables.specs.Message.{message_with_account}
-use Rattle.sqlaccounts.specs.Accounts.{account_of_row, accounts_of, entries_of, has_right_sums, is_right, put_all, sums_are_right}
+use Rattle.accounts.specs.declared.account.Account.{Account}
+use Rattle.sqlcolumns.specs.Numbers.{registrar_in}
+use Rattle.sqltables.specs.{Account.accounts, declared.account.AccountRow.AccountRow, Content.Content, inner.Content.accounts_to}
+use Rattle.sqlaccounts.specs.Accounts.{account_of_row, accounts_of, entries_of, is_right, sums_are_right}
 use Rattle.sqlterms.specs.inner.Changes.{IsRenaming, nameless}
 
 abbrev key : AccountRow → ℤ
@@ -57,61 +46,32 @@ renamed_one xs row new id keyed found same = record { rows = put_renamed xs.acco
 
 -- ---- what accounts mean
 
-module _ (xs ys : Content) (lines : ys.lines ≡ xs.lines) (messages : ys.messages ≡ xs.messages) where
-  account_nameless : (row : AccountRow) → account_of_row ys row ≡ account_of_row xs (nameless row)
-  account_nameless row = λ i. record {
-    lines = bag_of in_order (filter_map line_of_columns (filter (line_with_account row.id) (lines i)));
-    queue = put_all (filter_map message_of_columns (filter (message_with_account row.id) (messages i)));
-    commands = counter_in row.commands;
-    messages = counter_in row.messages;
-    serial = counter_in row.serial;
-  }
+entries_nameless : (xs : Content) (rows : List AccountRow) → entries_of xs (map nameless rows) ≡ entries_of xs rows
+entries_nameless xs [] = refl
+entries_nameless xs (row ∷ rows) =
+    ap (λ (rest : List (ℕ × Account)). option_map_or (λ place. (place, account_of_row xs row) ∷ rest) (registrar_in row.id) rest) (entries_nameless xs rows)
 
-  entries_nameless : (rows : List AccountRow) → entries_of ys rows ≡ entries_of xs (map nameless rows)
-  entries_nameless [] = refl
-  entries_nameless (row ∷ rows) = go (registrar_in row.id) (entries_nameless rows)
-    where
-      go : (o : Option ℕ) → entries_of ys rows ≡ entries_of xs (map nameless rows)
-          → option_map_or (λ place. (place, account_of_row ys row) ∷ entries_of ys rows) o (entries_of ys rows)
-          ≡ option_map_or (λ place. (place, account_of_row xs (nameless row)) ∷ entries_of xs (map nameless rows)) o (entries_of xs (map nameless rows))
-      go None e = e
-      go (Some place) e = λ i. (place, account_nameless row i) ∷ e i
+right_nameless : (xs : Content) (rows : List AccountRow) (id : ℤ) → option_map_or (is_right xs) (get_by key (map nameless rows) id) true ≡ option_map_or (is_right xs) (get_by key rows id) true
+right_nameless xs [] id = refl
+right_nameless xs (row ∷ rows) id = go (int_eq row.id id) (right_nameless xs rows id)
+  where
+    go : (b : Bool) → option_map_or (is_right xs) (get_by key (map nameless rows) id) true ≡ option_map_or (is_right xs) (get_by key rows id) true
+        → option_map_or (is_right xs) (cond b (Some (nameless row)) (get_by key (map nameless rows) id)) true ≡ option_map_or (is_right xs) (cond b (Some row) (get_by key rows id)) true
+    go true e = refl
+    go false e = e
 
-  right_nameless : (row : AccountRow) → is_right ys row ≡ is_right xs (nameless row)
-  right_nameless row = λ i. is_right (record ys { lines = lines i; messages = messages i }) row
+sums_nameless : (xs : Content) (rows : List AccountRow) → sums_are_right (record xs { accounts = map nameless rows }) ≡ sums_are_right (record xs { accounts = rows })
+sums_nameless xs rows =
+    list_all-map (λ (row : AccountRow). option_map_or (is_right xs) (get_by key (map nameless rows) row.id) true) nameless rows
+    ∙ (λ i. list_all (λ (row : AccountRow). right_nameless xs rows row.id i) rows)
 
-  found_nameless : (rows : List AccountRow) (id : ℤ) → get_by key (map nameless rows) id ≡ option_map nameless (get_by key rows id)
-  found_nameless [] id = refl
-  found_nameless (row ∷ rows) id = go (int_eq row.id id) (found_nameless rows id)
-    where
-      go : (b : Bool) → get_by key (map nameless rows) id ≡ option_map nameless (get_by key rows id)
-          → cond b (Some (nameless row)) (get_by key (map nameless rows) id) ≡ option_map nameless (cond b (Some row) (get_by key rows id))
-      go true e = refl
-      go false e = e
+module _ (xs ys : Content) (same : map nameless ys.accounts ≡ map nameless xs.accounts) (lines : ys.lines ≡ xs.lines) (messages : ys.messages ≡ xs.messages) where
+  -- what hangs on no ident
+  by-rows : {A : Type 0} (f : List AccountRow → A) → ((rows : List AccountRow) → f (map nameless rows) ≡ f rows) → f ys.accounts ≡ f xs.accounts
+  by-rows f nameless-so = sym (nameless-so ys.accounts) ∙ ap f same ∙ nameless-so xs.accounts
 
-  rights_nameless : (id : ℤ) → has_right_sums ys id ≡ option_map_or (is_right xs) (get_by key (map nameless ys.accounts) id) true
-  rights_nameless id = go (get_by key ys.accounts id) ∙ ap (λ o. option_map_or (is_right xs) o true) (sym (found_nameless ys.accounts id))
-    where
-      go : (o : Option AccountRow) → option_map_or (is_right ys) o true ≡ option_map_or (is_right xs) (option_map nameless o) true
-      go None = refl
-      go (Some row) = right_nameless row
+  pub same_accounts : accounts_of ys ≡ accounts_of xs
+  same_accounts = (λ i. accounts_of (record ys { lines = lines i; messages = messages i })) ∙ by-rows (λ rows. accounts_of (record xs { accounts = rows })) (λ rows. ap from_entries (entries_nameless xs rows))
 
-all_nameless : (f : ℤ → Bool) (rows : List AccountRow) → list_all (λ (row : AccountRow). f row.id) (map nameless rows) ≡ list_all (λ (row : AccountRow). f row.id) rows
-all_nameless f [] = refl
-all_nameless f (row ∷ rows) = ap (λ b. f row.id && b) (all_nameless f rows)
-
-sums_by : (xs ys : Content) → ys.lines ≡ xs.lines → ys.messages ≡ xs.messages
-    → sums_are_right ys ≡ list_all (λ (row : AccountRow). option_map_or (is_right xs) (get_by key (map nameless ys.accounts) row.id) true) (map nameless ys.accounts)
-sums_by xs ys lines messages =
-    (λ i. list_all (λ (row : AccountRow). rights_nameless xs ys lines messages row.id i) ys.accounts)
-    ∙ sym (all_nameless (λ id. option_map_or (is_right xs) (get_by key (map nameless ys.accounts) id) true) ys.accounts)
-
-pub same_accounts : (xs ys : Content) → map nameless ys.accounts ≡ map nameless xs.accounts → ys.lines ≡ xs.lines → ys.messages ≡ xs.messages → accounts_of ys ≡ accounts_of xs
-same_accounts xs ys rows lines messages =
-    ap from_entries (entries_nameless xs ys lines messages ys.accounts ∙ ap (entries_of xs) rows ∙ sym (entries_nameless xs xs refl refl xs.accounts))
-
-pub same_sums : (xs ys : Content) → map nameless ys.accounts ≡ map nameless xs.accounts → ys.lines ≡ xs.lines → ys.messages ≡ xs.messages → sums_are_right ys ≡ sums_are_right xs
-same_sums xs ys rows lines messages =
-    sums_by xs ys lines messages
-    ∙ ap (λ rows. list_all (λ (row : AccountRow). option_map_or (is_right xs) (get_by key rows row.id) true) rows) rows
-    ∙ sym (sums_by xs xs refl refl)
+  pub same_sums : sums_are_right ys ≡ sums_are_right xs
+  same_sums = (λ i. sums_are_right (record ys { lines = lines i; messages = messages i })) ∙ by-rows (λ rows. sums_are_right (record xs { accounts = rows })) (sums_nameless xs)

@@ -4,17 +4,17 @@ ghost use Rattle.sqlterms.specs.Terms as spec;
 
 use policy::{Days, Prices};
 use sqlcolumns::years_of_column;
-use sqltables::MetaRow;
+use sqltables::{DayRow, MetaRow};
 
 /// The number of a column, if it's one below 2^32.
-pub(crate) fn count_of_column(column: i64) -> Option<u32>
+fn count_of_column(column: i64) -> Option<u32>
     ensures { result ≡ spec.count_in column }
 {
     years_of_column(column)
 }
 
 /// The days of these counts, if all are there.
-pub(crate) fn days_made(
+fn days_made(
     add: Option<u32>,
     auto_renew: Option<u32>,
     renew: Option<u32>,
@@ -41,9 +41,9 @@ pub(crate) fn days_made(
     })
 }
 
-/// The days of a row, if each column is a count.
-pub(crate) fn days_of(row: &MetaRow) -> Option<Days>
-    ensures { result ≡ spec.first_days_in row.now }
+/// The days of a row of `days`, if each column is a count.
+pub(crate) fn dated_days_of(row: &DayRow) -> Option<Days>
+    ensures { result ≡ spec.dated_days_in row.now }
 {
     days_made(
         count_of_column(row.days_add),
@@ -56,6 +56,25 @@ pub(crate) fn days_of(row: &MetaRow) -> Option<Days>
         count_of_column(row.days_answer),
         count_of_column(row.days_lock),
     )
+}
+
+/// The days of the row of `meta`, which has the same columns.
+pub(crate) fn days_of(row: &MetaRow) -> Option<Days>
+    ensures { result ≡ spec.first_days_in row.now }
+{
+    dated_days_of(&DayRow {
+        id: row.id,
+        starts: row.clock,
+        days_add: row.days_add,
+        days_auto_renew: row.days_auto_renew,
+        days_renew: row.days_renew,
+        days_transfer: row.days_transfer,
+        days_redemption: row.days_redemption,
+        days_restore: row.days_restore,
+        days_pending_delete: row.days_pending_delete,
+        days_answer: row.days_answer,
+        days_lock: row.days_lock,
+    })
 }
 
 fn prices_made(create: Option<u32>, renew: Option<u32>, transfer: Option<u32>) -> Option<Prices>

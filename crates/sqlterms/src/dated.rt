@@ -4,47 +4,22 @@ ghost use Rattle.sqlrows.specs.Meanings.{Changes};
 ghost use Rattle.sqlterms.specs.inner.Changes.{AreDated};
 ghost use Rattle.sqlterms.specs.Terms as spec;
 
-use crate::counts::{count_of_column, days_made};
+use crate::counts::dated_days_of;
 use basis::list::Seq;
-use calendar::Moment;
-use policy::{DatedDays, Days};
+use policy::DatedDays;
 use sqlcolumns::{moment_column, moment_of_column};
 use sqlite::Alter;
 use sqltables::{DayRow, RowStore};
 use states::BookFault;
 use std::alloc::{AllocError, Global};
 
-/// The days of a row, if each column is a count.
-fn dated_days_of(row: &DayRow) -> Option<Days>
-    ensures { result ≡ spec.dated_days_in row.now }
-{
-    days_made(
-        count_of_column(row.days_add),
-        count_of_column(row.days_auto_renew),
-        count_of_column(row.days_renew),
-        count_of_column(row.days_transfer),
-        count_of_column(row.days_redemption),
-        count_of_column(row.days_restore),
-        count_of_column(row.days_pending_delete),
-        count_of_column(row.days_answer),
-        count_of_column(row.days_lock),
-    )
-}
-
-fn dated_made(from: Option<Moment>, days: Option<Days>) -> Option<DatedDays>
-    ensures { result ≡ spec.dated_made from days }
-{
-    Some(DatedDays {
-        from: from?,
-        days: days?,
-    })
-}
-
 /// The table of a row, if each column reads.
 fn dated_of(row: &DayRow) -> Option<DatedDays>
     ensures { result ≡ spec.later_days_in row.now }
 {
-    dated_made(moment_of_column(row.starts), dated_days_of(row))
+    let from = moment_of_column(row.starts)?;
+    let days = dated_days_of(row)?;
+    Some(DatedDays { from, days })
 }
 
 /// The tables of these rows; one that doesn't read makes them none.

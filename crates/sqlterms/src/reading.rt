@@ -17,9 +17,9 @@ use policy::{DatedDays, Days, Prices, Schedule, Terms};
 use sqlcolumns::moment_of_column;
 use sqlite::Alter;
 use sqlrows::or_fault;
-use sqltables::{DayRow, MetaRow, RowStore};
+use sqltables::{MetaRow, RowStore};
 use states::BookFault;
-use std::alloc::{AllocError, Global};
+use std::alloc::Global;
 
 /// The latest moment that was seen; the first moment in a registry that was never opened.
 pub fn clock<S: Alter>(store: &mut RowStore<S>) -> Result<Moment, BookFault>
@@ -56,18 +56,7 @@ fn schedule_at<S: Alter>(
     ensures { Finds result (spec.schedule_in row.now store.old.content.days) store.old store.new }
 {
     let tables = store.all_days()?;
-    Ok(schedule_of(alloc, row, tables.as_slice())?)
-}
-
-/// The lengths of periods over time of these rows, if each reads.
-fn schedule_of(
-    alloc: Global,
-    row: &MetaRow,
-    tables: &[DayRow],
-) -> Result<Option<Schedule>, AllocError>
-    ensures { IfOk result (λ schedule. schedule ≡ spec.schedule_in row.now tables.now) }
-{
-    let later = all_dated(alloc, tables)?;
+    let later = all_dated(alloc, tables.as_slice())?;
     Ok(schedule_made(days_of(row), later))
 }
 
@@ -109,17 +98,9 @@ fn terms_at<S: Alter>(
         store.new }
 {
     let days = schedule_at(store, alloc, row)?;
-    let ids = ids_at(store, alloc)?;
-    terms_of_row(alloc, row, days, ids)
-}
-
-/// The ids of all accounts.
-fn ids_at<S: Alter>(store: &mut RowStore<S>, alloc: Global) -> Result<Seq<Text>, BookFault>
-    ensures { FindsSome result (λ ids. spec.ids_in store.old.content.accounts ≡ Some ids) store.old
-        store.new }
-{
     let accounts = store.all_accounts()?;
-    ids_of(alloc, accounts.as_slice())
+    let ids = ids_of(alloc, accounts.as_slice())?;
+    terms_of_row(alloc, row, days, ids)
 }
 
 /// The terms of a row, with these days and ids; a row that doesn't read is refused.

@@ -1,11 +1,7 @@
 use Rattle.std.proofs.Common.{sym, subst, ap, ◌∙◌}
 use Rattle.sqlite_keyed.specs.Keyed.{insert_by}
-use Rattle.sqlrows.proofs.RowLemmas.{find_one}
-use Rattle.sqlrows.proofs.StateLemmas.{then-made}
-use Rattle.sqltables.specs.Account.{account_with_id, accounts}
-use Rattle.sqltables.specs.Content.{Content}
-use Rattle.sqltables.specs.inner.Content.{accounts_to}
-use Rattle.sqltables.specs.inner.Consistent.{IsConsistent}
+use Rattle.sqlrows.proofs.{RowLemmas.find_one, StateLemmas.then-made}
+use Rattle.sqltables.specs.{Account.{account_with_id, accounts}, Content.Content, inner.{Content.accounts_to, Consistent.IsConsistent}}
 use Rattle.sqlterms.specs.inner.Changes.{nameless}
 use Rattle.sqlterms.proofs.NameLemmas.{renamed_one}
 use Rattle.sqlterms.proofs.naming.name_account.Goals as goal

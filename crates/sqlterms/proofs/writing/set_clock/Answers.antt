@@ -1,10 +1,9 @@
-use Rattle.std.proofs.Common.{◌∙◌, ap, subst, sym}
+use Rattle.std.proofs.Common.{◌∙◌, ap}
 use Rattle.sqlite_keyed.specs.Keyed.{insert_by}
+use Rattle.sqlaccounts.proofs.CallLemmas.{then-kept}
 use Rattle.sqlrows.proofs.StateLemmas.{then-made}
-use Rattle.sqltables.specs.inner.Content.{metas_to}
-use Rattle.sqltables.specs.Meta.{metas}
-use Rattle.sqlterms.specs.inner.Changes.{IsClockSet}
-use Rattle.sqlterms.specs.inner.Meta.{with_clock}
+use Rattle.sqltables.specs.{inner.Content.metas_to, Meta.metas}
+use Rattle.sqlterms.specs.inner.{Changes.IsClockSet, Meta.with_clock}
 use Rattle.sqlterms.proofs.MetaLemmas.{clock_is_set, clock_is_there}
 use Rattle.sqlterms.proofs.writing.set_clock.Goals as goal
 
@@ -19,12 +18,5 @@ returns g c =
 pub returns-then-is_at : goal.returns-then-is_at
 returns-then-is_at g c =
     let e = c.in_ok-meta.ensures {u = tt} in
-    let xs = c.args.store.now.content in
-    record {
-      clean = e.0.clean;
-      before = e.0.before;
-      opened = e.0.opened ∙ c.requires;
-      content = λ clean. subst (IsClockSet c.args.moment xs) (sym (e.0.content clean)) (clock_is_there xs c.in_ok-meta.meta (e.1 clean) c.args.moment (c.is_at.ensures c.if-is_at.true));
-      answers = e.0.answers;
-      leaves = e.0.leaves;
-    }
+    let old = c.args.store.now in
+    then-kept (IsClockSet c.args.moment) old c.maybe_meta.new.store e.0 c.requires (λ clean. clock_is_there old.content c.in_ok-meta.meta (e.1 clean) c.args.moment (c.is_at.ensures c.if-is_at.true))
