@@ -1,28 +1,20 @@
 -- What a book is over rows that were adopted.
-use Rattle.std.proofs.Common.{◌≡◌, ◌≢◌, ◌&&◌, ℕ, Bool, true, false, List, [], map, refl, sym, ap, subst, ◌∙◌}
-use Rattle.sqlbook.proofs.Words.{and_parts, are_all_right, are_right, as_book, BookState, Content, fresh, IsKnownAs, never_opened, Remains}
-use Rattle.sqlbook.proofs.Words.{remains_meant, StateOf, Stored, stored_of}
+use Rattle.std.proofs.{Common.{◌≡◌, ◌≢◌, ◌&&◌, ℕ, true, false, List, [], map, refl, sym, ap, subst, ◌∙◌}, Math.Bool.and-true}
+use Rattle.sqlbook.proofs.Words.{and_parts, are_all_right, are_right, as_book, BookState, Content, fresh, IsKnownAs, Remains, remains_meant, StateOf}
+use Rattle.sqlbook.proofs.Words.{stored_of}
 use Rattle.sqlite.proofs.ListingLemmas.{empty_is_sound}
-use Rattle.sqlite_trees.specs.Objects.{catalog_tree}
-use Rattle.sqlite_trees.specs.Tree.{Trees}
+use Rattle.sqlite_trees.specs.{Objects.catalog_tree, Tree.Trees}
 use Rattle.sqlrows.specs.Columns.{no_schema}
 use Rattle.books.specs.Kept.{book_state}
-use Rattle.sqltables.specs.Adoption.{IsAdopted, IsTakenAs}
-use Rattle.sqltables.specs.Tables.{registry}
+use Rattle.sqltables.specs.{Adoption.{IsAdopted, IsTakenAs}, Tables.registry}
 use Rattle.sqltables.proofs.AdoptedLemmas.{schema_once, some-tables}
-use Rattle.states.specs.declared.readiness.Ready.{Ready}
-use Rattle.states.specs.declared.readiness.Ready.TheVariants.{Empty, Used, Other}
-use Rattle.sqlbook.specs.Beginning.{IsAdoptedBook, IsFoundNew, IsTaken, IsTakenFrom}
-use Rattle.sqlbook.specs.BetweenCalls.{IsBetweenCalls}
+use Rattle.states.specs.declared.readiness.Ready.{Ready, TheVariants.{Empty, Used, Other}}
+use Rattle.sqlbook.specs.{Beginning.{IsAdoptedBook, IsFoundNew, IsTaken, IsTakenFrom}, BetweenCalls.IsBetweenCalls}
 
 taken-as : (r : Ready) (trees : Trees) (x : Content) → IsTakenAs r trees x → IsTaken r trees (stored_of x)
 taken-as Empty trees x it = ap stored_of it
 taken-as Used trees x it = ap stored_of it.0
 taken-as Other trees x it = ap stored_of it
-
-and-true : (b : Bool) → (b && true) ≡ b
-and-true true = refl
-and-true false = refl
 
 -- ---- rows that were adopted
 module _ (trees : Trees) (rows : StateOf Content) (adopted : IsAdopted trees rows) where
@@ -61,21 +53,20 @@ module _ (trees : Trees) (rows : StateOf Content) (adopted : IsAdopted trees row
 
 -- ---- where no table was ever made
 
-nothing-known : (r : Ready) (trees : Trees) (held : Stored) → trees catalog_tree ≡ [] → IsKnownAs r trees → IsTaken r trees held → (r ≡ Empty) × (held ≡ never_opened)
-nothing-known Empty trees held none known taken = (refl, taken)
-nothing-known Used trees held none known taken = absurd (some-tables (schema_once trees registry no_schema known.0 (empty_is_sound trees none)))
-nothing-known Other trees held none known taken = absurd (known.0 (empty_is_sound trees none))
-
-rows-known : (r : Ready) (trees : Trees) (x : Content) → trees catalog_tree ≡ [] → IsKnownAs r trees → IsTakenAs r trees x → (r ≡ Empty) × (x ≡ fresh)
-rows-known Empty trees x none known taken = (refl, taken)
-rows-known Used trees x none known taken = absurd (some-tables (schema_once trees registry no_schema known.0 (empty_is_sound trees none)))
-rows-known Other trees x none known taken = absurd (known.0 (empty_is_sound trees none))
+known-new : (r : Ready) (trees : Trees) → trees catalog_tree ≡ [] → IsKnownAs r trees → r ≡ Empty
+known-new Empty trees none known = refl
+known-new Used trees none known = absurd (some-tables (schema_once trees registry no_schema known.0 (empty_is_sound trees none)))
+known-new Other trees none known = absurd (known.0 (empty_is_sound trees none))
 
 pub rows_new : (trees : Trees) (rows : StateOf Content) → IsAdopted trees rows → rows.is_clean ≡ true → trees catalog_tree ≡ [] → (rows.readiness ≡ Empty) × (rows.content ≡ fresh)
-rows_new trees rows adopted clean none = rows-known rows.readiness trees rows.content none (adopted.known clean) (adopted.content clean)
+rows_new trees rows adopted clean none =
+    let new = known-new rows.readiness trees none (adopted.known clean) in
+    (new, subst (λ r. IsTakenAs r trees rows.content) new (adopted.content clean))
 
-pub found_new : (trees : Trees) (s : BookState) → IsTakenFrom trees s → IsFoundNew trees s
-found_new trees s taken none clean = nothing-known s.readiness trees s.content none (taken.known clean) (taken.content clean)
+found_new : (trees : Trees) (s : BookState) → IsTakenFrom trees s → IsFoundNew trees s
+found_new trees s taken none clean =
+    let new = known-new s.readiness trees none (taken.known clean) in
+    (new, subst (λ r. IsTaken r trees s.content) new (taken.content clean))
 
 -- ---- a book over them
 

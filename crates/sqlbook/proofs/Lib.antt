@@ -1,8 +1,7 @@
 pub mod AccountLemmas
-pub mod OpeningLemmas
+pub mod IdLemmas
+pub mod MeaningLemmas
 pub mod ObjectLemmas
-pub mod DomainLemmas
-pub mod AlteringLemmas
 pub mod TermLemmas
 pub mod ReplacingLemmas
 pub mod RedatingLemmas

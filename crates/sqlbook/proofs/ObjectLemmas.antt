@@ -1,14 +1,12 @@
 -- What a contact or a host put over rows is to a book.
-use Rattle.std.proofs.Common.{◌≡◌, ℕ, Bool, true, false, ◌&&◌, List, Option, Some, None, refl, ap, ◌∙◌}
+use Rattle.std.proofs.Common.{◌≡◌, ℕ, Bool, true, false, List, Option, Some, None, Result, refl, ap, ◌∙◌}
 use Rattle.std.specs.Prelude.{◌||◌, is_some, pos}
-use Rattle.sqlbook.proofs.Words.{accounts-kept, accounts_of, are_right, capped, clock_of, completes_at, contact-sponsors, contact_set, Content}
+use Rattle.sqlbook.proofs.Words.{accounts-kept, are_right, BookFault, capped, Changes, completes_at, contact-sponsors, contact_set, Content}
 use Rattle.sqlbook.proofs.Words.{days_of_rows, Domain, domain_read, DomainRow, due_at, dues_are_right, earlier, FinMap, has_right_due, host-sponsors}
-use Rattle.sqlbook.proofs.Words.{host_set, int_eq, is_due_right, is_live_right, IsContactPut, IsHostPut, list_all, may_be_numbered, nat_cmp}
-use Rattle.sqlbook.proofs.Words.{option_map_or, rules_with, Schedule, slice_cmp, stored_of, sums_are_right, terms_of_rows, with_named}
+use Rattle.sqlbook.proofs.Words.{host_set, int_eq, is_due_right, is_live_right, IsContactPut, IsHostPut, list_all, MakesAs, nat_cmp, option_map_or}
+use Rattle.sqlbook.proofs.{Words.{rules_with, Schedule, slice_cmp, StateOf, stored_of, with_named}, MeaningLemmas.{alters, objects-put}}
 use Rattle.sqlite_rules.specs.Lists.{Has}
-use Rattle.objects.specs.Domains.{expiry}
-use Rattle.objects.specs.declared.contact.Contact.{Contact}
-use Rattle.objects.specs.declared.host.Host.{Host}
+use Rattle.objects.specs.{Domains.expiry, declared.{contact.Contact.Contact, host.Host.Host}}
 use Rattle.books.specs.Ledgers as store
 use Rattle.sqldomains.proofs.FrameLemmas.{contact-leaves-domains, contact-leaves-reading, host-leaves-domains, host-leaves-reading}
 use Rattle.sqlobjects.proofs.VerdictLemmas.{all-alike}
@@ -34,13 +32,9 @@ live-of-reading old new metas days row reads =
     ap (λ o. option_map_or (λ (d : Domain). is_some d.deletion || int_eq row.due (pos (capped (earlier (expiry d) (completes_at d.transfer))))) o false) reads
 
 -- where the rows are the same and read as before
-pub rights-where : (right : Content → DomainRow → Bool) → IsOfReading right → (old new : Content) → new.metas ≡ old.metas → new.days ≡ old.days → new.domains ≡ old.domains
-    → ((row : DomainRow) → Has old.domains row → domain_read new row ≡ domain_read old row) → list_all (right new) new.domains ≡ list_all (right old) old.domains
-rights-where right by old new metas days domains reads =
-    ap (list_all (right new)) domains ∙ all-alike (right old) (right new) old.domains (λ row there. by old new metas days row (reads row there))
-
-pub dues-where : (old new : Content) → new.metas ≡ old.metas → new.days ≡ old.days → new.domains ≡ old.domains → ((row : DomainRow) → Has old.domains row → domain_read new row ≡ domain_read old row) → dues_are_right new ≡ dues_are_right old
-dues-where = rights-where has_right_due due-of-reading
+dues-where : (old new : Content) → new.metas ≡ old.metas → new.days ≡ old.days → new.domains ≡ old.domains → ((row : DomainRow) → Has old.domains row → domain_read new row ≡ domain_read old row) → dues_are_right new ≡ dues_are_right old
+dues-where old new metas days domains reads =
+    ap (list_all (has_right_due new)) domains ∙ all-alike (has_right_due old) (has_right_due new) old.domains (λ row there. due-of-reading old new metas days row (reads row there))
 
 -- and where each is due as before
 pub dues-alike : (old new : Content) → new.metas ≡ old.metas → new.days ≡ old.days → new.domains ≡ old.domains → ((days : Schedule) (row : DomainRow) → is_due_right days new row ≡ is_due_right days old row) → dues_are_right new ≡ dues_are_right old
@@ -48,40 +42,24 @@ dues-alike old new metas days domains alike =
     ap (list_all (has_right_due new)) domains
     ∙ all-alike (has_right_due old) (has_right_due new) old.domains (λ row there i. option_map_or (λ ds. alike ds row i) (days_of_rows (record new { metas = metas i; days = days i })) true)
 
-module _ (name : List ℕ) (value : Option Contact) (old new : Content) (it : IsContactPut name value old new) where
-  pub contact-right : are_right new ≡ are_right old
-  contact-right = λ i.
-      may_be_numbered (it.metas i)
-      && (sums_are_right (record new { accounts = it.accounts i; lines = it.lines i; messages = it.messages i })
-      && (accounts-kept old new (contact-leaves-domains name value old new it) it.accounts i && (dues-where old new it.metas it.days it.domains (contact-leaves-reading name value old new it) i && contact-sponsors name value old new it i)))
+-- ---- a contact or a host is put
 
-  pub contact-changed : stored_of new ≡ contact_set name value (stored_of old)
-  contact-changed = λ i. record {
-    registry = record {
-      contacts = (it.contacts ∙ same-put _ name value) i;
-      hosts = it.hosts i;
-      domains = contact-leaves-domains name value old new it i;
-      accounts = accounts_of (record new { accounts = it.accounts i; lines = it.lines i; messages = it.messages i });
-      clock = clock_of (record new { metas = it.metas i });
-    };
-    terms = terms_of_rows (record new { metas = it.metas i; days = it.days i; accounts = it.accounts i });
-  }
+contact-put : (name : List ℕ) (value : Option Contact) (old new : Content) → IsContactPut name value old new → (stored_of new ≡ contact_set name value (stored_of old)) × (are_right new ≡ are_right old)
+contact-put name value old new it =
+    let domains = contact-leaves-domains name value old new it in
+    objects-put old new it.metas it.days _ _ _ (it.contacts ∙ same-put _ name value) it.hosts domains it.accounts it.lines it.messages (accounts-kept old new domains it.accounts)
+    (dues-where old new it.metas it.days it.domains (contact-leaves-reading name value old new it)) (contact-sponsors name value old new it)
 
-module _ (name : List ℕ) (value : Option Host) (old new : Content) (it : IsHostPut name value old new) where
-  pub host-right : are_right new ≡ are_right old
-  host-right = λ i.
-      may_be_numbered (it.metas i)
-      && (sums_are_right (record new { accounts = it.accounts i; lines = it.lines i; messages = it.messages i })
-      && (accounts-kept old new (host-leaves-domains name value old new it) it.accounts i && (dues-where old new it.metas it.days it.domains (host-leaves-reading name value old new it) i && host-sponsors name value old new it i)))
+host-put : (name : List ℕ) (value : Option Host) (old new : Content) → IsHostPut name value old new → (stored_of new ≡ host_set name value (stored_of old)) × (are_right new ≡ are_right old)
+host-put name value old new it =
+    let domains = host-leaves-domains name value old new it in
+    objects-put old new it.metas it.days _ _ _ it.contacts (it.hosts ∙ same-put _ name value) domains it.accounts it.lines it.messages (accounts-kept old new domains it.accounts)
+    (dues-where old new it.metas it.days it.domains (host-leaves-reading name value old new it)) (host-sponsors name value old new it)
 
-  pub host-changed : stored_of new ≡ host_set name value (stored_of old)
-  host-changed = λ i. record {
-    registry = record {
-      contacts = it.contacts i;
-      hosts = (it.hosts ∙ same-put _ name value) i;
-      domains = host-leaves-domains name value old new it i;
-      accounts = accounts_of (record new { accounts = it.accounts i; lines = it.lines i; messages = it.messages i });
-      clock = clock_of (record new { metas = it.metas i });
-    };
-    terms = terms_of_rows (record new { metas = it.metas i; days = it.days i; accounts = it.accounts i });
-  }
+pub contact_made : (name : List ℕ) (value : Option Contact) (r : Result (Unit {0}) BookFault) (old new : StateOf Content) → Changes r (IsContactPut name value) old new
+    → MakesAs r stored_of are_right (contact_set name value (stored_of old.content)) old new
+contact_made name value r old new made = alters r (IsContactPut name value) _ old new made (λ it. contact-put name value old.content new.content it)
+
+pub host_made : (name : List ℕ) (value : Option Host) (r : Result (Unit {0}) BookFault) (old new : StateOf Content) → Changes r (IsHostPut name value) old new
+    → MakesAs r stored_of are_right (host_set name value (stored_of old.content)) old new
+host_made name value r old new made = alters r (IsHostPut name value) _ old new made (λ it. host-put name value old.content new.content it)

@@ -1,19 +1,17 @@
 -- Changes of an account, and a domain that is put with them, to a book.
-use Rattle.std.proofs.Common.{◌≡◌, ◌⊎◌, inl, ℕ, true, ◌&&◌, List, Option, Some, None, IfSome, refl, sym, ap, subst, ◌∙◌}
-use Rattle.sqlbook.proofs.Words.{Account, AccountRow, are_right, AreOthersKept, ArePosted, change-kept, Content, days_of_rows, Domain, domain_read}
-use Rattle.sqlbook.proofs.Words.{domain_set, DomainRow, domains-kept, FinMap, get, get_by, has_right_due, HasChanged, HasEnd, HaveEnds, is_place}
-use Rattle.sqlbook.proofs.Words.{IsChange, IsCheckedDomain, IsConsistent, IsOpened, IsPosted, IsReplacedPosting, IsRowOf, IsSponsorSetBelow}
-use Rattle.sqlbook.proofs.Words.{IsUnderDays, IsUnwritten, leaves-on, may_be_numbered, nat_cmp, opening-kept, posted_to, Reads, registrar_column}
-use Rattle.sqlbook.proofs.Words.{row_of, Schedule, sponsors-kept, StateOf, Stored, stored_of, with_accounts, with_row, with_unwritten}
+use Rattle.std.proofs.Common.{◌≡◌, ◌⊎◌, ℕ, true, List, Option, Some, None, IfSome, sym, ap, subst, ◌∙◌}
+use Rattle.sqlbook.proofs.Words.{Account, AccountRow, are_right, AreOthersKept, ArePosted, asked-then, change-kept, Content, days_of_rows, Domain}
+use Rattle.sqlbook.proofs.Words.{domain_read, domain_set, DomainRow, domains-kept, FinMap, get, get_by, has_right_due, HasChanged, HasEnd, HaveEnds}
+use Rattle.sqlbook.proofs.Words.{is_place, IsChange, IsCheckedDomain, IsConsistent, IsOpened, IsPosted, IsReplacedPosting, IsRowOf, IsSponsorSetBelow}
+use Rattle.sqlbook.proofs.Words.{IsUnderDays, IsUnwritten, nat_cmp, opening-kept, posted_to, Reads, registrar_column, row_of, Schedule, StateOf}
+use Rattle.sqlbook.proofs.Words.{Stored, stored_of, then-became, with_accounts, with_row, with_unwritten}
+use Rattle.sqlbook.proofs.{AccountLemmas.{account-changed, account-opened, right-of-others}, IdLemmas.key, MeaningLemmas.same-days}
+use Rattle.sqlbook.proofs.{ObjectLemmas.due-of-reading, ReplacingLemmas.{IsDueThen, put-right, replaced, replaced-lines}}
 use Rattle.sqlite_rules.specs.Lists.{Has}
 use Rattle.model.specs.Registry.{account_of}
 use Rattle.books.proofs.PutLemmas.{changed-put}
 use Rattle.sqlaccounts.proofs.PostingLemmas.{consistent-with, row-found, row-posted, with-found}
 use Rattle.sqlderived.specs.declared.recounting.Unwritten.{Unwritten}
-use Rattle.sqlbook.proofs.AccountLemmas.{account-changed, dues-of-others, key}
-use Rattle.sqlbook.proofs.ObjectLemmas.{due-of-reading}
-use Rattle.sqlbook.proofs.OpeningLemmas.{opening-changed}
-use Rattle.sqlbook.proofs.ReplacingLemmas.{IsDueThen, put-right, replaced, replaced-lines}
 
 -- ---- an account is opened, and changed
 
@@ -33,13 +31,14 @@ others-on a b c one two = record {
 given-opened : (r : ℕ) (f : Account → Account) (s : Stored) → posted_to r f (posted_to r (λ account. account) s) ≡ posted_to r f s
 given-opened r f s = ap (λ (m : FinMap nat_cmp Account). with_accounts m s) (changed-put r s.registry.accounts (account_of r s.registry) f)
 
-pub are-posted : (days : Option Schedule) (r : ℕ) (f : Account → Account) (row changed : AccountRow) (old opened new : Content) → IsConsistent old → IsConsistent opened → IsConsistent new
-    → IsOpened r old opened → IsRowOf r row opened → Some row ≡ row_of opened (registrar_column r) → IsPosted days r f row changed opened new → days ≡ days_of_rows old → ArePosted (posted_to r f) old (with_row changed new)
-are-posted days r f row changed old opened new whole whole-opened whole-new opening is found posted by =
+are-posted : (days : Option Schedule) (r : ℕ) (f : Account → Account) (row changed : AccountRow) (old opened new : Content) → IsConsistent old → IsConsistent opened → IsConsistent new
+    → IsOpened r old opened → Some row ≡ row_of opened (registrar_column r) → is_place r ≡ true → IsPosted days r f row changed opened new → days ≡ days_of_rows old → ArePosted (posted_to r f) old (with_row changed new)
+are-posted days r f row changed old opened new whole whole-opened whole-new opening found place posted by =
+    let is = row-found r row opened place found in
     let change = subst (λ (xs : Content). IsChange r f xs (with_row changed new)) (with-found r row opened whole-opened found) posted.change in
     let consistent = consistent-with r changed new (row-posted days r f row changed opened new is posted) whole-new in
     record {
-      held = account-changed r f opened (with_row changed new) whole-opened consistent change ∙ ap (posted_to r f) (opening-changed r old opened whole whole-opened opening) ∙ given-opened r f (stored_of old);
+      held = account-changed r opened (with_row changed new) whole-opened consistent f change ∙ ap (posted_to r f) (account-opened r old opened whole whole-opened opening).0 ∙ given-opened r f (stored_of old);
       sums = change.sums ∙ opening.sums;
       helds = change-kept r f opened (with_row changed new) change ∙ opening-kept old opened r whole opening;
       others = others-on old opened (with_row changed new) opening.others change.others;
@@ -56,43 +55,23 @@ module _ (days : Option Schedule) (r : ℕ) (f : Account → Account) (row chang
     (found : Reads d e × (e.is_clean ≡ true → Some row ≡ row_of d.content (registrar_column r))) (place : is_place r ≡ true) (posted : HasChanged (IsPosted days r f row changed) e n) where
   pub then-posted : (b.is_clean ≡ true → IsConsistent b.content) → (d.is_clean ≡ true → IsConsistent d.content) → (n.is_clean ≡ true → IsConsistent n.content)
       → HasChanged (λ xs ys. ArePosted (posted_to r f) xs (with_row changed ys)) a n
-  then-posted whole whole-opened whole-new = record {
-    clean = λ c. asked.0.clean (opened.clean (found.0.clean (posted.clean c)));
-    before = λ c. posted.before c ∙ found.0.before (posted.clean c) ∙ opened.before (found.0.clean (posted.clean c)) ∙ asked.0.before (opened.clean (found.0.clean (posted.clean c)));
-    opened = posted.opened;
-    content = λ c.
-        let ce = posted.clean c in
-        let cd = found.0.clean ce in
-        let cb = opened.clean cd in
-        subst (λ xs. ArePosted (posted_to r f) xs (with_row changed n.content)) (asked.0.content cb)
-        (are-posted days r f row changed b.content d.content n.content (whole cb) (whole-opened cd) (whole-new c) (opened.content cd) (row-found r row d.content place (found.1 ce)) (found.1 ce)
-        (subst (λ xs. IsPosted days r f row changed xs n.content) (found.0.content ce) (posted.content c)) (asked.1 cb ∙ sym (ap days_of_rows (asked.0.content cb))));
-    answers = λ was. posted.answers (found.0.answers (opened.answers (asked.0.answers was)));
-    leaves = leaves-on a b n asked.0.leaves (leaves-on b d n opened.leaves (leaves-on d e n found.0.leaves posted.leaves));
-  }
+  then-posted whole whole-opened whole-new =
+      let posts = λ (xs ys : Content). IsPosted days r f row changed xs ys × IsConsistent ys × (Some row ≡ row_of xs (registrar_column r)) in
+      let both = λ (xs ys : Content). IsConsistent xs → days ≡ days_of_rows xs → ArePosted (posted_to r f) xs (with_row changed ys) in
+      asked-then both (λ (xs ys : Content). ArePosted (posted_to r f) xs (with_row changed ys)) a b n asked.0
+      (then-became (IsOpened r) posts both b d n opened (asked-then (IsPosted days r f row changed) posts d e n found.0 posted (λ c it. (it, whole-new c, found.1 (posted.clean c))))
+      (λ c one two was by. are-posted days r f row changed b.content d.content n.content was (whole-opened c) two.1 one two.2 place two.0 by))
+      (λ c it. let clean = opened.clean (found.0.clean (posted.clean c)) in it (subst IsConsistent (asked.0.content clean) (whole clean)) (asked.1 clean))
 
   pub now-unwritten : n.is_clean ≡ true → IsRowOf r changed n.content
   now-unwritten c = row-posted days r f row changed e.content n.content (found-now r row d e found place (posted.clean c)) (posted.content c)
 
-pub none-posted : (xs : Content) → IsConsistent xs → ArePosted (λ s. s) xs xs
-none-posted xs consistent = record {
-  held = refl;
-  sums = refl;
-  helds = refl;
-  others = record { metas = refl; days = refl; contacts = refl; domains = refl; hosts = refl; addresses = refl; links = refl; transfers = refl };
-  consistent = consistent;
-  ends = λ line here. inl here;
-}
-
 module _ (made : Stored → Stored) (old new : Content) (it : ArePosted made old new) where
   pub posted-right : are_right new ≡ are_right old
-  posted-right = λ i. may_be_numbered (it.others.metas i) && (it.sums i && (it.helds i && (dues-of-others old new it.others i && sponsors-kept old new it.others.hosts it.others.domains i)))
-
-  days-posted : days_of_rows new ≡ days_of_rows old
-  days-posted = λ i. days_of_rows (record new { metas = it.others.metas i; days = it.others.days i })
+  posted-right = right-of-others old new it.others it.sums it.helds
 
   under-posted : (days : Schedule) → IsUnderDays days old → IsUnderDays days new
-  under-posted days under = subst (λ o. IfSome o (λ d. d ≡ days)) (sym days-posted) under
+  under-posted days under = subst (λ o. IfSome o (λ d. d ≡ days)) (sym (same-days old new it.others.metas it.others.days)) under
 
   reads-posted : (row : DomainRow) → domain_read new row ≡ domain_read old row
   reads-posted row = λ i. domain_read (record new { contacts = it.others.contacts i; domains = it.others.domains i; hosts = it.others.hosts i; links = it.others.links i; transfers = it.others.transfers i }) row
@@ -128,10 +107,6 @@ row-kept r row old new same is = record {
   there = ap (λ rows. get_by key rows (registrar_column r)) same ∙ is.there;
   ident = is.ident;
 }
-
-pub unwritten-kept : (row : Option Unwritten) (old new : Content) → new.accounts ≡ old.accounts → IsUnwritten row old → IsUnwritten row new
-unwritten-kept None old new same is = tt
-unwritten-kept (Some it) old new same is = row-kept it.registrar it.row old new same is
 
 pub followed-beside : (name : List ℕ) (who : Option ℕ) (row : Option Unwritten) (old new : Content) → IsUnwritten row old → IsSponsorSetBelow name who old new → IsSponsorSetBelow name who (with_unwritten row old) (with_unwritten row new)
 followed-beside name who None old new is it = it

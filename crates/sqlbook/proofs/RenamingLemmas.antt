@@ -1,21 +1,17 @@
 -- What it is to a book that a host's row gets another name.
-use Rattle.std.proofs.Common.{◌≡◌, ℕ, pos, suc, Bool, true, false, cond, ◌&&◌, length, List, [], ◌∷◌, map, filter, Option, Some, None, option_map, refl, sym, ap, ◌∙◌}
-use Rattle.sqlbook.proofs.Words.{AccountRow, accounts_of, are_right, capped, clock_of, Content, Domain, domain_read, DomainRow, domains_of, due_at}
-use Rattle.sqlbook.proofs.Words.{due_of, dues_are_right, entries, FinMap, held_of, helds_are_right, host_moved, host_set, int_eq, IsRowRenamed}
-use Rattle.sqlbook.proofs.Words.{list_all, may_be_numbered, nat_cmp, nat_list_cmp_total, option_map_or, registrar_in, row_of, rules_with, same_map}
-use Rattle.sqlbook.proofs.Words.{Schedule, slice_cmp, stored_of, sums_are_right, terms_of_rows, values, with_domains}
+use Rattle.std.proofs.Common.{◌≡◌, ℕ, pos, Bool, true, false, length, List, map, filter, Option, Some, None, option_map, refl, sym, ap, ◌∙◌}
+use Rattle.std.proofs.lemmas.List.{length-map}
+use Rattle.sqlbook.proofs.Words.{AccountRow, are_right, capped, Content, Domain, domain_read, DomainRow, domains_of, due_at, due_of, dues_are_right}
+use Rattle.sqlbook.proofs.Words.{entries, held_of, helds_are_right, host_moved, int_eq, IsRowRenamed, list_all, nat_cmp, nat_list_cmp_total}
+use Rattle.sqlbook.proofs.Words.{option_map_or, registrar_in, row_of, rules_with, same_map, Schedule, slice_cmp, stored_of, values}
+use Rattle.sqlbook.proofs.{MeaningLemmas.objects-put, ObjectLemmas.dues-alike}
+use Rattle.sqlbook.proofs.PlacedLemmas.{IsInPlaces, none-placed, one-placed, renamed-placed}
+use Rattle.sqlite_keyed.proofs.ListLemmas.{filter-map, map-map}
 use Rattle.basis.specs.Maps.{map_values}
 use Rattle.basis.proofs.MapLemmas.{entries-map_values, get-map_values, names_apart}
-use Rattle.objects.specs.declared.domain.Deletion.{Deletion}
-use Rattle.objects.specs.declared.host.Host.{Host}
-use Rattle.objects.specs.Sight.{is_party}
+use Rattle.objects.specs.{declared.{domain.Deletion.Deletion, host.Host.Host}, Sight.is_party}
 use Rattle.decisions.specs.Changes.{renamed, with_host_renamed}
 use Rattle.sqldomains.proofs.RenamedLemmas.{domains-after, reading-after}
-use Rattle.sqlbook.proofs.ObjectLemmas.{dues-alike}
-use Rattle.sqlbook.proofs.PlacedLemmas.{IsInPlaces, none-placed, one-placed, renamed-placed}
-
-abbrev Hosts : Type 0
-Hosts = FinMap (slice_cmp nat_cmp) Host
 
 -- ---- the row of one host made another's
 
@@ -32,21 +28,18 @@ module _ (from : List ℕ) (h : Host) (xs ys : Content) (it : IsRowRenamed from 
       ∙ sym (get-map_values (slice_cmp nat_cmp) nat_list_cmp_total names_apart (λ name. after) (domains_of xs) q))
 
   -- as many domains are a registrar's
+  abbrev holds : ℕ → Domain → Bool
+  holds r d = is_party r d.sponsor d.transfer
+
   held : (r : ℕ) → held_of ys r ≡ held_of xs r
   held r =
-      ap (λ m. length (filter (λ (d : Domain). is_party r d.sponsor d.transfer) (values m))) domains
-      ∙ ap (λ es. length (filter (λ (d : Domain). is_party r d.sponsor d.transfer) (map (λ (e : List ℕ × Domain). e.1) es))) (entries-map_values (slice_cmp nat_cmp) (λ name. after) nat_list_cmp_total names_apart (domains_of xs))
-      ∙ go (entries (domains_of xs))
+      ap (λ m. length (filter (holds r) (values m))) domains
+      ∙ ap (λ es. length (filter (holds r) (map (λ (e : List ℕ × Domain). e.1) es))) (entries-map_values (slice_cmp nat_cmp) (λ name. after) nat_list_cmp_total names_apart (domains_of xs))
+      ∙ ap (λ ds. length (filter (holds r) ds)) (map-map (λ (e : List ℕ × Domain). e.1) (λ (e : List ℕ × Domain). (e.0, after e.1)) (entries (domains_of xs)))
+      ∙ counted (λ e. after e.1) ∙ sym (counted (λ e. e.1))
     where
-      by : (b : Bool) (x y : Domain) (l m : List Domain) → length l ≡ length m → length (cond b (x ∷ l) l) ≡ length (cond b (y ∷ m) m)
-      by true x y l m e = ap suc e
-      by false x y l m e = e
-
-      go : (es : List (List ℕ × Domain))
-          → length (filter (λ (d : Domain). is_party r d.sponsor d.transfer) (map (λ (e : List ℕ × Domain). e.1) (map (λ (e : List ℕ × Domain). (e.0, after e.1)) es)))
-          ≡ length (filter (λ (d : Domain). is_party r d.sponsor d.transfer) (map (λ (e : List ℕ × Domain). e.1) es))
-      go [] = refl
-      go (e ∷ es) = by (is_party r e.1.sponsor e.1.transfer) (after e.1) e.1 _ _ (go es)
+      counted : (f : List ℕ × Domain → Domain) → length (filter (holds r) (map f (entries (domains_of xs)))) ≡ length (filter (λ e. holds r (f e)) (entries (domains_of xs)))
+      counted f = ap length (filter-map (holds r) f (entries (domains_of xs))) ∙ length-map (filter (λ e. holds r (f e)) (entries (domains_of xs))) f
 
   helds : helds_are_right ys ≡ helds_are_right xs
   helds = λ i. list_all (λ (row : AccountRow).
@@ -65,22 +58,5 @@ module _ (from : List ℕ) (h : Host) (xs ys : Content) (it : IsRowRenamed from 
       go days row None = refl
       go days row (Some d) = ap (λ n. int_eq row.due (pos (capped n))) (same days d d.deletion)
 
-  pub row-right : are_right ys ≡ are_right xs
-  row-right = λ i.
-      may_be_numbered (it.metas i)
-      && (sums_are_right (record ys { accounts = it.accounts i; lines = it.lines i; messages = it.messages i }) && (helds i && (dues i && it.sponsors i)))
-
-  row-changed : stored_of ys ≡ with_domains (map_values (λ name. after) (domains_of xs)) (host_set h.name (Some h) (host_set from None (stored_of xs)))
-  row-changed = λ i. record {
-    registry = record {
-      contacts = it.contacts i;
-      hosts = it.hosts i;
-      domains = domains i;
-      accounts = accounts_of (record ys { accounts = it.accounts i; lines = it.lines i; messages = it.messages i });
-      clock = clock_of (record ys { metas = it.metas i });
-    };
-    terms = terms_of_rows (record ys { metas = it.metas i; days = it.days i; accounts = it.accounts i });
-  }
-
-pub row-renamed : (from : List ℕ) (h : Host) (xs ys : Content) → IsRowRenamed from h xs ys → stored_of ys ≡ host_moved from h (stored_of xs)
-row-renamed from h xs ys it = row-changed from h xs ys it
+  pub row-renamed : (stored_of ys ≡ host_moved from h (stored_of xs)) × (are_right ys ≡ are_right xs)
+  row-renamed = objects-put xs ys it.metas it.days _ _ _ it.contacts it.hosts domains it.accounts it.lines it.messages helds dues it.sponsors

@@ -6,27 +6,19 @@ use Rattle.sqlbook.proofs.Words.{remains_meant, StateOf, stored_of, terms_of_row
 use Rattle.sqlite_disk.specs.declared.Disk.{Ghosts}
 use Rattle.sqlite_wal.specs.Recovery.{Image}
 use Rattle.sqlite_trees.specs.Tree.{Trees}
-use Rattle.sqlite_store.specs.declared.store.FileStore.{FileStore}
-use Rattle.sqlite_store.specs.FileStore.{recovers, view}
+use Rattle.sqlite_store.specs.{declared.store.FileStore.FileStore, FileStore.{recovers, view}}
 use Rattle.sqlite_store.specs.FileStore as files
 use Rattle.sqlite.specs.Held.{AreDatabases}
 use Rattle.sqlite.proofs.Theorems.{opens_again}
 use Rattle.std.specs.Bool.{IsTrue}
 use Rattle.policy.specs.declared.terms.Terms.{Terms}
-use Rattle.books.specs.Kept.{book_state}
+use Rattle.books.specs.{Kept.book_state, Reopening.{IsFoundAgain, IsReopened}}
+use Rattle.sqlobjects.proofs.VerdictLemmas.{each-passes}
 use Rattle.sqltables.specs.Adoption.{IsAdopted}
 use Rattle.sqltables.specs.inner.Reopening as rows
 use Rattle.sqltables.proofs.ReopeningLemmas.{reopened}
-use Rattle.states.specs.declared.readiness.Ready.{Ready}
-use Rattle.states.specs.declared.readiness.Ready.TheVariants.{Empty, Used, Other}
-use Rattle.states.specs.States.{Has}
+use Rattle.states.specs.{declared.readiness.Ready.{Ready, TheVariants.{Empty, Used, Other}}, States.Has}
 use Rattle.sqlbook.specs.Files.{IsFoundIn}
-use Rattle.books.specs.Reopening.{IsFoundAgain, IsReopened}
-
-one-right : (leaves : List (Remains Content)) (left : Remains Content) → Has leaves left → are_all_right are_right leaves ≡ true → are_right left.content ≡ true
-one-right [] left h e = absurd h
-one-right (one ∷ leaves) left (inl is) e = ap (λ (r : Remains Content). are_right r.content) is ∙ (and_parts (are_right one.content) (are_all_right are_right leaves) e).0
-one-right (one ∷ leaves) left (inr h) e = one-right leaves left h (and_parts (are_right one.content) (are_all_right are_right leaves) e).1
 
 has-meant : (leaves : List (Remains Content)) (left : Remains Content) → Has leaves left → Has (map (remains_meant stored_of) leaves) (remains_meant stored_of left)
 has-meant [] left h = absurd h
@@ -59,7 +51,7 @@ pub book-reopened : (old : StateOf Content) (may_leave : Trees → Type 0) (refu
     → IsReopened (book_state (as_book stored_of are_right old) refused) (book_state (as_book stored_of are_right new) again)
 book-reopened old may_leave refused again covers honest trees may new adopted sure =
     let it = reopened old.crash_leaves may_leave trees new covers may adopted sure in
-    let right = one-right old.crash_leaves it.0 it.1 (and_parts old.is_honest (are_all_right are_right old.crash_leaves) honest).1 in
+    let right = each-passes (λ (left : Remains Content). are_right left.content) old.crash_leaves (and_parts old.is_honest (are_all_right are_right old.crash_leaves) honest).1 it.0 it.1 in
     (remains_meant stored_of it.0, has-meant old.crash_leaves it.0 it.1, found-again new again it.0 right sure adopted.before it.2)
 
 -- The same of files: where they hold what a crash could leave, and were opened, and adopted.

@@ -1,32 +1,24 @@
 -- What a commit of rows is to a book.
-use Rattle.std.proofs.Common.{◌≡◌, ◌⊎◌, ◌&&◌, inl, inr, Bool, true, false, List, [], ◌∷◌, ◌++◌, map, Result, Ok, Err, refl, sym, ap, subst, ◌∙◌}
+use Rattle.std.proofs.Common.{◌≡◌, ◌⊎◌, ◌&&◌, inl, inr, Bool, true, false, [], ◌∷◌, ◌++◌, map, Result, Ok, Err, refl, sym, ap, subst, ◌∙◌}
+use Rattle.std.proofs.{Math.Bool.and-true, lemmas.{Bool.and_from, List.{map-append, Folds.list_all-append}}}
 use Rattle.sqlbook.proofs.Words.{and_parts, are_all_right, as_book, BookFault, Ends, has-alone, has-either, Remains, remains_meant, StateOf}
 use Rattle.states.specs.States.{Closes, Fails, Has, IsIdle, Keeps, Notes, holding}
 use Rattle.sqlbook.specs.BetweenCalls.{UndoneIfFault, IsBetweenCalls}
 
-both-true : (a b : Bool) → a ≡ true → b ≡ true → (a && b) ≡ true
-both-true a b x y = ap (λ c. c && b) x ∙ y
-
-and-true : (b : Bool) → (b && true) ≡ b
-and-true true = refl
-and-true false = refl
-
 twice : (a b c : Bool) → a ≡ c → b ≡ c → (a && (b && true)) ≡ c
-twice a b true x y = both-true a (b && true) x (and-true b ∙ y)
+twice a b true x y = and_from a (b && true) x (and_from b true y refl)
 twice a b false x y = ap (λ d. d && (b && true)) x
 
-module _ {C : Type 0} (right : C → Bool) where
-  right-more : (leaves : List (Remains C)) (left : Remains C) → are_all_right right (leaves ++ left ∷ []) ≡ (are_all_right right leaves && (right left.content && true))
-  right-more [] left = refl
-  right-more (one ∷ leaves) left = ap (λ b. right one.content && b) (right-more leaves left) ∙ three (right one.content) (are_all_right right leaves) (right left.content && true)
-    where
-      three : (a b c : Bool) → (a && (b && c)) ≡ ((a && b) && c)
-      three true b c = refl
-      three false b c = refl
-
-meant-more : {C X : Type 0} (means : C → X) (leaves : List (Remains C)) (left : Remains C) → map (remains_meant means) (leaves ++ left ∷ []) ≡ map (remains_meant means) leaves ++ remains_meant means left ∷ []
-meant-more means [] left = refl
-meant-more means (one ∷ leaves) left = ap (λ l. remains_meant means one ∷ l) (meant-more means leaves left)
+-- what stands between calls behind a call that ended the transaction
+pub steady-now : {C : Type 0} (right : C → Bool) (is_made : Bool) (old new : StateOf C) → IsBetweenCalls is_made right old → IsIdle new → new.is_open ≡ false → (is_made ≡ true → new.is_clean ≡ true)
+    → (new.is_clean ≡ true → right new.before ≡ right old.before) → (new.is_clean ≡ true → are_all_right right new.crash_leaves ≡ right new.before) → IsBetweenCalls is_made right new
+steady-now right is_made old new steady idle closed clean home leaves = record {
+  sums = λ e. ap right (sym (idle closed));
+  idle = idle;
+  clean = clean;
+  begun = λ e. home (clean e) ∙ steady.begun e;
+  leaves = leaves;
+}
 
 module _ {C X : Type 0} (means : C → X) (right : C → Bool) (is_made : Bool) (old : StateOf C) (steady : IsBetweenCalls is_made right old) where
   -- ---- what was held is kept
@@ -45,21 +37,21 @@ module _ {C X : Type 0} (means : C → X) (right : C → Bool) (is_made : Bool) 
       clean = λ e.
           let p = and_parts new.is_clean (right new.before) e in
           let was = keeps.clean p.0 in
-          both-true old.is_clean (right old.before) was (sym (steady.sums was) ∙ ap right (sym (kept-home p.0)) ∙ p.1);
+          and_from old.is_clean (right old.before) was (sym (steady.sums was) ∙ ap right (sym (kept-home p.0)) ∙ p.1);
       closed = keeps.closed;
       content = λ e. ap means (keeps.content (and_parts new.is_clean (right new.before) e).0);
       answers = λ e.
           let p = and_parts new.is_honest (are_all_right right new.crash_leaves) e in
           let clean = keeps.answers p.0 in
-          both-true new.is_clean (right new.before) clean (sym (leaves-kept clean) ∙ p.1);
+          and_from new.is_clean (right new.before) clean (sym (leaves-kept clean) ∙ p.1);
       honest = λ e.
           let p = and_parts new.is_honest (are_all_right right new.crash_leaves) e in
           let was = keeps.answered p.0 in
-          both-true old.is_honest (are_all_right right old.crash_leaves) (keeps.honest p.0) (steady.leaves was ∙ sym (steady.sums was) ∙ sym right-kept ∙ p.1);
+          and_from old.is_honest (are_all_right right old.crash_leaves) (keeps.honest p.0) (steady.leaves was ∙ sym (steady.sums was) ∙ sym right-kept ∙ p.1);
       answered = λ e.
           let p = and_parts new.is_honest (are_all_right right new.crash_leaves) e in
           let was = keeps.answered p.0 in
-          both-true old.is_clean (right old.before) was (sym (steady.sums was) ∙ sym right-kept ∙ p.1);
+          and_from old.is_clean (right old.before) was (sym (steady.sums was) ∙ sym right-kept ∙ p.1);
       leaves = λ left h. has-alone (holding (means old.content)) left (subst (λ l. Has (map (remains_meant means) l) left) noted h);
       ready = keeps.ready;
     }
@@ -69,13 +61,16 @@ module _ {C X : Type 0} (means : C → X) (right : C → Bool) (is_made : Bool) 
     failed-home : new.is_clean ≡ true → new.before ≡ old.before
     failed-home e = idle closes.closed ∙ closes.content e ∙ fails.before (closes.clean e)
 
+    more-right : are_all_right right (old.crash_leaves ++ holding old.content ∷ []) ≡ (are_all_right right old.crash_leaves && (right old.content && true))
+    more-right = list_all-append (λ (left : Remains C). right left.content) old.crash_leaves (holding old.content ∷ [])
+
     was-clean : new.is_clean ≡ true → old.is_clean ≡ true
     was-clean e = fails.clean (closes.clean e)
 
     right-before : are_all_right right new.crash_leaves ≡ true → are_all_right right old.crash_leaves ≡ true
     right-before e = elim noted [
       | inl same ↦ ap (are_all_right right) (sym (closes.leaves.same ∙ same)) ∙ e
-      | inr more ↦ (and_parts (are_all_right right old.crash_leaves) (right old.content && true) (sym (right-more right old.crash_leaves (holding old.content)) ∙ ap (are_all_right right) (sym (closes.leaves.same ∙ more)) ∙ e)).0
+      | inr more ↦ (and_parts (are_all_right right old.crash_leaves) (right old.content && true) (sym more-right ∙ ap (are_all_right right) (sym (closes.leaves.same ∙ more)) ∙ e)).0
     ]
 
     pub leaves-failed : new.is_clean ≡ true → are_all_right right new.crash_leaves ≡ right new.before
@@ -83,7 +78,7 @@ module _ {C X : Type 0} (means : C → X) (right : C → Bool) (is_made : Bool) 
         let was = was-clean e in
         elim noted [
           | inl same ↦ ap (are_all_right right) (closes.leaves.same ∙ same) ∙ steady.leaves was ∙ ap right (sym (failed-home e))
-          | inr more ↦ ap (are_all_right right) (closes.leaves.same ∙ more) ∙ right-more right old.crash_leaves (holding old.content)
+          | inr more ↦ ap (are_all_right right) (closes.leaves.same ∙ more) ∙ more-right
               ∙ twice (are_all_right right old.crash_leaves) (right old.content) (right old.before) (steady.leaves was) (steady.sums was) ∙ ap right (sym (failed-home e))
         ]
 
@@ -91,19 +86,19 @@ module _ {C X : Type 0} (means : C → X) (right : C → Bool) (is_made : Bool) 
     fails-seen = record {
       clean = λ e.
           let p = and_parts new.is_clean (right new.before) e in
-          both-true old.is_clean (right old.before) (was-clean p.0) (ap right (sym (failed-home p.0)) ∙ p.1);
+          and_from old.is_clean (right old.before) (was-clean p.0) (ap right (sym (failed-home p.0)) ∙ p.1);
       before = λ e. ap means (failed-home (and_parts new.is_clean (right new.before) e).0);
       honest = λ e.
           let p = and_parts new.is_honest (are_all_right right new.crash_leaves) e in
-          both-true old.is_honest (are_all_right right old.crash_leaves) (fails.honest (closes.leaves.honest p.0)) (right-before p.1);
+          and_from old.is_honest (are_all_right right old.crash_leaves) (fails.honest (closes.leaves.honest p.0)) (right-before p.1);
       answered = λ e.
           let p = and_parts new.is_honest (are_all_right right new.crash_leaves) e in
           let was = fails.answered (closes.leaves.honest p.0) in
-          both-true old.is_clean (right old.before) was (sym (steady.leaves was) ∙ right-before p.1);
+          and_from old.is_clean (right old.before) was (sym (steady.leaves was) ∙ right-before p.1);
       leaves = λ left h. elim noted [
         | inl same ↦ inl (subst (λ l. Has (map (remains_meant means) l) left) (closes.leaves.same ∙ same) h)
         | inr more ↦ has-either (map (remains_meant means) old.crash_leaves) (holding (means old.content)) left
-            (subst (λ l. Has l left) (meant-more means old.crash_leaves (holding old.content)) (subst (λ l. Has (map (remains_meant means) l) left) (closes.leaves.same ∙ more) h))
+            (subst (λ l. Has l left) (map-append (remains_meant means) old.crash_leaves (holding old.content ∷ [])) (subst (λ l. Has (map (remains_meant means) l) left) (closes.leaves.same ∙ more) h))
       ];
       ready = closes.leaves.ready ∙ fails.ready;
     }
@@ -118,17 +113,6 @@ module _ {C X : Type 0} (means : C → X) (right : C → Bool) (is_made : Bool) 
   steady-ended (Ok done) mid new ends noted same idle clean =
       let keeps = subst (Keeps old) (sym same) ends in
       let alone = ap (λ (s : StateOf C). s.crash_leaves) same ∙ noted in
-      record {
-        sums = λ e. ap right (sym (idle keeps.closed));
-        idle = idle;
-        clean = clean;
-        begun = λ e. ap right (kept-home new keeps alone idle (clean e)) ∙ steady.sums (keeps.clean (clean e)) ∙ steady.begun e;
-        leaves = leaves-kept new keeps alone idle;
-      }
-  steady-ended (Err fault) mid new ends noted closes idle clean = record {
-    sums = λ e. ap right (sym (idle closes.closed));
-    idle = idle;
-    clean = clean;
-    begun = λ e. ap right (failed-home mid new ends noted closes idle (clean e)) ∙ steady.begun e;
-    leaves = leaves-failed mid new ends noted closes idle;
-  }
+      steady-now right is_made old new steady idle keeps.closed clean (λ e. ap right (kept-home new keeps alone idle e) ∙ steady.sums (keeps.clean e)) (leaves-kept new keeps alone idle)
+  steady-ended (Err fault) mid new ends noted closes idle clean =
+      steady-now right is_made old new steady idle closes.closed clean (λ e. ap right (failed-home mid new ends noted closes idle e)) (leaves-failed mid new ends noted closes idle)

@@ -1,35 +1,28 @@
 -- What another clock, and other terms, over rows are to a book.
-use Rattle.std.proofs.Common.{◌≡◌, inl, inr, ℕ, ℤ, Bool, true, false, ◌&&◌, List, [], ◌∷◌, map, Option, Some, option_map, Result, Ok, Err, IfOk, refl, sym, ap, subst, ◌∙◌, cond, int_eq}
-use Rattle.sqlbook.proofs.Words.{AccountRow, accounts_of, are_right, are_right_by, asked-turns, BookFault, Changes, clock_set, columns-kept}
-use Rattle.sqlbook.proofs.Words.{contacts_of, Content, days_of_rows, DomainRow, domains_of, dues_are_right, ends_are, get_by, has_right_due}
-use Rattle.sqlbook.proofs.Words.{HasChanged, helds_are_right, hosts_of, is_due_right, is_live_right, IsClockSet, IsSetDown, IsSetOver, IsTermsSet}
-use Rattle.sqlbook.proofs.Words.{leaves-on, list_all, lives_are_right, may_be_numbered, MeansSame, nameless, option_map_or, Reads, Schedule}
-use Rattle.sqlbook.proofs.Words.{sponsors_are_right, StateOf, stored_of, SuitDomains, sums_are_right, with_terms}
+use Rattle.std.proofs.Common.{◌≡◌, inl, inr, ℕ, ℤ, Bool, true, false, ◌&&◌, List, [], ◌∷◌, map, Option, Some, option_map, Result, refl, sym, ap, subst, ◌∙◌, cond, int_eq}
+use Rattle.sqlbook.proofs.Words.{AccountRow, accounts_of, are_right, are_right_by, asked-stood, asked-then, BookFault, Changes, clock_set}
+use Rattle.sqlbook.proofs.Words.{columns-kept, contacts_of, Content, days_of_rows, DomainRow, domains_of, dues_are_right, ends_are, get_by}
+use Rattle.sqlbook.proofs.Words.{has_right_due, HasChanged, helds_are_right, hosts_of, is_due_right, is_live_right, IsClockSet, IsSetDown, IsSetOver}
+use Rattle.sqlbook.proofs.Words.{IsTermsSet, list_all, lives_are_right, MakesAs, may_be_numbered, MeansSame, nameless, option_map_or, Reads, Schedule}
+use Rattle.sqlbook.proofs.Words.{sponsors_are_right, StateOf, stored_of, SuitDomains, sums_are_right, then-became, with_terms}
+use Rattle.sqlbook.proofs.{IdLemmas.key, MeaningLemmas.{alters, stored-by}}
 use Rattle.policy.specs.declared.terms.Terms.{Terms}
 use Rattle.sqlderived.proofs.RedateLemmas.{dues-live}
-use Rattle.sqlbook.specs.Suiting.{AreRedated}
-use Rattle.sqlbook.proofs.AccountLemmas.{key}
 
 -- ---- another clock
 
-module _ (m : ℕ) (old new : Content) (it : IsClockSet m old new) where
-  pub clock-right : are_right new ≡ are_right old
-  clock-right = λ i.
+clock-set : (m : ℕ) (old new : Content) → IsClockSet m old new → (stored_of new ≡ clock_set m (stored_of old)) × (are_right new ≡ are_right old)
+clock-set m old new it = (
+  stored-by new (clock_set m (stored_of old)) (ap contacts_of it.others) (ap hosts_of it.others) (ap domains_of it.others) (ap accounts_of it.others) it.clock it.terms,
+  λ i.
       it.numbered i
       && (sums_are_right (it.others i)
-      && (helds_are_right (it.others i) && (list_all (λ row. option_map_or (λ days. is_due_right days (it.others i) row) (it.days i) true) (it.others i).domains && sponsors_are_right (it.others i))))
+      && (helds_are_right (it.others i) && (list_all (λ row. option_map_or (λ days. is_due_right days (it.others i) row) (it.days i) true) (it.others i).domains && sponsors_are_right (it.others i)))),
+)
 
-  pub clock-changed : stored_of new ≡ clock_set m (stored_of old)
-  clock-changed = λ i. record {
-    registry = record {
-      contacts = contacts_of (it.others i);
-      hosts = hosts_of (it.others i);
-      domains = domains_of (it.others i);
-      accounts = accounts_of (it.others i);
-      clock = it.clock i;
-    };
-    terms = it.terms i;
-  }
+pub clock_made : (m : ℕ) (r : Result (Unit {0}) BookFault) (old new : StateOf Content) → Changes r (IsClockSet m) old new
+    → MakesAs r stored_of are_right (clock_set m (stored_of old.content)) old new
+clock_made m r old new made = alters r (IsClockSet m) _ old new made (λ it. clock-set m old.content new.content it)
 
 -- ---- other terms
 
@@ -56,32 +49,18 @@ module _ (value : Terms) (old new : Content) (it : IsTermsSet value old new) whe
   terms-right : (right : Content → DomainRow → Bool) → list_all (right new) new.domains ≡ list_all (right old) old.domains → are_right_by right new ≡ are_right_by right old
   terms-right right same = λ i. it.numbered i && (it.sums i && (columns-kept old new same-domains (same-column old.accounts new.accounts it.rows) i && (same i && sponsors_are_right (it.others i))))
 
-  nothing : (test : DomainRow → Bool) (rows : List DomainRow) → rows ≡ [] → list_all test rows ≡ true
-  nothing test rows none = ap (list_all test) none
-
   same-dues : SuitDomains value.days old → dues_are_right new ≡ dues_are_right old
   same-dues (inl same) = λ i. list_all (λ row. option_map_or (λ days. is_due_right days (it.others i) row) ((it.days ∙ sym same) i) true) (it.others i).domains
-  same-dues (inr none) =
-      nothing (has_right_due new) new.domains (ap (λ (xs : Content). xs.domains) it.others ∙ none)
-      ∙ sym (nothing (has_right_due old) old.domains none)
+  same-dues (inr none) = ap (list_all (has_right_due new)) (ap (λ (xs : Content). xs.domains) it.others ∙ none) ∙ sym (ap (list_all (has_right_due old)) none)
 
   -- no length bears on the rows of domains that aren't deleted
-  pub lives-same : are_right_by is_live_right new ≡ are_right_by is_live_right old
+  lives-same : are_right_by is_live_right new ≡ are_right_by is_live_right old
   lives-same = terms-right is_live_right (λ i. lives_are_right (it.others i))
 
-  pub terms-changed : stored_of new ≡ with_terms value (stored_of old)
-  terms-changed = λ i. record {
-    registry = record {
-      contacts = contacts_of (it.others i);
-      hosts = hosts_of (it.others i);
-      domains = same-domains i;
-      accounts = it.accounts i;
-      clock = it.clock i;
-    };
-    terms = it.terms i;
-  }
+  terms-changed : stored_of new ≡ with_terms value (stored_of old)
+  terms-changed = stored-by new (with_terms value (stored_of old)) (ap contacts_of it.others) (ap hosts_of it.others) same-domains it.accounts it.clock it.terms
 
-  pub same-lines : new.lines ≡ old.lines
+  same-lines : new.lines ≡ old.lines
   same-lines = ap (λ (xs : Content). xs.lines) it.others
 
   pub set-down : SuitDomains value.days old → IsSetDown value old new
@@ -105,41 +84,12 @@ set-between before value a b c were put_down same it are = record {
 -- deleted domains are looked at, put again, and after the terms were put down looked at again
 pub others-set : (before : Schedule) (value : Terms) (a b c d e : StateOf Content) → Reads a b × (b.is_clean ≡ true → ends_are before a.content ≡ true) → HasChanged MeansSame b c → HasChanged (IsTermsSet value) c d
     → Reads d e × (e.is_clean ≡ true → ends_are value.days d.content ≡ true) → HasChanged (λ x y. days_of_rows x ≡ Some before → IsSetOver (Some before) value x y) a e
-others-set before value a b c d e first redated set last = record {
-  clean = λ t. first.0.clean (redated.clean (set.clean (last.0.clean t)));
-  before = λ t. let w = last.0.clean t in let w2 = set.clean w in last.0.before t ∙ set.before w ∙ redated.before w2 ∙ first.0.before (redated.clean w2);
-  opened = last.0.opened ∙ set.opened;
-  content = λ t were.
-      let w3 = last.0.clean t in
-      let w2 = set.clean w3 in
-      let w1 = redated.clean w2 in
-      let same : MeansSame a.content c.content = subst (λ (xs : Content). MeansSame xs c.content) (first.0.content w1) (redated.content w2) in
-      record {
-        set = subst (IsSetDown value a.content) (sym (last.0.content t)) (set-between before value a.content c.content d.content (first.1 w1) were same (set.content w3) (last.1 t));
-        ends = inr (ap (ends_are value.days) (last.0.content t) ∙ last.1 t);
-      };
-  answers = λ was. last.0.answers (set.answers (redated.answers (first.0.answers was)));
-  leaves = leaves-on a d e (leaves-on a c d (leaves-on a b c first.0.leaves redated.leaves) set.leaves) last.0.leaves;
-}
-
--- ---- one way of a change is another
-
-pub turned : {A C : Type 0} (r : Result A BookFault) (one two : C → C → Type 0) (a b : StateOf C) → Changes r one a b → (b.is_clean ≡ true → one a.content b.content → two a.content b.content) → Changes r two a b
-turned (Ok done) one two a b made so = record { clean = made.clean; before = made.before; opened = made.opened; content = λ e. so e (made.content e); answers = made.answers; leaves = made.leaves }
-turned (Err fault) one two a b stays so = stays
-
--- what was put down before is asked, and then terms are put down over it
-module _ (value : Terms) (before : Option Schedule) (old mid new : StateOf Content) (asked : Reads old mid × (mid.is_clean ≡ true → before ≡ days_of_rows old.content)) where
-  abbrev pub Over : Content → Content → Type 0
-  Over a b = days_of_rows a ≡ before → IsSetOver before value a b
-
-  pub set-over : {A : Type 0} (r : Result A BookFault) → Changes r Over mid new → Changes r (IsSetOver before value) old new
-  set-over r made = asked-turns r Over (IsSetOver before value) old mid new asked.0 made (λ w it. it (sym (asked.1 w)))
-
-  pub over-lines : {A : Type 0} (r : Result A BookFault) → Changes r Over mid new → IfOk r (λ done. new.is_clean ≡ true → new.content.lines ≡ old.content.lines)
-  over-lines (Ok done) made = λ t. ((set-over (Ok done) made).content t).set.lines
-  over-lines (Err fault) made = tt
-
-  pub over-ends : {A : Type 0} (r : Result A BookFault) → Changes r Over mid new → IfOk r (λ done. new.is_clean ≡ true → AreRedated (days_of_rows old.content) value.days new.content)
-  over-ends (Ok done) made = λ t. subst (λ o. AreRedated o value.days new.content) (asked.1 (made.clean t)) ((set-over (Ok done) made).content t).ends
-  over-ends (Err fault) made = tt
+others-set before value a b c d e first redated set last =
+    let way = λ (x y : Content). days_of_rows x ≡ Some before → IsSetOver (Some before) value x y in
+    let ends = λ (x y : Content). days_of_rows x ≡ Some before → ends_are value.days y ≡ true → IsSetOver (Some before) value x y in
+    let begins = λ (x y : Content). ends_are before x ≡ true → ends x y in
+    let looked = λ (x y : Content). (y ≡ x) × (ends_are value.days x ≡ true) in
+    let changed = then-became MeansSame (IsTermsSet value) begins b c d redated set
+    (λ _ same it was were right. record { set = set-between before value b.content c.content d.content was were same it right; ends = inr right }) in
+    then-became ends looked way a d e (asked-then begins ends a b d first.0 changed (λ t it. it (first.1 (changed.clean t)))) (asked-stood looked d e last.0 set.opened (λ t. (refl, last.1 t)))
+    (λ _ it after were. subst (IsSetOver (Some before) value a.content) (sym after.0) (it were after.1))

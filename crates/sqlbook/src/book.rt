@@ -1,16 +1,12 @@
 //! Books in the rows of a database.
 ghost use Rattle.std.specs.Prelude.{◌≡◌, true, IfErr, IfOk};
-ghost use Rattle.sqlite.specs.Held.{state};
+ghost use Rattle.sqlite.specs.{Held.state, State.HasCleanDisk};
 ghost use Rattle.books.specs.Kept.{book_state};
-ghost use Rattle.sqlite.specs.State.{HasCleanDisk};
-ghost use Rattle.sqlite_trees.specs.Tree.{Trees};
-ghost use Rattle.sqlite_trees.specs.View.{IsClean};
+ghost use Rattle.sqlite_trees.specs.{Tree.Trees, View.IsClean};
 ghost use Rattle.sqltables.specs.Adoption.{IsAdopted, IsFound, LeavesAsFound, LeavesAsItWas};
-ghost use Rattle.sqltables.specs.Readiness.{IsKnownAs};
-ghost use Rattle.sqltables.specs.Stored.{Covers};
+ghost use Rattle.sqltables.specs.{Readiness.IsKnownAs, Stored.Covers};
 ghost use Rattle.sqlbook.specs.Beginning.{IsAdoptedBook, IsUnused};
-ghost use Rattle.sqlbook.specs.Meaning.{are_right, stored_of};
-ghost use Rattle.sqlbook.specs.AsBook.{as_book};
+ghost use Rattle.sqlbook.specs.{Meaning.{are_right, stored_of}, AsBook.as_book};
 
 use crate::provenance::{InMemory, OnDisk, Provenance};
 use crate::records::SqlRecords;

@@ -2,8 +2,7 @@
 ghost use Rattle.std.specs.Prelude.{◌≡◌, true, IfOk};
 ghost use Rattle.books.specs.Tables as tables;
 ghost use Rattle.sqlrows.specs.Meanings.{Changes};
-ghost use Rattle.sqlbook.specs.Meaning.{are_right, stored_of};
-ghost use Rattle.sqlbook.specs.AsBook.{MakesAs};
+ghost use Rattle.sqlbook.specs.{Meaning.{are_right, stored_of}, AsBook.MakesAs};
 ghost use Rattle.sqlbook.specs.inner.Posting.{HaveEnds, IsOpenedInBook, PostsAs, option_of};
 
 use basis::registrar::RegistrarNo;

@@ -1,17 +1,16 @@
 //! Domains, put and dropped in a book over rows.
 ghost use Rattle.std.specs.Prelude.{◌≡◌, true, IfOk, IfSome};
 ghost use Rattle.calendar.specs.Moment.{capped};
-ghost use Rattle.lifecycle.specs.Lapse.{due_at};
-ghost use Rattle.lifecycle.specs.Periods.{rules_with};
+ghost use Rattle.lifecycle.specs.{Lapse.due_at, Periods.rules_with};
 ghost use Rattle.books.specs.Tables as tables;
 ghost use Rattle.sqlrows.specs.Meanings.{Changes};
 ghost use Rattle.states.specs.States.{FindsSome};
 ghost use Rattle.sqlbook.specs.Meaning.{are_right, stored_of};
 ghost use Rattle.sqlbook.specs.inner.Posting.{HaveEnds, IsReplacedPosting};
-ghost use Rattle.sqlbook.specs.inner.Replacing.{IsCheckedDomain, IsExchanged, IsReplaced, IsUnderDays, due_with};
+ghost use Rattle.sqlbook.specs.inner.Replacing.{IsCheckedDomain, IsReplaced, IsUnderDays, due_with};
+ghost use Rattle.sqlbook.specs.AsBook.{MakesAs};
 ghost use Rattle.sqlderived.specs.inner.Recounts.{IsUnwritten, with_unwritten};
 ghost use Rattle.sqlderived.specs.Dues.{has_right_due};
-ghost use Rattle.sqlbook.specs.AsBook.{MakesAs};
 ghost use Rattle.sqldomains.specs.inner.Changes.{IsDomainPut, sponsor_in};
 
 use crate::changed_accounts::maybe_posted;
@@ -115,7 +114,8 @@ pub(crate) fn replace<S: Alter>(
         (with_unwritten unwritten old) new) store.old store.new }
 {
     set_sponsor_below(store, name, sponsor_of(after))?;
-    exchange(store, alloc, unwritten, name, before, after, due)?;
+    recount(store, unwritten, before, after)?;
+    put(store, alloc, name, after, due)?;
     Ok(())
 }
 
@@ -126,26 +126,6 @@ fn sponsor_of(domain: &Option<Domain>) -> Option<RegistrarNo>
         None => None,
         Some(domain) => Some(domain.sponsor),
     }
-}
-
-/// One domain, or none, takes the place of another, or of none.
-fn exchange<S: Alter>(
-    store: &mut RowStore<S>,
-    alloc: Global,
-    unwritten: Option<Unwritten>,
-    name: &Text,
-    before: &Option<Domain>,
-    after: &Option<Domain>,
-    due: Moment,
-) -> Result<(), BookFault>
-    requires open { store.old.is_open ≡ true }
-    requires own { store.old.is_clean ≡ true → IsUnwritten unwritten store.old.content }
-    ensures { Changes result (λ old new. IsExchanged name.now before.now after.now due
-        (with_unwritten unwritten old) new) store.old store.new }
-{
-    recount(store, unwritten, before, after)?;
-    put(store, alloc, name, after, due)?;
-    Ok(())
 }
 
 fn put<S: Alter>(

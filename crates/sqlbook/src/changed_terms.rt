@@ -1,35 +1,19 @@
-//! The clock and the terms, set in a book over rows.
+//! Terms, put down in a book over rows.
 ghost use Rattle.std.specs.Prelude.{◌≡◌, true, [], IfOk, Some};
 ghost use Rattle.books.specs.Book.{with_terms};
-ghost use Rattle.books.specs.Tables as tables;
 ghost use Rattle.sqlrows.specs.Meanings.{Changes};
 ghost use Rattle.states.specs.States.{FindsSome};
-ghost use Rattle.sqlbook.specs.Meaning.{are_right, stored_of};
-ghost use Rattle.sqlbook.specs.AsBook.{MakesAs};
-ghost use Rattle.sqlbook.specs.Suiting.{AreRedated};
+ghost use Rattle.sqlbook.specs.{Meaning.{are_right, stored_of}, AsBook.MakesAs, Suiting.AreRedated};
 ghost use Rattle.sqlbook.specs.inner.Suiting.{IsSetDown, IsSetOver};
 ghost use Rattle.sqlterms.specs.Terms.{days_of_rows};
 
 use crate::redating::redate;
-use calendar::Moment;
 use policy::{Schedule, Terms};
 use sqlderived::ends_are;
 use sqlite::Alter;
 use sqltables::RowStore;
 use states::BookFault;
 use std::alloc::Global;
-
-pub fn set_clock<S: Alter>(
-    store: &mut RowStore<S>,
-    alloc: Global,
-    moment: Moment,
-) -> Result<(), BookFault>
-    requires { store.old.is_open ≡ true }
-    ensures { MakesAs result stored_of are_right
-        (tables.clock_set moment (stored_of store.old.content)) store.old store.new }
-{
-    sqlterms::set_clock(store, alloc, moment)
-}
 
 /// Puts terms down. Under other days than those that were put down before, it is computed anew when the
 /// deleted domains are due. Domains without days are refused.
@@ -49,7 +33,8 @@ pub fn set_terms<S: Alter>(
     let before = sqlterms::days(store, alloc)?;
     let set = set_over(store, alloc, &before, &terms);
     drop(before);
-    set
+    set?;
+    Ok(())
 }
 
 /// The same, given which days were put down before.
@@ -63,10 +48,13 @@ fn set_over<S: Alter>(
     ensures { Changes result (λ old new. days_of_rows old ≡ before.now
         → IsSetOver before.now terms.now old new) store.old store.new }
 {
-    match before {
-        None => set_first(store, alloc, terms),
-        Some(before) => set_again(store, alloc, before, terms),
+    let Some(before) = before else {
+        return set_first(store, alloc, terms);
+    };
+    if before.is_same(&terms.days) {
+        return sqlterms::set_terms(store, alloc, terms);
     }
+    set_others(store, alloc, before, terms)
 }
 
 /// Puts terms down where no days are and no domains.
@@ -92,38 +80,6 @@ fn no_domains<S: Alter>(store: &mut RowStore<S>) -> Result<(), BookFault>
     } else {
         Err(BookFault::Store)
     }
-}
-
-/// Puts terms down where there are days.
-fn set_again<S: Alter>(
-    store: &mut RowStore<S>,
-    alloc: Global,
-    before: &Schedule,
-    terms: &Terms,
-) -> Result<(), BookFault>
-    requires { store.old.is_open ≡ true }
-    ensures { Changes result (λ old new. days_of_rows old ≡ Some before.now
-        → IsSetOver (Some before.now) terms.now old new) store.old store.new }
-{
-    if before.is_same(&terms.days) {
-        set_same(store, alloc, terms)
-    } else {
-        set_others(store, alloc, before, terms)
-    }
-}
-
-/// Puts terms down under the same days.
-fn set_same<S: Alter>(
-    store: &mut RowStore<S>,
-    alloc: Global,
-    terms: &Terms,
-) -> Result<(), BookFault>
-    requires { store.old.is_open ≡ true }
-    ensures { Changes result (λ old new. days_of_rows old ≡ Some terms.now.days
-        → IsSetDown terms.now old new) store.old store.new }
-{
-    sqlterms::set_terms(store, alloc, terms)?;
-    Ok(())
 }
 
 /// Puts terms down under other days. Before, each column of a deleted domain has to be its end by the days that

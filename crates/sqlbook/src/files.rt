@@ -2,9 +2,7 @@
 ghost use Rattle.std.specs.Prelude.{◌≡◌, true};
 ghost use Rattle.sqlite_wal.specs.Reads.{AreClean};
 ghost use Rattle.books.specs.Kept.{book_state};
-ghost use Rattle.sqlbook.specs.Meaning.{are_right, stored_of};
-ghost use Rattle.sqlbook.specs.Files.{IsLeftIn};
-ghost use Rattle.sqlbook.specs.AsBook.{as_book};
+ghost use Rattle.sqlbook.specs.{Meaning.{are_right, stored_of}, Files.IsLeftIn, AsBook.as_book};
 
 use crate::book::{SqlBook, into_connection};
 use crate::provenance::Provenance;

@@ -4,7 +4,6 @@
 mod book;
 mod changed_accounts;
 mod changed_domains;
-mod changed_objects;
 mod changed_terms;
 mod files;
 mod provenance;

@@ -1,19 +1,13 @@
 //! Questions to a book over rows that no crate below answers as a book asks them.
-ghost use Rattle.std.specs.Prelude.{◌≡◌, option_map};
+ghost use Rattle.std.specs.{Prelude.{◌≡◌, option_map}, FinMap.get};
 ghost use Rattle.books.specs.Lookups.{first_due};
-ghost use Rattle.std.specs.FinMap.{get};
 ghost use Rattle.facts.specs.Facts.{superordinate_of_domain};
 ghost use Rattle.sqlrows.specs.Meanings.{FindsIfRight};
-ghost use Rattle.model.specs.Registry.{account_of};
-ghost use Rattle.accounts.specs.Counters.{counters_of};
 ghost use Rattle.sqlderived.specs.Dues.{dues_are_right};
 ghost use Rattle.states.specs.States.{Finds};
-ghost use Rattle.sqlaccounts.specs.Accounts.{sums_are_right};
 ghost use Rattle.sqlbook.specs.Meaning.{registry_of};
 
-use accounts::Counters;
 use basis::list::Seq;
-use basis::registrar::RegistrarNo;
 use basis::text::Text;
 use calendar::Moment;
 use facts::Superordinate;
@@ -24,17 +18,6 @@ use sqlite::Alter;
 use sqltables::RowStore;
 use states::BookFault;
 use std::alloc::Global;
-
-/// What a registrar's account counts: 0 where it was never opened.
-pub fn counters<S: Alter>(
-    store: &mut RowStore<S>,
-    registrar: RegistrarNo,
-) -> Result<Counters, BookFault>
-    ensures { FindsIfRight result (sums_are_right store.old.content)
-        (counters_of (account_of registrar (registry_of store.old.content))) store.old store.new }
-{
-    sqlaccounts::counts(store, registrar)
-}
 
 /// Of a domain, what its hosts depend on.
 pub fn superordinate<S: Alter>(

@@ -1,13 +1,10 @@
 //! The records of a registry in the rows of a database.
 ghost use Rattle.std.specs.Prelude.{◌≡◌, true};
-ghost use Rattle.states.specs.States.{Closes, IsIdle};
-ghost use Rattle.sqlbook.specs.Meaning.{are_right};
-ghost use Rattle.sqlbook.specs.BetweenCalls.{UndoneIfFault, IsBetweenCalls};
+ghost use Rattle.states.specs.States.{IsIdle};
+ghost use Rattle.sqlbook.specs.{Meaning.are_right, BetweenCalls.{UndoneIfFault, IsBetweenCalls}};
 
 use crate::provenance::Provenance;
-use crate::{
-    changed_accounts, changed_domains, changed_objects, changed_terms, questions, renaming,
-};
+use crate::{changed_accounts, changed_domains, changed_terms, questions, renaming};
 use accounts::{Counters, Lines, Message};
 use basis::list::Seq;
 use basis::registrar::RegistrarNo;
@@ -41,17 +38,6 @@ impl<S: Alter, O: Provenance<S> + Drop> SqlRecords<S, O> {
     {
         self.store
     }
-}
-
-/// Goes back to where the transaction began, if one is open.
-fn rollback<S: Alter, O: Provenance<S>>(store: &mut RowStore<S>)
-    ensures closes { Closes store.old.before store.old store.new }
-    ensures idle { IsIdle store.new }
-    ensures clean { O.is_made ≡ true → store.new.is_clean ≡ true }
-{
-    store.back();
-    store.show_rest();
-    O::show_clean(store);
 }
 
 /// What a call on rows said. After a fault the transaction is undone.
@@ -93,7 +79,10 @@ impl<S: Alter, O: Provenance<S>> Records for SqlRecords<S, O> {
     }
 
     fn back(&mut self) {
-        rollback::<S, O>(&mut self.store);
+        let store = &mut self.store;
+        store.back();
+        store.show_rest();
+        O::show_clean(store);
     }
 
     fn ready(&mut self) -> Result<Ready, BookFault> {
@@ -112,7 +101,7 @@ impl<S: Alter, O: Provenance<S>> Records for SqlRecords<S, O> {
     }
 
     fn counters(&mut self, registrar: RegistrarNo) -> Result<Counters, BookFault> {
-        let said = questions::counters(&mut self.store, registrar);
+        let said = sqlaccounts::counts(&mut self.store, registrar);
         rollback_on_fault::<S, O, _>(&mut self.store, said)
     }
 
@@ -222,8 +211,9 @@ impl<S: Alter, O: Provenance<S>> Records for SqlRecords<S, O> {
         rollback_on_fault::<S, O, _>(&mut self.store, said)
     }
 
+    #[tactic(auto, using(crate::proofs::TermLemmas::clock_made))]
     fn set_clock(&mut self, moment: Moment) -> Result<(), BookFault> {
-        let said = changed_terms::set_clock(&mut self.store, self.alloc, moment);
+        let said = sqlterms::set_clock(&mut self.store, self.alloc, moment);
         rollback_on_fault::<S, O, _>(&mut self.store, said)
     }
 
@@ -237,13 +227,15 @@ impl<S: Alter, O: Provenance<S>> Records for SqlRecords<S, O> {
         rollback_on_fault::<S, O, _>(&mut self.store, said)
     }
 
+    #[tactic(auto, using(crate::proofs::ObjectLemmas::contact_made))]
     fn put_contact(&mut self, name: Text, contact: Contact) -> Result<(), BookFault> {
-        let said = changed_objects::put_contact(&mut self.store, self.alloc, name, contact);
+        let said = sqlobjects::put_contact(&mut self.store, self.alloc, name, contact);
         rollback_on_fault::<S, O, _>(&mut self.store, said)
     }
 
+    #[tactic(auto, using(crate::proofs::ObjectLemmas::contact_made))]
     fn drop_contact(&mut self, name: Text) -> Result<(), BookFault> {
-        let said = changed_objects::drop_contact(&mut self.store, self.alloc, name);
+        let said = sqlobjects::drop_contact(&mut self.store, self.alloc, name);
         rollback_on_fault::<S, O, _>(&mut self.store, said)
     }
 
@@ -265,13 +257,15 @@ impl<S: Alter, O: Provenance<S>> Records for SqlRecords<S, O> {
         rollback_on_fault::<S, O, _>(&mut self.store, said)
     }
 
+    #[tactic(auto, using(crate::proofs::ObjectLemmas::host_made))]
     fn put_host(&mut self, host: Host) -> Result<(), BookFault> {
-        let said = changed_objects::put_host(&mut self.store, self.alloc, host);
+        let said = sqlobjects::put_host(&mut self.store, self.alloc, host);
         rollback_on_fault::<S, O, _>(&mut self.store, said)
     }
 
+    #[tactic(auto, using(crate::proofs::ObjectLemmas::host_made))]
     fn drop_host(&mut self, name: Text) -> Result<(), BookFault> {
-        let said = changed_objects::drop_host(&mut self.store, self.alloc, name);
+        let said = sqlobjects::drop_host(&mut self.store, self.alloc, name);
         rollback_on_fault::<S, O, _>(&mut self.store, said)
     }
 

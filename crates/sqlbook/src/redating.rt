@@ -1,12 +1,10 @@
 //! When deleted domains are due, computed anew: rows that mean the same.
 ghost use Rattle.std.specs.Prelude.{◌≡◌, true};
 ghost use Rattle.sqlrows.specs.Meanings.{Changes};
-ghost use Rattle.sqlbook.specs.inner.Suiting.{MeansSame, end_of};
+ghost use Rattle.sqlbook.specs.inner.Suiting.{MeansSame};
 
 use crate::changed_domains::replace;
 use basis::text::Text;
-use calendar::Moment;
-use objects::Domain;
 use policy::Schedule;
 use sqlderived::{deleted_names, end_of_deletion};
 use sqlite::Alter;
@@ -59,22 +57,13 @@ fn redate_one<S: Alter>(
     let Some(domain) = sqldomains::domain(store, alloc, name)? else {
         return Err(BookFault::Store);
     };
-    let Some(due) = end_of(&domain, days) else {
+    let Some(deletion) = &domain.deletion else {
         return Err(BookFault::Store);
     };
+    let due = end_of_deletion(deletion, days);
     let same = Some(domain);
     let replaced = replace(store, alloc, None, name, &same, &same, due);
     drop(same);
     replaced?;
     Ok(())
-}
-
-/// When a domain is purged, if it is deleted.
-fn end_of(domain: &Domain, days: &Schedule) -> Option<Moment>
-    ensures { result ≡ end_of days.now domain.now }
-{
-    let Some(deletion) = &domain.deletion else {
-        return None;
-    };
-    Some(end_of_deletion(deletion, days))
 }

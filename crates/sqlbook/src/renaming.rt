@@ -2,10 +2,9 @@
 //! and no row of a domain is written, however many name the host.
 ghost use Rattle.std.specs.Prelude.{◌≡◌, true};
 ghost use Rattle.decisions.specs.Changes.{may_rename};
-ghost use Rattle.books.specs.Tables.{host_moved, host_renamed_if_there};
+ghost use Rattle.books.specs.Tables.{host_renamed_if_there};
 ghost use Rattle.states.specs.States.{Finds};
-ghost use Rattle.sqlbook.specs.Meaning.{are_right, stored_of};
-ghost use Rattle.sqlbook.specs.AsBook.{MakesAs};
+ghost use Rattle.sqlbook.specs.{Meaning.{are_right, stored_of}, AsBook.MakesAs};
 
 use basis::text::Text;
 use objects::Host;
@@ -29,7 +28,7 @@ pub(crate) fn rename_host<S: Alter>(
     if !may_rename(store, alloc, from, &host.name)? {
         return Ok(());
     }
-    rename_row(store, alloc, from, host)?;
+    sqlobjects::rename_row(store, alloc, from, host)?;
     Ok(())
 }
 
@@ -48,18 +47,4 @@ fn may_rename<S: Alter>(
     }
     let is_taken = sqlobjects::has_host(store, alloc, to)?;
     Ok(!is_taken)
-}
-
-/// The row of the host of this name becomes that of this host, and keeps its number.
-fn rename_row<S: Alter>(
-    store: &mut RowStore<S>,
-    alloc: Global,
-    from: &Text,
-    host: &Host,
-) -> Result<(), BookFault>
-    requires { store.old.is_open ≡ true }
-    ensures { MakesAs result stored_of are_right (host_moved from.now host.now
-        (stored_of store.old.content)) store.old store.new }
-{
-    sqlobjects::rename_row(store, alloc, from, host)
 }

@@ -26,14 +26,11 @@ abbrev pub due_with : Option Domain → ℕ → Option ℕ
 due_with None due = None
 due_with (Some domain) due = Some due
 
--- the registrars' domains are counted anew, and then the one is put in the place of the other
-pub record IsExchanged (name : List ℕ) (before after : Option Domain) (due : ℕ) (old new : Content) : Type 0 where
-  pub mid : Content
-  pub counted : IsRecounted before after old mid
-  pub put : IsDomainPut name after (due_with after due) mid new
-
--- the hosts below take their sponsor before
+-- the hosts below take their sponsor, the registrars' domains are counted anew, and then the one is put in the place
+-- of the other
 pub record IsReplaced (name : List ℕ) (before after : Option Domain) (due : ℕ) (old new : Content) : Type 0 where
   pub moved : Content
   pub followed : IsSponsorSetBelow name (sponsor_in after) old moved
-  pub exchanged : IsExchanged name before after due moved new
+  pub mid : Content
+  pub counted : IsRecounted before after moved mid
+  pub put : IsDomainPut name after (due_with after due) mid new

@@ -1,11 +1,6 @@
 -- Which days may be put down, and what is then.
-use Rattle.std.specs.Prelude.{◌≡◌, ◌⊎◌, ◌&&◌, ℕ, Bool, true, is_some, [], Option, Some, None, option_map}
+use Rattle.std.specs.Prelude.{◌≡◌, ◌⊎◌, ◌&&◌, Bool, [], Option, Some}
 use Rattle.std.specs.List.{list_all}
-use Rattle.calendar.specs.Moment.{capped}
-use Rattle.lifecycle.specs.Periods.{rules_with}
-use Rattle.lifecycle.specs.Phases.{purge_at}
-use Rattle.objects.specs.declared.domain.Deletion.{Deletion}
-use Rattle.objects.specs.declared.domain.Domain.{Domain}
 use Rattle.policy.specs.declared.schedule.Schedule.{Schedule}
 use Rattle.policy.specs.declared.terms.Terms.{Terms}
 use Rattle.books.specs.Book.{with_terms}
@@ -48,12 +43,3 @@ pub record IsSetDown (value : Terms) (old new : Content) : Type 0 where
 pub record IsSetOver (before : Option Schedule) (value : Terms) (old new : Content) : Type 0 where
   pub set : IsSetDown value old new
   pub ends : AreRedated before value.days new
-
--- when a domain is purged, or the last moment where that lies past it; none of one that isn't deleted
-abbrev pub end_of : Schedule → Domain → Option ℕ
-end_of days domain = option_map (λ (x : Deletion). capped (purge_at (rules_with days) x)) domain.deletion
-
--- there is a domain, and it is deleted
-abbrev pub IsDeletedDomain : Option Domain → Type 0
-IsDeletedDomain None = ⊥
-IsDeletedDomain (Some domain) = is_some domain.deletion ≡ true

@@ -1,6 +1,5 @@
 use Rattle.std.proofs.Common.{◌≡◌, true, subst}
-use Rattle.sqlbook.proofs.Words.{IsUnderDays, Reads, Schedule}
-use Rattle.sqlbook.proofs.ReplacingLemmas.{found-under}
+use Rattle.sqlbook.proofs.{Words.{IsUnderDays, Reads, Schedule}, ReplacingLemmas.found-under}
 use Rattle.sqlbook.proofs.changed_domains.found.Goals as goal
 
 pub returns : goal.returns

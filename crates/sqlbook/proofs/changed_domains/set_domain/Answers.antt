@@ -1,8 +1,6 @@
 use Rattle.std.proofs.Common.{◌≡◌, IfSome, Ok, Option, subst}
 use Rattle.sqlbook.proofs.Words.{are_right, asked-then, capped, Content, Domain, domain_set, due_at, HaveEnds, IsReplacedPosting, maybe_posted}
-use Rattle.sqlbook.proofs.Words.{rules_with, stored_of}
-use Rattle.sqlbook.proofs.AlteringLemmas.{alters}
-use Rattle.sqlbook.proofs.PostingLemmas.{put-posting}
+use Rattle.sqlbook.proofs.{Words.{rules_with, stored_of}, MeaningLemmas.alters, PostingLemmas.put-posting}
 use Rattle.sqlbook.proofs.changed_domains.set_domain.Goals as goal
 
 pub returns : goal.returns
@@ -21,4 +19,4 @@ returns g c =
     let all = asked-then (IsReplacedPosting name made before after due) way old c.found.new.store new asked.0 replaced
     (λ e it. put-posting name made days before after due old.content new.content (asked.1 (replaced.clean e)).0 (asked.1 (replaced.clean e)).1 it
     (λ d is. subst (λ (o : Option Domain). IfSome o (λ (x : Domain). due ≡ capped (due_at (rules_with days) x))) is c.due_of-due.ensures)) in
-    record { made = alters {A = Unit {0}} (Ok tt) way _ old new all (λ clean it. it.0); ends = λ clean. (all.content clean).1 }
+    record { made = alters {A = Unit {0}} (Ok tt) way _ old new all (λ it. it.0); ends = λ clean. (all.content clean).1 }

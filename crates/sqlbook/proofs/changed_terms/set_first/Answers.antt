@@ -1,6 +1,5 @@
 use Rattle.std.proofs.Common.{inr}
-use Rattle.sqlbook.proofs.Words.{asked-then, IsSetDown, IsTermsSet}
-use Rattle.sqlbook.proofs.TermLemmas.{set-down}
+use Rattle.sqlbook.proofs.{Words.{asked-then, IsSetDown, IsTermsSet}, TermLemmas.set-down}
 use Rattle.sqlbook.proofs.changed_terms.set_first.Goals as goal
 
 pub returns : goal.returns

@@ -1,18 +1,20 @@
-use Rattle.sqlbook.specs.inner.Suiting.{IsSetOver}
-use Rattle.sqlbook.proofs.AlteringLemmas.{alters}
-use Rattle.sqlbook.proofs.TermLemmas.{over-ends, over-lines, set-over}
+use Rattle.std.proofs.Common.{◌≡◌, Ok, Option, sym, subst}
+use Rattle.sqlbook.specs.Suiting.{AreRedated}
+use Rattle.sqlbook.proofs.{Words.{asked-then, Content, days_of_rows, IsSetOver, Schedule}, MeaningLemmas.alters}
 use Rattle.sqlbook.proofs.changed_terms.set_terms.Goals as goal
 
-pub returns-clause-held : goal.returns-clause-held
-returns-clause-held g c =
+pub returns : goal.returns
+returns g c =
+    let value = c.args.terms in
+    let before = c.in_ok-before.before in
     let old = c.args.store.now in
     let new = c.set_over-set.new.store in
-    let before = c.in_ok-before.before in
-    let r = c.set_over-set.result in
-    alters r (IsSetOver before c.args.terms) _ old new (set-over c.args.terms before old c.days.new.store new c.in_ok-before.ensures.found r c.set_over-set.ensures) (λ clean it. (it.set.stored, it.set.sums))
-
-pub returns-clause-lines : goal.returns-clause-lines
-returns-clause-lines g c = over-lines c.args.terms c.in_ok-before.before c.args.store.now c.days.new.store c.set_over-set.new.store c.in_ok-before.ensures.found c.set_over-set.result c.set_over-set.ensures
-
-pub returns-clause-ends : goal.returns-clause-ends
-returns-clause-ends g c = over-ends c.args.terms c.in_ok-before.before c.args.store.now c.days.new.store c.set_over-set.new.store c.in_ok-before.ensures.found c.set_over-set.result c.set_over-set.ensures
+    let asked = c.in_ok-before.ensures.found in
+    let made = c.in_ok-set.ensures {u = tt} in
+    let way = IsSetOver before value in
+    let set = asked-then (λ (a b : Content). days_of_rows a ≡ before → way a b) way old c.days.new.store new asked.0 made (λ t it. it (sym (asked.1 (made.clean t)))) in
+    record {
+      held = alters {A = Unit {0}} (Ok tt) way _ old new set (λ it. (it.set.stored, it.set.sums));
+      lines = λ t. (set.content t).set.lines;
+      ends = λ t. subst (λ (o : Option Schedule). AreRedated o value.days new.content) (asked.1 (made.clean t)) (set.content t).ends;
+    }

@@ -3,8 +3,7 @@ use Rattle.sqlite_trees.proofs.Doubt.{no_doubt}
 use Rattle.sqlite_trees.specs.View.{IsClean}
 use Rattle.sqlite_pool.proofs.StateLemmas.{clean_is, may_leave_is}
 use Rattle.sqlite_store.specs.FileStore.{recovers, view}
-use Rattle.sqlite_wal.specs.Files.{outcomes}
-use Rattle.sqlite_wal.specs.Reads.{AreClean}
+use Rattle.sqlite_wal.specs.{Files.outcomes, Reads.AreClean}
 use Rattle.sqltables.specs.Stored.{Covers}
 use Rattle.sqlbook.proofs.ReopeningLemmas.{file-reopened}
 use Rattle.sqlbook.proofs.files.into_files.Goals as goal

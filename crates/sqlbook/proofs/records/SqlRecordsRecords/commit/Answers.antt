@@ -1,6 +1,5 @@
 use Rattle.std.proofs.Common.{Result, sym, subst}
-use Rattle.sqlbook.proofs.Words.{are_right, as_book, BookFault, Ends, stored_of}
-use Rattle.sqlbook.proofs.SteadyLemmas.{ends-seen, steady-ended}
+use Rattle.sqlbook.proofs.{Words.{are_right, as_book, BookFault, Ends, stored_of}, SteadyLemmas.{ends-seen, steady-ended}}
 use Rattle.sqlbook.proofs.records.SqlRecordsRecords.commit.Goals as goal
 
 pub invariant_of-self : goal.invariant_of-self
