@@ -1,8 +1,6 @@
 -- To take an edit back is to go back.
 use Rattle.std.proofs.Common.{◌≡◌, ◌+◌, ◌-◌, ◌<◌, length, length-append, take, get_or, arith, List, [], ◌∷◌, ◌++◌, Option, Some, None, Result, Ok, Err, OnOk, OnErr, OnSome, refl, sym, ap, ◌∙◌}
-use Rattle.std.proofs.Math.Seq.{take-append_seam, take-length}
-use Rattle.std.proofs.lemmas.List.{take_more}
-use Rattle.std.proofs.lemmas.Option.{slice_get_within, slice_get-get_or}
+use Rattle.std.proofs.{Math.Seq.{take-append_seam, take-length}, lemmas.{List.take_more, Option.{slice_get_within, slice_get-get_or}}}
 use Rattle.std.specs.Result.{IfOk}
 use Rattle.mapbook.proofs.Words.{account_edited, Edit, edited, get, names_apart, nat_cmp, nat_cmp-IsAntisymmetric, nat_cmp_total, nat_list_cmp_total}
 use Rattle.mapbook.proofs.Words.{option_map, put-back, slice_cmp, slice_get, Stored, undone_all}

@@ -1,8 +1,7 @@
 -- What an edit leaves of records in ordered maps.
 use Rattle.std.proofs.Common.{◌≡◌, ℕ, [], Bool, true, refl, sym, ap, ◌∙◌, if◌then◌else◌}
-use Rattle.mapbook.proofs.Words.{account_opened, get, is_some, leaves-refl, readiness_if_used, Stored, Writes}
+use Rattle.mapbook.proofs.{Words.{account_opened, get, is_some, leaves-refl, readiness_if_used, Stored, Writes}, PostingLemmas.opened-same}
 use Rattle.books.specs.Records.{RecordsState}
-use Rattle.mapbook.proofs.PostingLemmas.{opened-same}
 
 -- in memory: what is in the maps, where going back leads, whether a transaction is open, and whether one was kept
 abbrev pub in_memory : Stored → Stored → Bool → Bool → RecordsState

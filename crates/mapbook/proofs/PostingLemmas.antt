@@ -4,13 +4,8 @@ use Rattle.mapbook.proofs.Words.{account_edited, account_of, account_opened, Acc
 use Rattle.mapbook.proofs.Words.{changed-if, changed_each, changed_there, eq_by_cmp_equiv, FinMap, get, get-remove, insert, Message, nat_cmp}
 use Rattle.mapbook.proofs.Words.{nat_cmp-IsAntisymmetric, nat_cmp_total, posted_to, put-back, put-put, put-same, put-there, slice_get, Stored}
 use Rattle.mapbook.proofs.Words.{swap_edits, swapped, swapped_all, unwrap_or, with_accounts, with_acked}
-use Rattle.accounts.specs.declared.account.Account.{Account}
-use Rattle.accounts.specs.declared.line.LineSwap.{LineSwap}
-use Rattle.accounts.specs.Account.{empty_account}
-use Rattle.accounts.specs.Entries.{with_lines}
-use Rattle.accounts.specs.MessageOrder.{message_eq_equiv}
-use Rattle.accounts.specs.Messages.{message_id}
-use Rattle.accounts.specs.Queue.{acked, dropped}
+use Rattle.accounts.specs.{declared.{account.Account.Account, line.LineSwap.LineSwap}, Account.empty_account, Entries.with_lines}
+use Rattle.accounts.specs.{MessageOrder.message_eq_equiv, Messages.message_id, Queue.{acked, dropped}}
 use Rattle.lifecycle.specs.declared.change.AccountChange.{AccountChange}
 use Rattle.policy.specs.Rules.{PolicyRules}
 use Rattle.books.specs.Ledgers.{changed_if_there, entry_set}

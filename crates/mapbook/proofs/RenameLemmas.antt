@@ -1,18 +1,14 @@
 -- To give a host its new name in the domains that name it, one after another, is to give it in all.
 use Rattle.std.proofs.Common.{◌≡◌, ℕ, Bool, true, false, cond, not, ◌&&◌, T, map, filter, List, [], ◌∷◌, Option, Some, None, refl, sym, ap, ◌∙◌}
-use Rattle.std.specs.declared.cmp.Ordering.{Ordering}
-use Rattle.std.specs.declared.cmp.Ordering.TheVariants.{Less, Equal, Greater}
-use Rattle.std.specs.FinMap.Entries.{below_all}
+use Rattle.std.specs.{declared.cmp.Ordering.{Ordering, TheVariants.{Less, Equal, Greater}}, FinMap.Entries.below_all}
 use Rattle.mapbook.proofs.Words.{add, amended_entry, at_begin, bytes_eq, content_of, Domain, domains_naming, edited, entries, entries_sorted}
 use Rattle.mapbook.proofs.Words.{eq_by_cmp, eq_by_cmp_equiv, Equal-is, find, FinMap, get, get-entries, get-insert, get-map_values, host_moved}
 use Rattle.mapbook.proofs.Words.{host_renamed_at, host_renamed_in, host_set, insert, is_lt, is_sorted, names_apart, nat_cmp, nat_list_cmp_total}
 use Rattle.mapbook.proofs.Words.{option_map, plain_records, precedes, same_map, slice_cmp, Stored, with_domains}
 use Rattle.basis.specs.Maps.{map_values}
-use Rattle.objects.specs.Links.{names_host}
+use Rattle.objects.specs.{Links.names_host, declared.host.Host.Host}
 use Rattle.decisions.specs.Changes.{may_rename, with_host_renamed}
-use Rattle.mapbook.specs.declared.plain.Plain.{Plain}
-use Rattle.mapbook.specs.Plain.{registry_in}
-use Rattle.objects.specs.declared.host.Host.{Host}
+use Rattle.mapbook.specs.{declared.plain.Plain.Plain, Plain.registry_in}
 use Rattle.mapbook.specs.declared.edit.Edit.TheVariants as edit
 
 -- ---- entries in order

@@ -1,6 +1,5 @@
 pub mod Contents
 pub mod Edits
 pub mod Plain
-pub mod Quiet
 pub mod inner
 pub mod Renaming

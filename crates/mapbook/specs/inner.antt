@@ -1,4 +1,3 @@
 -- Words for this crate's own functions, which no promise of the registry names.
 pub mod Edits
-pub mod Quiet
 pub mod Posting

@@ -3,10 +3,9 @@ ghost use Rattle.std.specs.Prelude.{◌≡◌, IfOk, IfSome, IsSomeAnd, OnOk, On
 ghost use Rattle.std.specs.Option.{option_copied};
 ghost use Rattle.books.specs.Ledgers.{changed_if_there, entry_set};
 ghost use Rattle.mapbook.specs.Edits as spec;
-ghost use Rattle.mapbook.specs.Edits.{edited};
+ghost use Rattle.mapbook.specs.{Edits.edited, Plain.content_of};
 ghost use Rattle.mapbook.specs.declared.edit.Edit.TheVariants as edits;
 ghost use Rattle.mapbook.specs.inner.Edits as inner_spec;
-ghost use Rattle.mapbook.specs.Plain.{content_of};
 
 use crate::account_edit::AccountEdit;
 use crate::content::Content;

@@ -4,8 +4,7 @@ ghost use Rattle.std.specs.FinMap as finmap;
 ghost use Rattle.facts.specs.Facts as facts;
 ghost use Rattle.decisions.specs.Changes as changes;
 ghost use Rattle.model.specs.Zone as zone;
-ghost use Rattle.mapbook.specs.Plain.{registry_in};
-ghost use Rattle.mapbook.specs.Renaming.{domains_naming};
+ghost use Rattle.mapbook.specs.{Plain.registry_in, Renaming.domains_naming};
 
 use crate::renamed::with_host_renamed;
 use accounts::Account;

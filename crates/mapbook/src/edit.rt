@@ -1,6 +1,5 @@
 //! Values at keys.
-ghost use Rattle.std.specs.Prelude.{◌≡◌, IfOk, OnErr, OnOk};
-ghost use Rattle.std.specs.Option.{option_copied};
+ghost use Rattle.std.specs.{Prelude.{◌≡◌, IfOk, OnErr, OnOk}, Option.option_copied};
 ghost use Rattle.books.specs.Ledgers.{entry_set};
 ghost use Rattle.mapbook.specs.declared.edit.Edit.TheVariants as edits;
 

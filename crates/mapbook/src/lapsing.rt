@@ -1,16 +1,11 @@
 //! What of a registry in ordered maps is due.
-ghost use Rattle.std.specs.Prelude.{◌≡◌, Some, option_map, IfOk, OnOk};
-ghost use Rattle.std.specs.FinMap.{entries};
+ghost use Rattle.std.specs.{Prelude.{◌≡◌, IfOk, OnOk}, FinMap.entries};
 ghost use Rattle.books.specs.Lookups.{up_to};
 ghost use Rattle.lifecycle.specs.DueObjects as spec;
 ghost use Rattle.model.specs.DueBy.{due_by};
-ghost use Rattle.mapbook.specs.Quiet.{NoneBefore};
-ghost use Rattle.mapbook.specs.inner.Quiet.{quiet_after, sooner_with, until_contacts, until_domains};
 ghost use Rattle.mapbook.specs.Plain.{registry_in};
 
 use crate::content::Content;
-use crate::edit::Edit;
-use crate::quiet::sooner;
 use basis::list::Seq;
 use basis::text::Text;
 use calendar::Moment;
@@ -30,33 +25,6 @@ impl Content {
         self.find_contacts(moment, &mut found)?;
         self.find_domains(moment, policy, &mut found)?;
         listed(self.alloc, found)
-    }
-
-    /// Until when nothing is due. Each contact and each domain is looked at.
-    pub fn quiet_from(&self, policy: &Policy) -> Moment
-        ensures { NoneBefore policy.now result (registry_in self.now) }
-    {
-        self.domains_from(self.contacts_from(last_moment()), policy)
-    }
-
-    fn contacts_from(&self, until: Moment) -> Moment
-        ensures { result ≡ until_contacts until (entries self.now.contacts) }
-    {
-        let mut until = until;
-        for (_, contact) in self.contacts.iter() {
-            until = contact_due_by(contact, until).unwrap_or(until);
-        }
-        until
-    }
-
-    fn domains_from(&self, until: Moment, policy: &Policy) -> Moment
-        ensures { result ≡ until_domains policy.now until (entries self.now.domains) }
-    {
-        let mut until = until;
-        for (_, domain) in self.domains.iter() {
-            until = due_by(domain, until, policy).unwrap_or(until);
-        }
-        until
     }
 
     fn find_contacts(&self, moment: Moment, found: &mut BTreeSet<Due>) -> Result<(), AllocError>
@@ -82,33 +50,6 @@ impl Content {
             put_due(found, domain_due(name, domain, moment, policy)?)?;
         }
         Ok(())
-    }
-}
-
-/// A moment after all that a lapse reads.
-fn last_moment() -> Moment {
-    Moment::first().plus_years_capped(u32::MAX)
-}
-
-/// Until when nothing is due after an edit, where that is known. When a domain is due depends on the
-/// policy, so one that is put makes it unknown, and so do other terms.
-pub(crate) fn quiet_after(quiet: Option<Moment>, edit: &Edit) -> Option<Moment>
-    ensures { result ≡ quiet_after quiet edit.now }
-{
-    match edit {
-        Edit::Contact(_, Some(contact)) => quiet_with(quiet, contact),
-        Edit::Domain(_, Some(_)) | Edit::Terms(_) => None,
-        _ => quiet,
-    }
-}
-
-/// The same where a contact is put.
-fn quiet_with(quiet: Option<Moment>, contact: &Contact) -> Option<Moment>
-    ensures { result ≡ option_map (sooner_with contact.now) quiet }
-{
-    match quiet {
-        None => None,
-        Some(until) => Some(sooner(until, contact_due_by(contact, until))),
     }
 }
 

@@ -1,11 +1,9 @@
 //! What of the accounts in ordered maps is asked.
 ghost use Rattle.std.specs.Prelude.{◌≡◌, [], length, slice_get, IfOk, is_some, unwrap_or};
+ghost use Rattle.std.specs.{List.filter, Option.option_copied};
 ghost use Rattle.std.specs.FinMap as map;
-ghost use Rattle.std.specs.List.{filter};
-ghost use Rattle.std.specs.Option.{option_copied};
-ghost use Rattle.accounts.specs.Counters.{counters_of};
+ghost use Rattle.accounts.specs.{Counters.counters_of, Lines.in_order};
 ghost use Rattle.accounts.specs.Lines as lines;
-ghost use Rattle.accounts.specs.Lines.{in_order};
 ghost use Rattle.basis.specs.Bag.{bag_of};
 ghost use Rattle.mapbook.specs.Plain.{registry_in};
 ghost use Rattle.model.specs.Registry.{account_of};

@@ -13,7 +13,6 @@ mod lapsing;
 mod ledgers;
 mod plain;
 mod posting;
-mod quiet;
 mod records;
 mod renamed;
 mod renaming;

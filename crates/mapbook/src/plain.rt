@@ -1,13 +1,10 @@
 //! A book in ordered maps.
 ghost use Rattle.std.specs.Prelude.{◌≡◌};
-ghost use Rattle.mapbook.specs.Contents.{content_of};
-ghost use Rattle.mapbook.specs.Quiet.{IsQuiet};
 
 use crate::content::Content;
 use crate::edit::Edit;
 use basis::list::Seq;
 use books::{Book, Kept};
-use calendar::Moment;
 
 /// A book in ordered maps.
 pub type PlainBook = Kept<Plain>;
@@ -29,8 +26,4 @@ pub struct Plain {
     pub(crate) is_open: bool,
     /// Whether a transaction was ever kept: there is a book from then on.
     pub(crate) is_used: bool,
-    /// Until when nothing is due under the lengths of periods that the book was opened under, where
-    /// that is known.
-    pub(crate) quiet: Option<Moment>,
-    ghost quiet_is: { IsQuiet quiet (content_of content) },
 }

@@ -1,16 +1,12 @@
 //! How an account in ordered maps is changed: each change as edits of what is in it.
-ghost use Rattle.std.specs.Prelude.{◌≡◌, ◌∷◌, [], true, IfOk};
-ghost use Rattle.std.specs.Option.{option_copied};
-ghost use Rattle.accounts.specs.Entries.{entered, with_lines};
-ghost use Rattle.accounts.specs.Lines.{in_order};
+ghost use Rattle.std.specs.{Prelude.{◌≡◌, ◌∷◌, [], true, IfOk}, Option.option_copied};
+ghost use Rattle.accounts.specs.{Entries.{entered, with_lines}, Lines.in_order};
 ghost use Rattle.basis.specs.Bag.{remade};
-ghost use Rattle.books.specs.Ledgers.{changed_if_there};
-ghost use Rattle.books.specs.Tables.{maybe_posted, posted_all};
+ghost use Rattle.books.specs.{Ledgers.changed_if_there, Tables.{maybe_posted, posted_all}};
 ghost use Rattle.lifecycle.specs.Changes.{changed, notified, with_acked};
-ghost use Rattle.mapbook.specs.Edits.{account_edited, all_edited};
-ghost use Rattle.mapbook.specs.Plain.{plain_records};
-ghost use Rattle.mapbook.specs.inner.Posting as spec;
+ghost use Rattle.mapbook.specs.{Edits.{account_edited, all_edited}, Plain.plain_records};
 ghost use Rattle.mapbook.specs.inner.Posting.{changed_there};
+ghost use Rattle.mapbook.specs.inner.Posting as spec;
 ghost use Rattle.states.specs.States.{Makes};
 
 use crate::account_edit::AccountEdit;

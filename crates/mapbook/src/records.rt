@@ -201,10 +201,7 @@ impl Records for Plain {
         policy: &Policy,
     ) -> Result<(), BookFault> {
         self.post_if_any(posts, policy)?;
-        match domain {
-            None => self.set(Edit::Domain(name, None)),
-            Some(domain) => self.put_domain(name, domain, policy),
-        }
+        self.set(Edit::Domain(name, domain))
     }
 
     fn put_host(&mut self, host: Host) -> Result<(), BookFault> {
@@ -215,8 +212,8 @@ impl Records for Plain {
         self.set(Edit::Host(name, None))
     }
 
-    fn rename_host(&mut self, from: Text, host: Host, policy: &Policy) -> Result<(), BookFault> {
-        self.rename(from, host, policy)
+    fn rename_host(&mut self, from: Text, host: Host, _policy: &Policy) -> Result<(), BookFault> {
+        self.rename(from, host)
     }
 
     fn begin(&mut self) -> Result<(), BookFault> {

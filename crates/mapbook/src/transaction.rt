@@ -1,27 +1,19 @@
 //! How records in ordered maps are changed, and each change taken back.
-ghost use Rattle.std.specs.Prelude.{◌≡◌, true, ◌<◌, ℕ, List, [], length, OnOk, OnErr, Some};
-ghost use Rattle.books.specs.Book.{unused};
-ghost use Rattle.mapbook.specs.Contents.{registry_in};
-ghost use Rattle.model.specs.DueBy.{due_by};
+ghost use Rattle.std.specs.Prelude.{◌≡◌, true, ◌<◌, [], length, OnOk, OnErr};
+ghost use Rattle.books.specs.{Book.unused, Records.FindsIn};
 ghost use Rattle.mapbook.specs.Edits.{edited, undone_all};
 ghost use Rattle.mapbook.specs.Plain.{IsPlainSettled, LatestUndoes, content_of, at_begin, plain_records, plain_state, without_latest};
-ghost use Rattle.mapbook.specs.Quiet.{IsQuiet};
+ghost use Rattle.model.specs.DueBy.{due_by};
 ghost use Rattle.states.specs.States.{Makes, Stays};
-ghost use Rattle.books.specs.Records.{FindsIn};
-ghost use Rattle.books.specs.Tables.{domain_set};
 
 use crate::content::Content;
 use crate::edit::Edit;
-use crate::lapsing::quiet_after;
 use crate::plain::{Plain, PlainBook};
-use crate::quiet::{covers, has_days_of, sooner};
 use basis::list::Seq;
 use basis::maps::{NameMap, RegistrarMap};
-use basis::text::Text;
 use books::Kept;
 use calendar::Moment;
-use lifecycle::{Due, due_by};
-use objects::Domain;
+use lifecycle::Due;
 use policy::Policy;
 use states::BookFault;
 use std::alloc::{AllocError, Global};
@@ -43,7 +35,6 @@ pub fn new_book(alloc: Global) -> PlainBook
         undo: Seq::new(alloc),
         is_open: false,
         is_used: false,
-        quiet: None,
     })
 }
 
@@ -73,7 +64,6 @@ impl Plain {
     {
         if let Some(latest) = self.undo.as_slice().last() {
             let copy = latest.copy()?;
-            self.quiet = None;
             self.content.set(copy)?;
             self.undo.drop_last();
         }
@@ -104,7 +94,6 @@ impl Plain {
         ensures err { OnErr result (at_begin self.new ≡ undone_all (without_latest self.old.undo)
             (content_of self.old.content)) }
     {
-        self.quiet = None;
         match self.content.set(edit) {
             Ok(()) => Ok(()),
             Err(error) => {
@@ -147,53 +136,14 @@ impl Plain {
         Ok(())
     }
 
-    /// Makes an edit in the open transaction, after which it is known until when nothing is due.
-    fn set_until(&mut self, edit: Edit, quiet: Option<Moment>) -> Result<(), BookFault>
-        requires open { self.old.is_open ≡ true }
-        requires quiet { IsQuiet quiet (edited edit (content_of self.old.content)) }
-        ensures { Makes result (edited edit (plain_records self.old).content)
-            (plain_records self.old) (plain_records self.new) }
-    {
-        self.make(edit)?;
-        self.quiet = quiet;
-        Ok(())
-    }
-
     /// Makes an edit in the open transaction.
     pub(crate) fn set(&mut self, edit: Edit) -> Result<(), BookFault>
         requires { self.old.is_open ≡ true }
         ensures { Makes result (edited edit (plain_records self.old).content)
             (plain_records self.old) (plain_records self.new) }
     {
-        let quiet = quiet_after(self.quiet, &edit);
-        self.set_until(edit, quiet)
-    }
-
-    /// Puts a domain in the open transaction.
-    pub(crate) fn put_domain(
-        &mut self,
-        name: Text,
-        domain: Domain,
-        policy: &Policy,
-    ) -> Result<(), BookFault>
-        requires { self.old.is_open ≡ true }
-        ensures { Makes result (domain_set name (Some domain) (plain_records self.old).content)
-            (plain_records self.old) (plain_records self.new) }
-    {
-        let quiet = self.quiet_put(&domain, policy);
-        self.set_until(Edit::Domain(name, Some(domain)), quiet)
-    }
-
-    /// Until when nothing is due once a domain is put, where that is known.
-    fn quiet_put(&self, domain: &Domain, policy: &Policy) -> Option<Moment>
-        ensures { (name : List ℕ)
-            → IsQuiet result (domain_set name (Some domain.now) (content_of self.now.content)) }
-    {
-        let until = self.quiet?;
-        if !has_days_of(&self.content.terms, policy) {
-            return None;
-        }
-        Some(sooner(until, due_by(domain, until, policy)))
+        self.make(edit)?;
+        Ok(())
     }
 
     /// All that is due by a moment, in the order in which it lapses.
@@ -202,32 +152,6 @@ impl Plain {
             (plain_records self.old) (plain_records self.new) }
     {
         self.settle()?;
-        if self.is_quiet(moment, policy) {
-            return Ok(Seq::new(self.content.alloc));
-        }
-        self.learn_quiet(policy);
         Ok(self.content.due_by(moment, policy)?)
-    }
-
-    /// Learns until when nothing is due under a policy, where that is one that the book was opened under.
-    pub(crate) fn learn_quiet(&mut self, policy: &Policy)
-        ensures same { plain_records self.new ≡ plain_records self.old }
-        ensures content { content_of self.new.content ≡ content_of self.old.content }
-    {
-        if !has_days_of(&self.content.terms, policy) {
-            return;
-        }
-        let until = self.content.quiet_from(policy);
-        self.quiet = Some(until);
-    }
-
-    /// Whether nothing is known to be due by a moment.
-    pub(crate) fn is_quiet(&self, moment: Moment, policy: &Policy) -> bool
-        ensures { result ≡ true → due_by policy.now moment (registry_in self.now.content) ≡ [] }
-    {
-        match self.quiet {
-            None => false,
-            Some(until) => covers(until, &self.content.terms, moment, policy),
-        }
     }
 }

@@ -1,6 +1,5 @@
 use Rattle.std.proofs.Common.{◌≡◌, sym, ap, ◌∙◌}
-use Rattle.mapbook.proofs.Words.{account_edited, changed-if, insert, put-same}
-use Rattle.mapbook.proofs.EditLemmas.{on-err, on-ok, where-found}
+use Rattle.mapbook.proofs.{Words.{account_edited, changed-if, insert, put-same}, EditLemmas.{on-err, on-ok, where-found}}
 use Rattle.mapbook.proofs.PostingLemmas.{nothing-changed}
 use Rattle.mapbook.proofs.changing.edit_at.Goals as goal
 

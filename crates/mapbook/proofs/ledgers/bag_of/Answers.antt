@@ -1,5 +1,4 @@
-use Rattle.std.proofs.Common.{◌≡◌, ◌∙◌, ◌∷◌, ◌++◌, ◌+◌, [], ap, sym, take}
-use Rattle.std.proofs.lemmas.List.{take_more}
+use Rattle.std.proofs.{Common.{◌≡◌, ◌∙◌, ◌∷◌, ◌++◌, ◌+◌, [], ap, sym, take}, lemmas.List.take_more}
 use Rattle.mapbook.proofs.Words.{add, in_order, Line}
 use Rattle.accounts.proofs.LineLaws.{lines_in_order}
 use Rattle.basis.specs.Bag.{bag_of}

@@ -1,7 +1,5 @@
 use Rattle.std.proofs.Common.{List, Option, ap, refl, ◌∙◌}
-use Rattle.mapbook.proofs.Words.{AccountEdit, ack_edits, all_edited, Message}
-use Rattle.mapbook.proofs.EditLemmas.{if-ok}
-use Rattle.mapbook.proofs.PostingLemmas.{ack-made}
+use Rattle.mapbook.proofs.{Words.{AccountEdit, ack_edits, all_edited, Message}, EditLemmas.if-ok, PostingLemmas.ack-made}
 use Rattle.mapbook.proofs.posting.acknowledged.Goals as goal
 
 pub returns : goal.returns

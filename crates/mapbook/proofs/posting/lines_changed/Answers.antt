@@ -1,7 +1,5 @@
 use Rattle.std.proofs.Common.{List, ap, ◌∙◌}
-use Rattle.mapbook.proofs.Words.{AccountEdit, all_edited, Line}
-use Rattle.mapbook.proofs.EditLemmas.{if-ok}
-use Rattle.mapbook.proofs.PostingLemmas.{swaps-made}
+use Rattle.mapbook.proofs.{Words.{AccountEdit, all_edited, Line}, EditLemmas.if-ok, PostingLemmas.swaps-made}
 use Rattle.mapbook.proofs.posting.lines_changed.Goals as goal
 
 pub returns : goal.returns

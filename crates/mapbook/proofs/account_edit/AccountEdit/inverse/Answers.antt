@@ -1,9 +1,7 @@
 use Rattle.std.proofs.Common.{List, sym, ap, ◌∙◌}
 use Rattle.mapbook.proofs.Words.{account_edited, AccountEdit, in_order, Line, Message, taken}
-use Rattle.accounts.specs.Entries.{with_lines, with_queue}
-use Rattle.accounts.specs.Queue.{dropped}
-use Rattle.accounts.proofs.LineLaws.{lines_in_order}
-use Rattle.accounts.proofs.QueueLaws.{dropped-put}
+use Rattle.accounts.specs.{Entries.{with_lines, with_queue}, Queue.dropped}
+use Rattle.accounts.proofs.{LineLaws.lines_in_order, QueueLaws.dropped-put}
 use Rattle.basis.proofs.BagLaws.{taken-add}
 use Rattle.mapbook.proofs.account_edit.AccountEdit.inverse.Goals as goal
 

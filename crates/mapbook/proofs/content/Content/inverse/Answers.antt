@@ -1,6 +1,5 @@
 use Rattle.std.proofs.Common.{◌∙◌, ap}
-use Rattle.mapbook.proofs.Words.{content_of, Edit, edited}
-use Rattle.mapbook.proofs.EditLemmas.{edited-back, if-ok}
+use Rattle.mapbook.proofs.{Words.{content_of, Edit, edited}, EditLemmas.{edited-back, if-ok}}
 use Rattle.mapbook.proofs.content.Content.inverse.Goals as goal
 
 pub returns-in_default : goal.returns-in_default

@@ -1,10 +1,9 @@
 use Rattle.std.proofs.Common.{Option, IfSome, IsSomeAnd, subst, ap, ◌≡◌, ◌∙◌}
 use Rattle.std.specs.Option.{option_copied}
-use Rattle.mapbook.proofs.Words.{account_edited, AccountEdit, content_of, Edit, edited, FinMap, nat_cmp}
+use Rattle.mapbook.proofs.{Words.{account_edited, AccountEdit, content_of, Edit, edited, FinMap, nat_cmp}, EditLemmas.{edited-back, if-ok}}
+use Rattle.mapbook.proofs.PostingLemmas.{back-there}
 use Rattle.accounts.specs.declared.account.Account.{Account}
 use Rattle.mapbook.specs.declared.edit.Edit.TheVariants as edits
-use Rattle.mapbook.proofs.EditLemmas.{edited-back, if-ok}
-use Rattle.mapbook.proofs.PostingLemmas.{back-there}
 use Rattle.mapbook.proofs.content.Content.inverse_within.Goals as goal
 
 pub returns-in-None : goal.returns-in-None

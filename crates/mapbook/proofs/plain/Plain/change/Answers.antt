@@ -1,7 +1,6 @@
 use Rattle.std.proofs.Common.{◌≡◌, Bool, cond, sym, subst}
-use Rattle.mapbook.proofs.Words.{all_edited, at_begin, changed, content_of, Makes, plain_records, Stored}
+use Rattle.mapbook.proofs.{Words.{all_edited, at_begin, changed, content_of, Makes, plain_records, Stored}, PostingLemmas.edits-made}
 use Rattle.books.specs.Ledgers.{changed_if_there}
-use Rattle.mapbook.proofs.PostingLemmas.{edits-made}
 use Rattle.mapbook.proofs.plain.Plain.change.Goals as goal
 
 pub returns : goal.returns

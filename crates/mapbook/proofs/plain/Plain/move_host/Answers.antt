@@ -1,8 +1,7 @@
 use Rattle.std.proofs.Common.{◌∙◌, Some, None, ap}
-use Rattle.mapbook.proofs.Words.{edited, host_moved, host_set, leaves-on, plain_records}
+use Rattle.mapbook.proofs.{Words.{edited, host_moved, host_set, leaves-on, plain_records}, RenameLemmas.{moved, naming-open}}
 use Rattle.states.proofs.CallLemmas.{makes-on}
 use Rattle.mapbook.specs.declared.edit.Edit.TheVariants as edit
-use Rattle.mapbook.proofs.RenameLemmas.{moved, naming-open}
 use Rattle.mapbook.proofs.plain.Plain.move_host.Goals as goal
 
 pub returns : goal.returns

@@ -1,7 +1,6 @@
 use Rattle.std.proofs.Common.{ap, ◌∙◌}
-use Rattle.mapbook.proofs.Words.{changed, changed_each, plain_records, posted_all}
+use Rattle.mapbook.proofs.{Words.{changed, changed_each, plain_records, posted_all}, PostingLemmas.posts-made}
 use Rattle.states.proofs.CallLemmas.{makes-on}
-use Rattle.mapbook.proofs.PostingLemmas.{posts-made}
 use Rattle.mapbook.proofs.plain.Plain.post_all.Goals as goal
 
 pub returns : goal.returns

@@ -1,7 +1,6 @@
 use Rattle.std.proofs.Common.{◌∙◌, refl, subst, sym}
-use Rattle.mapbook.proofs.Words.{leaves-refl, Makes, plain_records, Stored}
+use Rattle.mapbook.proofs.{Words.{leaves-refl, Makes, plain_records, Stored}, RenameLemmas.held-open}
 use Rattle.books.proofs.RenameLemmas.{renamed-nowhere, renamed-there}
-use Rattle.mapbook.proofs.RenameLemmas.{held-open}
 use Rattle.mapbook.proofs.plain.Plain.rename.Goals as goal
 
 pub returns : goal.returns

@@ -1,6 +1,5 @@
 use Rattle.std.proofs.Common.{◌≡◌, ◌-◌, length, ap, sym, ◌∙◌, List, Some}
-use Rattle.mapbook.proofs.Words.{content_of, Edit, edited, slice_get, undone_all}
-use Rattle.mapbook.proofs.EditLemmas.{undone_all-latest}
+use Rattle.mapbook.proofs.{Words.{content_of, Edit, edited, slice_get, undone_all}, EditLemmas.undone_all-latest}
 use Rattle.mapbook.proofs.plain.Plain.undo_latest.Goals as goal
 
 pub returns-in_ok-set-clause-at_begin : goal.returns-in_ok-set-clause-at_begin
