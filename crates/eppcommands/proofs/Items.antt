@@ -1,15 +1,8 @@
 -- An array's items, as a chain over its values sees them.
 use Rattle.std.proofs.Common.{◌≡◌, Bool, List, [], ◌∷◌, map, Option, Some, None, option_map, Ok, refl, sym, ap, ◌∙◌}
-use Rattle.std.specs.Option.{ok_or}
-use Rattle.std.specs.Result.{result_map_both}
-use Rattle.std.specs.Prelude.{◌||◌}
-use Rattle.std.specs.List.{list_any}
-use Rattle.serde_json.specs.Data.{Data, Items}
-use Rattle.serde_json.specs.Find.{as_array}
-use Rattle.serde_json.specs.View.{view, items_view}
-use Rattle.serde_json.specs.declared.value.Value.{Value}
-use Rattle.protocol.specs.declared.form.FormFault.{FormFault}
-use Rattle.protocol.specs.declared.form.FormFault.TheVariants.{SyntaxError}
+use Rattle.std.specs.{Option.ok_or, Result.result_map_both, Prelude.◌||◌, List.list_any}
+use Rattle.serde_json.specs.{Data.{Data, Items}, Find.as_array, View.{view, items_view}, declared.value.Value.Value}
+use Rattle.protocol.specs.declared.form.FormFault.{FormFault, TheVariants.SyntaxError}
 use Rattle.eppforms.specs.Kind.{items_list}
 use Rattle.eppforms.proofs.Items.{items_list-items_view}
 use Rattle.eppcommands.specs.Reading.{items_in}

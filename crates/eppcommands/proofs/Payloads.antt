@@ -1,12 +1,9 @@
 -- A payload that reads as JSON, and one that doesn't.
 use Rattle.std.proofs.Common.{◌≡◌, ℕ, Bool, true, false, cond, Some, None, List, refl, ap, ◌∙◌}
-use Rattle.std.specs.Prelude.{IsUtf8, option_and_then}
-use Rattle.std.specs.Str.{is_utf8}
 use Rattle.std.proofs.lemmas.Str.{IsUtf8-from_is_utf8, is_utf8-from_IsUtf8}
-use Rattle.serde_json.specs.Data.{Data}
-use Rattle.serde_json.specs.Read.{read}
-use Rattle.eppcommands.specs.Command.{payload_value}
-use Rattle.eppcommands.specs.Order.{order_in, order_of_data}
+use Rattle.std.specs.{Prelude.{IsUtf8, option_and_then}, Str.is_utf8}
+use Rattle.serde_json.specs.{Data.Data, Read.read}
+use Rattle.eppcommands.specs.{Command.payload_value, Order.{order_in, order_of_data}}
 
 pub well_read : (payload : List ℕ) (d : Data) → IsUtf8 payload → read payload ≡ Some d → payload_value payload ≡ Some d
 well_read payload d text found = ap (λ (b : Bool). cond b (read payload) None) (is_utf8-from_IsUtf8 payload text) ∙ found

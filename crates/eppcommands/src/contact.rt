@@ -3,7 +3,8 @@ ghost use Rattle.serde_json.specs.View.{view};
 ghost use Rattle.eppcommands.specs.Reading.{Gives};
 ghost use Rattle.eppcommands.specs.Contact as spec;
 
-use crate::reading::{CommandFault, maybe_text_at, statuses_at, text_at, texts_at};
+use crate::reading::{CommandFault, list_at, maybe_at, required_at};
+use crate::values::{StatusIn, TextIn};
 use eppforms::Section::{self, Add, Chg, ChgPostal, Rem, Top};
 use eppforms::{Member, part};
 use objects::{ObjectKind, Postal};
@@ -15,7 +16,7 @@ use std::alloc::Global;
 pub fn check_contact(alloc: Global, value: &Value) -> Result<Request, CommandFault>
     ensures { Gives result (spec.check_contact (view value.now)) }
 {
-    let names = texts_at(alloc, Top, Member::Names, value)?;
+    let names = list_at(alloc, &TextIn, Top, Member::Names, value)?;
     Ok(Request::CheckContact { names })
 }
 
@@ -23,8 +24,8 @@ pub fn check_contact(alloc: Global, value: &Value) -> Result<Request, CommandFau
 pub fn info_contact(alloc: Global, value: &Value) -> Result<Request, CommandFault>
     ensures { Gives result (spec.info_contact (view value.now)) }
 {
-    let name = text_at(alloc, Top, Member::Name, value)?;
-    let secret = maybe_text_at(alloc, Top, Member::Secret, value)?;
+    let name = required_at(alloc, &TextIn, Top, Member::Name, value)?;
+    let secret = maybe_at(alloc, &TextIn, Top, Member::Secret, value)?;
     Ok(Request::InfoContact { name, secret })
 }
 
@@ -32,10 +33,10 @@ pub fn info_contact(alloc: Global, value: &Value) -> Result<Request, CommandFaul
 pub fn create_contact(alloc: Global, value: &Value) -> Result<Request, CommandFault>
     ensures { Gives result (spec.create_contact (view value.now)) }
 {
-    let name = text_at(alloc, Top, Member::Name, value)?;
-    let voice = maybe_text_at(alloc, Top, Member::Voice, value)?;
-    let mail = text_at(alloc, Top, Member::Mail, value)?;
-    let secret = text_at(alloc, Top, Member::Secret, value)?;
+    let name = required_at(alloc, &TextIn, Top, Member::Name, value)?;
+    let voice = maybe_at(alloc, &TextIn, Top, Member::Voice, value)?;
+    let mail = required_at(alloc, &TextIn, Top, Member::Mail, value)?;
+    let secret = required_at(alloc, &TextIn, Top, Member::Secret, value)?;
     let postal = postal_at(alloc, Section::Postal, value)?;
     Ok(Request::CreateContact(NewContact {
         name,
@@ -50,7 +51,7 @@ pub fn create_contact(alloc: Global, value: &Value) -> Result<Request, CommandFa
 pub fn delete_contact(alloc: Global, value: &Value) -> Result<Request, CommandFault>
     ensures { Gives result (spec.delete_contact (view value.now)) }
 {
-    let name = text_at(alloc, Top, Member::Name, value)?;
+    let name = required_at(alloc, &TextIn, Top, Member::Name, value)?;
     Ok(Request::DeleteContact { name })
 }
 
@@ -58,13 +59,13 @@ pub fn delete_contact(alloc: Global, value: &Value) -> Result<Request, CommandFa
 pub fn update_contact(alloc: Global, value: &Value) -> Result<Request, CommandFault>
     ensures { Gives result (spec.update_contact (view value.now)) }
 {
-    let name = text_at(alloc, Top, Member::Name, value)?;
+    let name = required_at(alloc, &TextIn, Top, Member::Name, value)?;
     let kind = ObjectKind::Contact;
-    let voice = maybe_text_at(alloc, Chg, Member::Voice, value)?;
-    let mail = maybe_text_at(alloc, Chg, Member::Mail, value)?;
-    let secret = maybe_text_at(alloc, Chg, Member::Secret, value)?;
-    let add = statuses_at(alloc, kind, Add, Member::Statuses, value)?;
-    let rem = statuses_at(alloc, kind, Rem, Member::Statuses, value)?;
+    let voice = maybe_at(alloc, &TextIn, Chg, Member::Voice, value)?;
+    let mail = maybe_at(alloc, &TextIn, Chg, Member::Mail, value)?;
+    let secret = maybe_at(alloc, &TextIn, Chg, Member::Secret, value)?;
+    let add = list_at(alloc, &StatusIn { kind }, Add, Member::Statuses, value)?;
+    let rem = list_at(alloc, &StatusIn { kind }, Rem, Member::Statuses, value)?;
     let postal = maybe_postal_at(alloc, ChgPostal, value)?;
     Ok(Request::UpdateContact(ContactUpdate {
         name,
@@ -85,8 +86,8 @@ pub fn transfer_contact(
 ) -> Result<Request, CommandFault>
     ensures { Gives result (spec.transfer_contact op (view value.now)) }
 {
-    let name = text_at(alloc, Top, Member::Name, value)?;
-    let secret = maybe_text_at(alloc, Top, Member::Secret, value)?;
+    let name = required_at(alloc, &TextIn, Top, Member::Name, value)?;
+    let secret = maybe_at(alloc, &TextIn, Top, Member::Secret, value)?;
     Ok(Request::TransferContact { name, op, secret })
 }
 
@@ -95,13 +96,13 @@ pub fn transfer_contact(
 fn postal_at(alloc: Global, section: Section, value: &Value) -> Result<Postal, CommandFault>
     ensures { Gives result (spec.postal_at section (view value.now)) }
 {
-    let name = text_at(alloc, section, Member::Name, value)?;
-    let org = maybe_text_at(alloc, section, Member::Org, value)?;
-    let street = texts_at(alloc, section, Member::Street, value)?;
-    let city = text_at(alloc, section, Member::City, value)?;
-    let sp = maybe_text_at(alloc, section, Member::Sp, value)?;
-    let pc = maybe_text_at(alloc, section, Member::Pc, value)?;
-    let cc = text_at(alloc, section, Member::Cc, value)?;
+    let name = required_at(alloc, &TextIn, section, Member::Name, value)?;
+    let org = maybe_at(alloc, &TextIn, section, Member::Org, value)?;
+    let street = list_at(alloc, &TextIn, section, Member::Street, value)?;
+    let city = required_at(alloc, &TextIn, section, Member::City, value)?;
+    let sp = maybe_at(alloc, &TextIn, section, Member::Sp, value)?;
+    let pc = maybe_at(alloc, &TextIn, section, Member::Pc, value)?;
+    let cc = required_at(alloc, &TextIn, section, Member::Cc, value)?;
     Ok(Postal {
         name,
         org,

@@ -16,7 +16,7 @@ use std::alloc::Global;
 /// The text of a date, `YYYY-MM-DD`, in the years 0000 to 9999. What is no text is a fault of syntax,
 /// a text that is no real date one of the parameter's syntax.
 #[tactic(auto, unfolding(crate::specs::Dates::date_in))]
-pub fn date_in(alloc: Global, value: &Value) -> Result<Text, CommandFault>
+pub(crate) fn date_of(alloc: Global, value: &Value) -> Result<Text, CommandFault>
     ensures { Gives result (spec.date_in (view value.now)) }
 {
     let text = value.as_str().ok_or(FormFault::SyntaxError)?;
@@ -83,7 +83,7 @@ fn is_leap(year: u16) -> bool
 
 /// The moment of a text `YYYY-MM-DDTHH:MM:SSZ`.
 #[tactic(auto, unfolding(crate::specs::Dates::moment_in))]
-pub fn moment_in(value: &Value) -> Result<Moment, FormFault>
+pub(crate) fn moment_of(value: &Value) -> Result<Moment, FormFault>
     ensures { result ≡ spec.moment_in (view value.now) }
 {
     let text = value.as_str().ok_or(FormFault::SyntaxError)?;

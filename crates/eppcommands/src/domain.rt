@@ -3,10 +3,8 @@ ghost use Rattle.serde_json.specs.View.{view};
 ghost use Rattle.eppcommands.specs.Reading.{Gives};
 ghost use Rattle.eppcommands.specs.Domain as spec;
 
-use crate::reading::{
-    CommandFault, date_at, maybe_text_at, moment_at, name_at, names_at, statuses_at, text_at,
-    texts_at, years_at,
-};
+use crate::reading::{CommandFault, list_at, maybe_at, required_at, years_at};
+use crate::values::{DateIn, MomentIn, NameIn, StatusIn, TextIn};
 use eppforms::Member;
 use eppforms::Section::{self, Add, Chg, Rem, Top};
 use objects::ObjectKind;
@@ -18,7 +16,7 @@ use std::alloc::Global;
 pub fn check_domain(alloc: Global, value: &Value) -> Result<Request, CommandFault>
     ensures { Gives result (spec.check_domain (view value.now)) }
 {
-    let names = names_at(alloc, Top, Member::Names, value)?;
+    let names = list_at(alloc, &NameIn, Top, Member::Names, value)?;
     Ok(Request::CheckDomain { names })
 }
 
@@ -26,8 +24,8 @@ pub fn check_domain(alloc: Global, value: &Value) -> Result<Request, CommandFaul
 pub fn info_domain(alloc: Global, value: &Value) -> Result<Request, CommandFault>
     ensures { Gives result (spec.info_domain (view value.now)) }
 {
-    let name = name_at(alloc, Top, Member::Name, value)?;
-    let secret = maybe_text_at(alloc, Top, Member::Secret, value)?;
+    let name = required_at(alloc, &NameIn, Top, Member::Name, value)?;
+    let secret = maybe_at(alloc, &TextIn, Top, Member::Secret, value)?;
     Ok(Request::InfoDomain { name, secret })
 }
 
@@ -35,13 +33,13 @@ pub fn info_domain(alloc: Global, value: &Value) -> Result<Request, CommandFault
 pub fn create_domain(alloc: Global, value: &Value) -> Result<Request, CommandFault>
     ensures { Gives result (spec.create_domain (view value.now)) }
 {
-    let name = name_at(alloc, Top, Member::Name, value)?;
+    let name = required_at(alloc, &NameIn, Top, Member::Name, value)?;
     let years = years_at(Top, Member::Years, value)?;
-    let registrant = text_at(alloc, Top, Member::Registrant, value)?;
-    let secret = text_at(alloc, Top, Member::Secret, value)?;
-    let admin = texts_at(alloc, Top, Member::Admin, value)?;
-    let tech = texts_at(alloc, Top, Member::Tech, value)?;
-    let hosts = names_at(alloc, Top, Member::Hosts, value)?;
+    let registrant = required_at(alloc, &TextIn, Top, Member::Registrant, value)?;
+    let secret = required_at(alloc, &TextIn, Top, Member::Secret, value)?;
+    let admin = list_at(alloc, &TextIn, Top, Member::Admin, value)?;
+    let tech = list_at(alloc, &TextIn, Top, Member::Tech, value)?;
+    let hosts = list_at(alloc, &NameIn, Top, Member::Hosts, value)?;
     Ok(Request::CreateDomain(NewDomain {
         name,
         years,
@@ -57,7 +55,7 @@ pub fn create_domain(alloc: Global, value: &Value) -> Result<Request, CommandFau
 pub fn delete_domain(alloc: Global, value: &Value) -> Result<Request, CommandFault>
     ensures { Gives result (spec.delete_domain (view value.now)) }
 {
-    let name = name_at(alloc, Top, Member::Name, value)?;
+    let name = required_at(alloc, &NameIn, Top, Member::Name, value)?;
     Ok(Request::DeleteDomain { name })
 }
 
@@ -65,9 +63,9 @@ pub fn delete_domain(alloc: Global, value: &Value) -> Result<Request, CommandFau
 pub fn update_domain(alloc: Global, value: &Value) -> Result<Request, CommandFault>
     ensures { Gives result (spec.update_domain (view value.now)) }
 {
-    let name = name_at(alloc, Top, Member::Name, value)?;
-    let registrant = maybe_text_at(alloc, Chg, Member::Registrant, value)?;
-    let secret = maybe_text_at(alloc, Chg, Member::Secret, value)?;
+    let name = required_at(alloc, &NameIn, Top, Member::Name, value)?;
+    let registrant = maybe_at(alloc, &TextIn, Chg, Member::Registrant, value)?;
+    let secret = maybe_at(alloc, &TextIn, Chg, Member::Secret, value)?;
     let add = lists_of_domain(alloc, Add, value)?;
     let rem = lists_of_domain(alloc, Rem, value)?;
     Ok(Request::UpdateDomain(DomainUpdate {
@@ -88,10 +86,18 @@ fn lists_of_domain(
 ) -> Result<DomainLists, CommandFault>
     ensures { Gives result (spec.lists_of_domain section (view value.now)) }
 {
-    let hosts = names_at(alloc, section, Member::Hosts, value)?;
-    let admin = texts_at(alloc, section, Member::Admin, value)?;
-    let tech = texts_at(alloc, section, Member::Tech, value)?;
-    let statuses = statuses_at(alloc, ObjectKind::Domain, section, Member::Statuses, value)?;
+    let hosts = list_at(alloc, &NameIn, section, Member::Hosts, value)?;
+    let admin = list_at(alloc, &TextIn, section, Member::Admin, value)?;
+    let tech = list_at(alloc, &TextIn, section, Member::Tech, value)?;
+    let statuses = list_at(
+        alloc,
+        &StatusIn {
+            kind: ObjectKind::Domain,
+        },
+        section,
+        Member::Statuses,
+        value,
+    )?;
     Ok(DomainLists {
         hosts,
         admin,
@@ -104,8 +110,8 @@ fn lists_of_domain(
 pub fn renew_domain(alloc: Global, value: &Value) -> Result<Request, CommandFault>
     ensures { Gives result (spec.renew_domain (view value.now)) }
 {
-    let name = name_at(alloc, Top, Member::Name, value)?;
-    let expires = date_at(alloc, Top, Member::Expires, value)?;
+    let name = required_at(alloc, &NameIn, Top, Member::Name, value)?;
+    let expires = required_at(alloc, &DateIn, Top, Member::Expires, value)?;
     let years = years_at(Top, Member::Years, value)?;
     Ok(Request::RenewDomain {
         name,
@@ -118,7 +124,7 @@ pub fn renew_domain(alloc: Global, value: &Value) -> Result<Request, CommandFaul
 pub fn request_restore(alloc: Global, value: &Value) -> Result<Request, CommandFault>
     ensures { Gives result (spec.request_restore (view value.now)) }
 {
-    let name = name_at(alloc, Top, Member::Name, value)?;
+    let name = required_at(alloc, &NameIn, Top, Member::Name, value)?;
     Ok(Request::RequestRestore { name })
 }
 
@@ -126,9 +132,9 @@ pub fn request_restore(alloc: Global, value: &Value) -> Result<Request, CommandF
 pub fn report_restore(alloc: Global, value: &Value) -> Result<Request, CommandFault>
     ensures { Gives result (spec.report_restore (view value.now)) }
 {
-    let name = name_at(alloc, Top, Member::Name, value)?;
-    let del_time = moment_at(Top, Member::DelTime, value)?;
-    let res_time = moment_at(Top, Member::ResTime, value)?;
+    let name = required_at(alloc, &NameIn, Top, Member::Name, value)?;
+    let del_time = required_at(alloc, &MomentIn, Top, Member::DelTime, value)?;
+    let res_time = required_at(alloc, &MomentIn, Top, Member::ResTime, value)?;
     Ok(Request::ReportRestore {
         name,
         del_time,
@@ -144,7 +150,7 @@ pub fn transfer_domain(
 ) -> Result<Request, CommandFault>
     ensures { Gives result (spec.transfer_domain op (view value.now)) }
 {
-    let name = name_at(alloc, Top, Member::Name, value)?;
-    let secret = maybe_text_at(alloc, Top, Member::Secret, value)?;
+    let name = required_at(alloc, &NameIn, Top, Member::Name, value)?;
+    let secret = maybe_at(alloc, &TextIn, Top, Member::Secret, value)?;
     Ok(Request::TransferDomain { name, op, secret })
 }

@@ -3,7 +3,8 @@ ghost use Rattle.serde_json.specs.View.{view};
 ghost use Rattle.eppcommands.specs.Reading.{Gives};
 ghost use Rattle.eppcommands.specs.Host as spec;
 
-use crate::reading::{CommandFault, addresses_at, maybe_name_at, name_at, names_at, statuses_at};
+use crate::reading::{CommandFault, list_at, maybe_at, required_at};
+use crate::values::{AddressIn, NameIn, StatusIn};
 use eppforms::Member;
 use eppforms::Section::{self, Add, Chg, Rem, Top};
 use objects::ObjectKind;
@@ -15,7 +16,7 @@ use std::alloc::Global;
 pub fn check_host(alloc: Global, value: &Value) -> Result<Request, CommandFault>
     ensures { Gives result (spec.check_host (view value.now)) }
 {
-    let names = names_at(alloc, Top, Member::Names, value)?;
+    let names = list_at(alloc, &NameIn, Top, Member::Names, value)?;
     Ok(Request::CheckHost { names })
 }
 
@@ -23,7 +24,7 @@ pub fn check_host(alloc: Global, value: &Value) -> Result<Request, CommandFault>
 pub fn info_host(alloc: Global, value: &Value) -> Result<Request, CommandFault>
     ensures { Gives result (spec.info_host (view value.now)) }
 {
-    let name = name_at(alloc, Top, Member::Name, value)?;
+    let name = required_at(alloc, &NameIn, Top, Member::Name, value)?;
     Ok(Request::InfoHost { name })
 }
 
@@ -31,8 +32,8 @@ pub fn info_host(alloc: Global, value: &Value) -> Result<Request, CommandFault>
 pub fn create_host(alloc: Global, value: &Value) -> Result<Request, CommandFault>
     ensures { Gives result (spec.create_host (view value.now)) }
 {
-    let name = name_at(alloc, Top, Member::Name, value)?;
-    let addresses = addresses_at(alloc, Top, Member::Addrs, value)?;
+    let name = required_at(alloc, &NameIn, Top, Member::Name, value)?;
+    let addresses = list_at(alloc, &AddressIn, Top, Member::Addrs, value)?;
     Ok(Request::CreateHost(NewHost { name, addresses }))
 }
 
@@ -40,7 +41,7 @@ pub fn create_host(alloc: Global, value: &Value) -> Result<Request, CommandFault
 pub fn delete_host(alloc: Global, value: &Value) -> Result<Request, CommandFault>
     ensures { Gives result (spec.delete_host (view value.now)) }
 {
-    let name = name_at(alloc, Top, Member::Name, value)?;
+    let name = required_at(alloc, &NameIn, Top, Member::Name, value)?;
     Ok(Request::DeleteHost { name })
 }
 
@@ -48,10 +49,10 @@ pub fn delete_host(alloc: Global, value: &Value) -> Result<Request, CommandFault
 pub fn update_host(alloc: Global, value: &Value) -> Result<Request, CommandFault>
     ensures { Gives result (spec.update_host (view value.now)) }
 {
-    let name = name_at(alloc, Top, Member::Name, value)?;
+    let name = required_at(alloc, &NameIn, Top, Member::Name, value)?;
     let add = lists_of_host(alloc, Add, value)?;
     let rem = lists_of_host(alloc, Rem, value)?;
-    let new_name = maybe_name_at(alloc, Chg, Member::Name, value)?;
+    let new_name = maybe_at(alloc, &NameIn, Chg, Member::Name, value)?;
     Ok(Request::UpdateHost(HostUpdate {
         name,
         add,
@@ -65,8 +66,16 @@ pub fn update_host(alloc: Global, value: &Value) -> Result<Request, CommandFault
 fn lists_of_host(alloc: Global, section: Section, value: &Value) -> Result<HostLists, CommandFault>
     ensures { Gives result (spec.lists_of_host section (view value.now)) }
 {
-    let addresses = addresses_at(alloc, section, Member::Addrs, value)?;
-    let statuses = statuses_at(alloc, ObjectKind::Host, section, Member::Statuses, value)?;
+    let addresses = list_at(alloc, &AddressIn, section, Member::Addrs, value)?;
+    let statuses = list_at(
+        alloc,
+        &StatusIn {
+            kind: ObjectKind::Host,
+        },
+        section,
+        Member::Statuses,
+        value,
+    )?;
     Ok(HostLists {
         addresses,
         statuses,

@@ -2,7 +2,7 @@
 //!
 //! - `command`: a payload as a command.
 //! - `request`, with `contact`, `domain` and `host`: the request of a well-formed command.
-//! - `reading`: the value of a member of a well-formed command.
+//! - `reading`, with `values`: the value of a member of a well-formed command.
 //! - `dates`: dates and moments in members.
 //! - `session`: a payload in a session, and before a login.
 //! - `order`: a payload as an order of the operator.
@@ -17,6 +17,7 @@ mod order;
 mod reading;
 mod request;
 mod session;
+mod values;
 
 pub use command::command_of;
 pub use order::order_of;

@@ -1,12 +1,12 @@
 //! The operator's orders.
-ghost use Rattle.std.specs.Prelude.{◌≡◌, IfOk, is_none, map};
-ghost use Rattle.std.specs.List.{list_any};
+ghost use Rattle.std.specs.{Prelude.{◌≡◌, IfOk, is_none, map}, List.list_any};
 ghost use Rattle.std.specs.Result.{result_map_both};
 ghost use Rattle.serde_json.specs.View.{view, number_view};
 ghost use Rattle.eppcommands.specs.Reading.{Gives};
 ghost use Rattle.eppcommands.specs.Order as spec;
 
-use crate::reading::{CommandFault, items_in, text_at};
+use crate::reading::{CommandFault, items_in, required_at};
+use crate::values::TextIn;
 use basis::list::Seq;
 use eppforms::Section::Top;
 use eppforms::{
@@ -68,9 +68,9 @@ fn status_order(alloc: Global, value: &Value) -> Result<Order, CommandFault>
     ensures { Gives result (spec.status_order (view value.now)) }
 {
     let kind = kind_ordered(value)?;
-    let name = text_at(alloc, Top, Member::Name, value)?;
-    let add = list_at(Member::Add, value)?;
-    let rem = list_at(Member::Rem, value)?;
+    let name = required_at(alloc, &TextIn, Top, Member::Name, value)?;
+    let add = items_at(Member::Add, value)?;
+    let rem = items_at(Member::Rem, value)?;
     Ok(Order::Status(StatusOrder {
         kind,
         name,
@@ -100,7 +100,7 @@ fn deposit_order(alloc: Global, value: &Value) -> Result<Order, CommandFault>
     if !has_form(DEPOSIT_ORDER_FORM, value) {
         return Err(CommandFault::Refused(FormFault::SyntaxError));
     }
-    let registrar = text_at(alloc, Top, Member::Registrar, value)?;
+    let registrar = required_at(alloc, &TextIn, Top, Member::Registrar, value)?;
     let number = number_at(Member::Cents, value)?;
     let cents = number.as_i64().ok_or(FormFault::ParameterRange)?;
     Ok(Order::Deposit { registrar, cents })
@@ -140,7 +140,7 @@ fn number_at(at: Member, value: &Value) -> Result<&Number, FormFault>
         .ok_or(FormFault::SyntaxError)
 }
 
-fn list_at(at: Member, value: &Value) -> Result<&Vec<Value>, FormFault>
+fn items_at(at: Member, value: &Value) -> Result<&Vec<Value>, FormFault>
     ensures { result_map_both (λ items. map view items.now.items) (λ code. code) result
         ≡ spec.list_at at (view value.now) }
 {

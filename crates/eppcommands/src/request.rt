@@ -11,7 +11,8 @@ use crate::domain::{
     request_restore, transfer_domain, update_domain,
 };
 use crate::host::{check_host, create_host, delete_host, info_host, update_host};
-use crate::reading::{CommandFault, text_at};
+use crate::reading::{CommandFault, required_at};
+use crate::values::TextIn;
 use eppforms::{CommandKind, Member, Section, checked_command};
 use protocol::{FormFault, Request};
 use serde_json::Value;
@@ -56,6 +57,6 @@ pub fn request_in(alloc: Global, value: &Value) -> Result<Request, CommandFault>
 fn poll_ack(alloc: Global, value: &Value) -> Result<Request, CommandFault>
     ensures { Gives result (spec.poll_ack (view value.now)) }
 {
-    let id = text_at(alloc, Section::Top, Member::Id, value)?;
+    let id = required_at(alloc, &TextIn, Section::Top, Member::Id, value)?;
     Ok(Request::PollAck { id })
 }

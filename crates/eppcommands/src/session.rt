@@ -5,7 +5,8 @@ ghost use Rattle.eppcommands.specs.Reading.{Gives};
 ghost use Rattle.eppcommands.specs.Session as spec;
 
 use crate::command::{cl_trid_of, command_of_value, value_in};
-use crate::reading::{CommandFault, text_at};
+use crate::reading::{CommandFault, required_at};
+use crate::values::TextIn;
 use eppforms::Section::Top;
 use eppforms::{Member, Verb, checked_command, word};
 use protocol::{BeforeLogin, Command, Credentials, FormFault, InSession};
@@ -82,9 +83,9 @@ fn credentials_of(alloc: Global, value: &Value) -> Result<Credentials, CommandFa
         return Err(CommandFault::Refused(FormFault::UseError));
     }
     checked_command(value)?;
-    let id = text_at(alloc, Top, Member::Id, value)?;
-    let password = text_at(alloc, Top, Member::Pw, value)?;
-    let version = text_at(alloc, Top, Member::Version, value)?;
+    let id = required_at(alloc, &TextIn, Top, Member::Id, value)?;
+    let password = required_at(alloc, &TextIn, Top, Member::Pw, value)?;
+    let version = required_at(alloc, &TextIn, Top, Member::Version, value)?;
     Ok(Credentials {
         id,
         password,

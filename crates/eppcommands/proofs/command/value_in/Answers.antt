@@ -1,6 +1,5 @@
 use Rattle.std.proofs.Common.{◌≡◌, true, false, sym, ◌∙◌}
-use Rattle.serde_json.specs.Errors.{IsMemory}
-use Rattle.serde_json.specs.View.{view}
+use Rattle.serde_json.specs.{Errors.IsMemory, View.view}
 use Rattle.eppcommands.proofs.Payloads.{well_read, not_read}
 use Rattle.eppcommands.proofs.command.value_in.Goals as goal
 

@@ -1,7 +1,5 @@
-use Rattle.std.proofs.Common.{◌≡◌, true, false, sym, ◌∙◌}
-use Rattle.serde_json.specs.Errors.{IsMemory}
-use Rattle.serde_json.specs.View.{view}
-use Rattle.std.proofs.lemmas.Result.{IfOk-weaker}
+use Rattle.std.proofs.{Common.{◌≡◌, true, false, sym, ◌∙◌}, lemmas.Result.IfOk-weaker}
+use Rattle.serde_json.specs.{Errors.IsMemory, View.view}
 use Rattle.eppcommands.proofs.Payloads.{order_read, no_order_read}
 use Rattle.eppcommands.proofs.order.order_of.Goals as goal
 
