@@ -1,27 +1,19 @@
 -- A book that was adopted is found as it is, and a crash leaves nothing else of it.
 use Rattle.std.proofs.Common.{◌≡◌, ◌&&◌, ℕ, true, false, List, [], ◌∷◌, map, Result, Ok, Err, IfOk, refl, sym, ap, subst, ◌∙◌}
-use Rattle.std.proofs.Math.Logic.{∥∥₁_map}
-use Rattle.std.proofs.lemmas.Bool.{and_parts}
+use Rattle.std.proofs.{Math.Logic.∥∥₁_map, lemmas.Bool.and_parts}
 use Rattle.sqlite_disk.specs.declared.Disk.{Ghosts}
 use Rattle.sqlite_wal.specs.Recovery.{Image}
 use Rattle.sqlite_trees.specs.Tree.{Trees}
-use Rattle.sqlite.specs.Start.{FindsIn}
-use Rattle.sqlite.specs.State.{State, HasCleanDisk}
+use Rattle.sqlite.specs.{Start.FindsIn, State.{State, HasCleanDisk}}
 use Rattle.policy.specs.Rules.{PolicyRules}
 use Rattle.registry.specs.Opening.{Opens}
 use Rattle.runs.specs.Crashes.{Happens, answered, crash, opening}
-use Rattle.books.specs.Book.{BookState, Follows, LeavesItself, may_leave}
-use Rattle.books.specs.Reopening.{IsBook, LeavesFound}
-use Rattle.sqltables.specs.Adoption.{IsAdopted}
-use Rattle.sqltables.specs.Content.{Content}
-use Rattle.states.specs.States.{Has, Remains, StateOf}
+use Rattle.books.specs.{Book.{BookState, Follows, LeavesItself, may_leave}, Reopening.{IsBook, LeavesFound}}
+use Rattle.sqltables.specs.{Adoption.IsAdopted, Content.Content}
+use Rattle.states.specs.{States.{Has, Remains, StateOf}, declared.readiness.Ready.Ready}
 use Rattle.states.proofs.LeavingLemmas.{has-alone}
-use Rattle.sqlbook.specs.Beginning.{IsTakenFrom}
-use Rattle.sqlbook.specs.Files.{AreTakenIn}
+use Rattle.sqlbook.specs.{Beginning.IsTakenFrom, Files.AreTakenIn, Meaning.{are_right, stored_of}, AsBook.{are_all_right, remains_meant}}
 use Rattle.sqlbook.proofs.BeginningLemmas.{rows_new}
-use Rattle.sqlbook.specs.Meaning.{are_right, stored_of}
-use Rattle.sqlbook.specs.AsBook.{are_all_right, remains_meant}
-use Rattle.states.specs.declared.readiness.Ready.{Ready}
 use Rattle.bookfiles.specs.Restarts.{IsOpenedIn, NewFilesAreBooks, RestartsAreEvents, StopsAreCrashes, book_of}
 
 pub leaves-found : (trees : Trees) (rows : StateOf Content) (refused : ℕ) → IsAdopted trees rows → LeavesFound (book_of rows refused)

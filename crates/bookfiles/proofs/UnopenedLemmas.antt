@@ -1,40 +1,27 @@
 -- What an opening that failed gives back, and what it comes to.
 use Rattle.std.proofs.Common.{◌≡◌, ℕ, true, false, Option, Some, None, Result, Ok, Err, IfErr, IfOk, IfSome, inl, inr, refl, sym, ap, subst, ◌∙◌}
-use Rattle.std.proofs.Math.Logic.{∥∥₁_map}
-use Rattle.std.proofs.lemmas.Bool.{and_parts}
-use Rattle.std.proofs.lemmas.Result.{IfErr-weaker}
+use Rattle.std.proofs.{Math.Logic.∥∥₁_map, lemmas.{Bool.and_parts, Result.IfErr-weaker}}
 use Rattle.sqlite_disk.specs.declared.Disk.{Ghosts}
 use Rattle.sqlite_wal.specs.Recovery.{Image}
 use Rattle.sqlite_trees.specs.Tree.{Trees}
-use Rattle.sqlite.specs.Start.{FindsIn}
-use Rattle.sqlite.specs.State.{State, HasCleanDisk}
+use Rattle.sqlite.specs.{Start.FindsIn, State.{State, HasCleanDisk}}
 use Rattle.policy.specs.Rules.{PolicyRules}
-use Rattle.registry.specs.Calls.{IsRefused}
-use Rattle.registry.specs.Crashes.{RefusedTo}
-use Rattle.registry.specs.declared.fault.OpenFault.{OpenFault}
+use Rattle.registry.specs.{Calls.IsRefused, Crashes.RefusedTo, declared.fault.OpenFault.OpenFault}
 use Rattle.registry.specs.declared.fault.OpenFault.TheVariants as refusals
 use Rattle.sqlrows.specs.Columns.{no_schema}
 use Rattle.runs.specs.Crashes.{crash}
 use Rattle.runs.proofs.CrashLemmas.{refused-opening}
 use Rattle.books.specs.Book.{BookState, Stored, may_leave}
-use Rattle.sqltables.specs.Adoption.{IsAdopted, IsSameRegistry, IsTakenAs, LeavesAsFound}
-use Rattle.sqltables.specs.Content.{Content}
-use Rattle.sqltables.specs.Readiness.{IsKnownAs, is_numbered}
-use Rattle.sqltables.specs.Tables.{registry}
-use Rattle.sqltables.specs.declared.adoption.Unadopted.{Unadopted}
+use Rattle.sqltables.specs.{Adoption.{IsAdopted, IsSameRegistry, IsTakenAs, LeavesAsFound}, Content.Content}
+use Rattle.sqltables.specs.{Readiness.{IsKnownAs, is_numbered}, Tables.registry, declared.adoption.Unadopted.Unadopted}
 use Rattle.sqltables.specs.declared.adoption.Unadopted.TheVariants as unadopted
 use Rattle.sqltables.proofs.AdoptedLemmas.{schema_once, some-tables}
-use Rattle.states.specs.declared.fault.BookFault.{BookFault}
-use Rattle.states.specs.declared.readiness.Ready.{Ready}
-use Rattle.states.specs.declared.readiness.Ready.TheVariants.{Empty, Used, Other}
+use Rattle.states.specs.declared.{fault.BookFault.BookFault, readiness.Ready.{Ready, TheVariants.{Empty, Used, Other}}}
 use Rattle.states.specs.States.{Remains, StateOf}
-use Rattle.sqlbook.specs.Files.{AreTakenIn}
-use Rattle.sqlbook.specs.Meaning.{are_right}
-use Rattle.sqlbook.specs.AsBook.{are_all_right}
+use Rattle.sqlbook.specs.{Files.AreTakenIn, Meaning.are_right, AsBook.are_all_right}
 use Rattle.bookfiles.specs.Restarts.{book_of}
 use Rattle.bookfiles.specs.Unopened.{FailuresGoUnnoticed, GivesBack, IsLeftAsFound, IsRefusedIn, RefusalsAreEvents, never_for, or_cause, or_database, unconnected}
-use Rattle.bookfiles.specs.declared.unopened.Unopened.{Unopened}
-use Rattle.bookfiles.specs.declared.unopened.Unopened.TheVariants.{Path, Files, Database, Book}
+use Rattle.bookfiles.specs.declared.unopened.Unopened.{Unopened, TheVariants.{Path, Files, Database, Book}}
 use Rattle.bookfiles.proofs.RestartLemmas.{leaves-found, stops-are-crashes}
 
 -- ---- what is given back

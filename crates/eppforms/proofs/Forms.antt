@@ -1,15 +1,10 @@
 -- Which form is chosen hangs on what chooses it alone.
 use Rattle.std.proofs.Common.{◌≡◌, ℕ, Bool, true, false, cond, List, [], ◌∷◌, map, Option, Some, None, option_map, Result, refl, ap}
-use Rattle.std.specs.Prelude.{◌&&◌, ◌||◌, bytes_eq, is_some, not}
-use Rattle.std.specs.Option.{ok_or}
-use Rattle.std.specs.Result.{result_map_both}
+use Rattle.std.specs.{Prelude.{◌&&◌, ◌||◌, bytes_eq, is_some, not}, Option.ok_or, Result.result_map_both}
 use Rattle.serde_json.specs.Data.{Data}
-use Rattle.protocol.specs.declared.form.FormFault.{FormFault}
-use Rattle.protocol.specs.declared.form.FormFault.TheVariants.{SyntaxError, UnknownCommand}
+use Rattle.protocol.specs.declared.form.FormFault.{FormFault, TheVariants.{SyntaxError, UnknownCommand}}
 use Rattle.eppforms.specs.declared.member.Member.TheVariants as members
-use Rattle.eppforms.specs.declared.table.Choice.{Choice}
-use Rattle.eppforms.specs.Member.{word_at}
-use Rattle.eppforms.specs.Table.{verb_text}
+use Rattle.eppforms.specs.{declared.table.Choice.Choice, Member.word_at, Table.verb_text}
 use Rattle.eppforms.specs.Form.{◌>>=◌, refuse_unless, is_known, takes_object, is_chosen, chosen, form_in}
 
 abbrev pub with_members : {M N : Type 0} → (M → N) → Choice × M → Choice × N

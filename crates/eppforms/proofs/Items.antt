@@ -1,11 +1,7 @@
 -- An array's items, as a chain over its values sees them.
 use Rattle.std.proofs.Common.{◌≡◌, suc, Bool, List, [], ◌∷◌, length, map, Some, refl, sym, ap, ◌∙◌}
-use Rattle.std.specs.Prelude.{◌&&◌}
-use Rattle.std.specs.List.{list_all}
-use Rattle.serde_json.specs.Data.{Data}
-use Rattle.serde_json.specs.Find.{as_array}
-use Rattle.serde_json.specs.View.{view, items_view}
-use Rattle.serde_json.specs.declared.value.Value.{Value}
+use Rattle.std.specs.{Prelude.◌&&◌, List.list_all}
+use Rattle.serde_json.specs.{Data.Data, Find.as_array, View.{view, items_view}, declared.value.Value.Value}
 use Rattle.eppforms.specs.Kind.{items_list, of_items, some_and}
 
 pub items_list-items_view : (vs : List Value) → items_list (items_view vs) ≡ map view vs

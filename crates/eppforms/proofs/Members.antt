@@ -1,10 +1,7 @@
 -- An object's members, as a chain over its map sees them.
 use Rattle.std.proofs.Common.{◌≡◌, ℕ, Bool, List, [], ◌∷◌, Some, refl, sym, ap, ◌∙◌}
-use Rattle.std.specs.Prelude.{◌&&◌, ◌||◌, string_bytes}
-use Rattle.std.specs.List.{list_all, list_any}
-use Rattle.serde_json.specs.Data.{Data}
-use Rattle.serde_json.specs.Find.{as_object}
-use Rattle.serde_json.specs.View.{view, members_view}
+use Rattle.std.specs.{Prelude.{◌&&◌, ◌||◌, string_bytes}, List.{list_all, list_any}}
+use Rattle.serde_json.specs.{Data.Data, Find.as_object, View.{view, members_view}}
 use Rattle.serde_json.proofs.Views.{Entry}
 use Rattle.eppforms.specs.Form.{members_list, members_in}
 

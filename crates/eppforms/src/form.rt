@@ -1,13 +1,10 @@
 //! A JSON value against a table of forms: which form it chooses, and the first fault of its members
 //! (RFC 5730, 3).
 ghost use Rattle.std.specs.Prelude.{◌≡◌, not, string_bytes, map, option_map};
-ghost use Rattle.std.specs.List.{list_all, list_any};
-ghost use Rattle.std.specs.Result.{result_map_both};
+ghost use Rattle.std.specs.{List.{list_all, list_any}, Result.result_map_both};
 ghost use Rattle.serde_json.specs.View.{view};
-ghost use Rattle.eppforms.specs.Kind.{in_range, has_shape};
+ghost use Rattle.eppforms.specs.{Kind.{in_range, has_shape}, Member.is_section, Table.plain};
 ghost use Rattle.eppforms.specs.Form as spec;
-ghost use Rattle.eppforms.specs.Member.{is_section};
-ghost use Rattle.eppforms.specs.Table.{plain};
 
 use crate::member::{CHANGES, Member, SECTIONS, Section};
 use crate::table::{Choice, CommandForm, CommandKind, FORMS, Field, Op};

@@ -1,6 +1,5 @@
 //! The kinds of members: a JSON type, a range and a shape.
-ghost use Rattle.std.specs.Prelude.{◌≡◌, ◌<◌, IfSome, length, position};
-ghost use Rattle.std.specs.List.{list_all};
+ghost use Rattle.std.specs.{Prelude.{◌≡◌, ◌<◌, IfSome, length, position}, List.list_all};
 ghost use Rattle.serde_json.specs.View.{view};
 ghost use Rattle.eppforms.specs.Kind as spec;
 

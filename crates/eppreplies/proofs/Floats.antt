@@ -2,21 +2,14 @@
 use Rattle.std.proofs.Common.{ℕ, List, [], ◌∷◌, Option, Some, refl, map, codes}
 use Rattle.std.specs.Prelude.{option_and_then, decimal}
 use Rattle.serde_json.specs.Data.{string}
-use Rattle.protocol.specs.declared.code.Code.{Code}
-use Rattle.protocol.specs.declared.reply.Reply.{Reply}
-use Rattle.protocol.specs.declared.reply.Data as the_data
+use Rattle.protocol.specs.declared.{code.Code.Code, reply.Reply.Reply}
 use Rattle.protocol.specs.declared.reply.Data.TheVariants.{Checked, Created, Balance, Renewed, Deleted, Transferred, Polled, Acked, Contact, Domain, Host}
-use Rattle.protocol.specs.declared.reply.CheckResult.{CheckResult}
-use Rattle.protocol.specs.declared.reply.ContactInfo.{ContactInfo}
-use Rattle.protocol.specs.declared.reply.DomainInfo.{DomainInfo}
-use Rattle.protocol.specs.declared.reply.HostInfo.{HostInfo}
+use Rattle.protocol.specs.declared.reply.{CheckResult.CheckResult, ContactInfo.ContactInfo, DomainInfo.DomainInfo, HostInfo.HostInfo}
 use Rattle.protocol.specs.declared.reply.TransferInfo.{TransferInfo}
-use Rattle.objects.specs.declared.contact.Postal.{Postal}
-use Rattle.objects.specs.Graces.{states_of}
-use Rattle.objects.specs.StatusTexts.{status_text, rgp_text}
+use Rattle.protocol.specs.declared.reply.Data as the_data
+use Rattle.objects.specs.{declared.contact.Postal.Postal, Graces.states_of, StatusTexts.{status_text, rgp_text}}
 use Rattle.jsonobjects.proofs.Floats.{ArePlain, IsPlain, items_plain, maybe_moment, maybe_plain, maybe_text, members_plain, texts}
-use Rattle.eppreplies.specs.Answer.{settled_value, answer_members, answer_value}
-use Rattle.eppreplies.specs.Session.{anonymous_members, anonymous_value}
+use Rattle.eppreplies.specs.{Answer.{settled_value, answer_members, answer_value}, Session.{anonymous_members, anonymous_value}}
 use Rattle.eppreplies.specs.Greeting.{greeting_value}
 use Rattle.eppreplies.specs.Reply.{reason_text, checked_members, checked_value, checks_value, created_members, balance_members, renewed_members, deleted_members, transferred_members, polled_members, acked_members, transfer_members, transfer_value, postal_members, postal_value, contact_transfer_of, contact_members, host_members, domain_members, data_value, reply_members, reply_value, deleted_of, restore_requested_of, secret_of, transfer_of}
 

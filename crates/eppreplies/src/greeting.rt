@@ -1,7 +1,6 @@
 //! What answers hello.
 ghost use Rattle.std.specs.Prelude.{◌≡◌, IfOk};
-ghost use Rattle.serde_json.specs.Data.{object};
-ghost use Rattle.serde_json.specs.View.{view};
+ghost use Rattle.serde_json.specs.{Data.object, View.view};
 ghost use Rattle.jsonobjects.specs.Members.{members_with};
 ghost use Rattle.eppreplies.specs.Greeting as spec;
 

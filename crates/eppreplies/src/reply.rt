@@ -1,9 +1,8 @@
 //! A reply as a payload.
 ghost use Rattle.std.specs.Prelude.{◌≡◌, IfOk, decimal, option_and_then, option_map};
-ghost use Rattle.objects.specs.Roid.{roid_text};
 ghost use Rattle.std.specs.Option.{option_copied};
-ghost use Rattle.serde_json.specs.Data.{string};
-ghost use Rattle.serde_json.specs.View.{view};
+ghost use Rattle.objects.specs.Roid.{roid_text};
+ghost use Rattle.serde_json.specs.{Data.string, View.view};
 ghost use Rattle.jsonobjects.specs.Item.{item_value};
 ghost use Rattle.eppreplies.specs.Reply as spec;
 

@@ -2,9 +2,8 @@
 use Rattle.std.proofs.Common.{◌≡◌, inl, inr, ℕ, List, Option, Some, None, sym, subst, arith}
 use Rattle.eppcommands.specs.Session.{before_login, in_session}
 use Rattle.policy.specs.Rules.{PolicyRules}
-use Rattle.protocol.specs.declared.session.BeforeLogin.{BeforeLogin}
+use Rattle.protocol.specs.declared.session.{BeforeLogin.BeforeLogin, InSession.InSession}
 use Rattle.protocol.specs.declared.session.BeforeLogin.TheVariants as before
-use Rattle.protocol.specs.declared.session.InSession.{InSession}
 use Rattle.protocol.specs.declared.session.InSession.TheVariants as within
 use Rattle.frames.specs.Outcomes.{Outcome}
 use Rattle.books.specs.Book.{BookState, Follows}

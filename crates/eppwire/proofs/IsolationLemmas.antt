@@ -1,17 +1,12 @@
 -- What a registrar is sent hangs on nothing that it may not see.
 use Rattle.std.proofs.Common.{◌≡◌, ◌⊎◌, inl, inr, ℕ, Bool, true, false, cond, List, refl, sym, ap, ◌∙◌}
 use Rattle.eppcommands.specs.Session.{in_session}
-use Rattle.frames.specs.Texts.{closing_text}
-use Rattle.eppreplies.specs.Greeting.{greeting_text}
-use Rattle.eppreplies.specs.Reply.{reply_text}
-use Rattle.model.specs.Lapse.{lapsed}
-use Rattle.model.specs.Registry.{Registry}
-use Rattle.model.specs.View.{View}
+use Rattle.frames.specs.{Texts.closing_text, Outcomes.{Outcome, replied, ended, framed, has_frame, sent}}
+use Rattle.eppreplies.specs.{Greeting.greeting_text, Reply.reply_text}
+use Rattle.model.specs.{Lapse.lapsed, Registry.Registry, View.View}
 use Rattle.policy.specs.Rules.{PolicyRules}
-use Rattle.protocol.specs.declared.session.InSession.{InSession}
-use Rattle.protocol.specs.declared.session.InSession.TheVariants.{Hello, Ordinary}
+use Rattle.protocol.specs.declared.session.InSession.{InSession, TheVariants.{Hello, Ordinary}}
 use Rattle.decisions.specs.Steps.{answer}
-use Rattle.frames.specs.Outcomes.{Outcome, replied, ended, framed, has_frame, sent}
 use Rattle.books.specs.Book.{BookState}
 use Rattle.eppwire.specs.Answers.{AnswersSaid, IsSentOrLost, greeting_outcome, is_last, reply_outcome}
 use Rattle.eppwire.specs.Isolation.{FramesAreIsolated, IsFixed, text_sent, view_saying}

@@ -1,19 +1,15 @@
 -- Calls are taken up to the last moment of calls.
 use Rattle.std.proofs.Common.{◌≡◌, inl, inr, ℕ, ◌<◌, ◌≤◌, ◌↔◌, Bool, true, false, nat_lt, Result, Ok, Err, refl, ap, arith}
-use Rattle.std.specs.Prelude.{OnOk}
 use Rattle.std.proofs.lemmas.Bool.Decides.{nat_tests}
+use Rattle.std.specs.Prelude.{OnOk}
 use Rattle.eppcommands.specs.Session.{in_session}
-use Rattle.frames.specs.Texts.{failed_text}
+use Rattle.frames.specs.{Texts.failed_text, Outcomes.{Outcome, sent}}
 use Rattle.policy.specs.Rules.{PolicyRules}
-use Rattle.protocol.specs.declared.session.InSession.{InSession}
-use Rattle.protocol.specs.declared.session.InSession.TheVariants.{Hello, Ordinary}
-use Rattle.registry.specs.Execution.{IsUnchanged, last_call}
-use Rattle.registry.specs.declared.fault.Fault.{Fault}
+use Rattle.protocol.specs.declared.session.InSession.{InSession, TheVariants.{Hello, Ordinary}}
+use Rattle.registry.specs.{Execution.{IsUnchanged, last_call}, declared.fault.Fault.Fault}
 use Rattle.registry.specs.declared.fault.Fault.TheVariants as faults
-use Rattle.frames.specs.Outcomes.{Outcome, sent}
 use Rattle.books.specs.Book.{BookState}
-use Rattle.eppwire.specs.Answers.{AnswersSaid, FailsToAnswer}
-use Rattle.eppwire.specs.Late.{LateFramesFail}
+use Rattle.eppwire.specs.{Answers.{AnswersSaid, FailsToAnswer}, Late.LateFramesFail}
 
 by_test : (late : Bool) (moment : ℕ) → nat_lt last_call moment ≡ late → (last_call < moment → ⊥) → moment ≤ last_call
 by_test false moment is never = grind (arith, nat_tests, is)

@@ -2,10 +2,8 @@
 use Rattle.std.proofs.Common.{◌≡◌, ℕ, List, Option, Some, None, refl, ap}
 use Rattle.std.specs.Prelude.{if◌then◌else◌, option_and_then}
 use Rattle.policy.specs.Rules.{is_text, login_at, password_at, place_of}
-use Rattle.protocol.specs.declared.code.Code.{Code}
-use Rattle.protocol.specs.declared.code.Code.TheVariants.{UnimplementedVersion}
-use Rattle.eppwire.specs.Answers.{code_by, is_our_version}
-use Rattle.eppwire.specs.Isolation.{LoginsAreIsolated}
+use Rattle.protocol.specs.declared.code.Code.{Code, TheVariants.UnimplementedVersion}
+use Rattle.eppwire.specs.{Answers.{code_by, is_our_version}, Isolation.LoginsAreIsolated}
 
 same-login : (passwords others : List (List ℕ)) (password : List ℕ) (place : Option ℕ) → option_and_then (password_at passwords) place ≡ option_and_then (password_at others) place
     → login_at passwords password place ≡ login_at others password place

@@ -1,10 +1,7 @@
 -- What an input begins with, from what its first bytes are.
 use Rattle.std.proofs.Common.{◌≡◌, ℕ, ◌+◌, ◌-◌, ◌<◌, ◌≤◌, ◌⊎◌, cond, eqb, ltb, Option, Some, None, List, [], ◌∷◌, ◌++◌, length, drop, refl, sym, ap, ◌∙◌, arith, length-append}
-use Rattle.std.specs.Prelude.{◌||◌, IfSome}
-use Rattle.std.specs.Int.{w32, from_be_bytes}
-use Rattle.std.specs.Io.KnownBytes.{Consumes, IsAtEnd}
-use Rattle.std.proofs.lemmas.List.{take_at, drop_at, append-nil}
-use Rattle.std.proofs.lemmas.Bool.Decides.{nat_tests}
+use Rattle.std.proofs.lemmas.{List.{take_at, drop_at, append-nil}, Bool.Decides.nat_tests}
+use Rattle.std.specs.{Prelude.{◌||◌, IfSome}, Int.{w32, from_be_bytes}, Io.KnownBytes.{Consumes, IsAtEnd}}
 use Rattle.frames.specs.Frames.{Ending, closed, cut, bad_length, Front, complete, over, total_of, front, Takes}
 
 abbrev chain : ℕ → ℕ → Front → Front

@@ -1,16 +1,13 @@
 -- A session goes on by one turn after another, and ends.
 use Rattle.std.proofs.Common.{◌≡◌, ◌⊎◌, inl, inr, ℕ, Bool, true, false, cond, Option, Some, None, List, [], ◌∷◌, ◌++◌, take, map, refl, ap, ◌∙◌, subst, append-nil}
+use Rattle.std.proofs.{KnownBytes.Appends-trans, lemmas.Grind.flat_map-append}
 use Rattle.std.specs.Io.KnownBytes.{Appends}
-use Rattle.std.proofs.KnownBytes.{Appends-trans}
-use Rattle.std.proofs.lemmas.Grind.{flat_map-append}
-use Rattle.frames.specs.Frames.{frame, Takes, Ending, Splits, bad_length}
-use Rattle.frames.specs.Texts.{closing_text}
-use Rattle.frames.proofs.SplitLemmas.{begins}
+use Rattle.frames.specs.{Frames.{frame, Takes, Ending, Splits, bad_length}, Texts.closing_text}
 use Rattle.frames.specs.Outcomes.{Outcome, replied, ended, failed, lost, has_frame, sent, end_with}
 use Rattle.frames.specs.Sessions.{SessionState, Turn, IsTurn, Run, frames, Rests, IsAtEnding, EndsSession, Session, WritesFrames}
+use Rattle.frames.specs.declared.session.SessionEnd.{SessionEnd, TheVariants.{Logout, WriteFault, Lost}}
+use Rattle.frames.proofs.SplitLemmas.{begins}
 use Rattle.streams.specs.Moves.{AppendsLess}
-use Rattle.frames.specs.declared.session.SessionEnd.{SessionEnd}
-use Rattle.frames.specs.declared.session.SessionEnd.TheVariants.{Logout, WriteFault, Lost}
 
 abbrev IsLastEnd : SessionEnd → Type 0
 IsLastEnd end = (end ≡ Logout) ⊎ (end ≡ Lost)

@@ -1,11 +1,7 @@
 -- Each input splits into frames in one way.
 use Rattle.std.proofs.Common.{◌≡◌, ℕ, zero, suc, ◌+◌, ◌-◌, ◌<◌, ◌≤◌, Bool, true, false, cond, ltb, List, [], ◌∷◌, ◌++◌, length, take, drop, refl, sym, ap, ◌∙◌, arith, length-append, length-drop, length-take, append_assoc, take-append-drop}
-use Rattle.std.specs.Prelude.{◌||◌}
-use Rattle.std.specs.List.{flat_map}
-use Rattle.std.specs.Int.{w32, to_be_bytes}
-use Rattle.std.proofs.lemmas.Bool.{ltb-false}
-use Rattle.std.proofs.lemmas.List.{get_or-drop, get_or-take, get_or_past}
-use Rattle.std.proofs.lemmas.Nat.{be_bytes_4, from_be_bytes-to_be_bytes_4}
+use Rattle.std.proofs.lemmas.{Bool.ltb-false, List.{get_or-drop, get_or-take, get_or_past}, Nat.{be_bytes_4, from_be_bytes-to_be_bytes_4}}
+use Rattle.std.specs.{Prelude.◌||◌, List.flat_map, Int.{w32, to_be_bytes}}
 use Rattle.frames.specs.Frames.{frame, IsPayload, Ending, closed, cut, bad_length, Front, complete, over, total_of, front, Splits, AreBytes, AreFrames, AreFramesInOneWay}
 use Rattle.frames.proofs.FrontLemmas.{front_whole}
 

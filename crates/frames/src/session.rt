@@ -1,10 +1,9 @@
 //! A session: frames in, the frames of the replies out.
 ghost use Rattle.std.specs.Prelude.{◌≡◌, if◌then◌else◌, None, Some, IfOk, OnOk, OnErr};
 ghost use Rattle.std.specs.Io.KnownBytes.{Appends};
-ghost use Rattle.frames.specs.Frames.{frame};
-ghost use Rattle.frames.specs.Outcomes as spec;
-ghost use Rattle.frames.specs.Outcomes.{end_with, outcome_of, sent};
+ghost use Rattle.frames.specs.{Frames.frame, Outcomes.{end_with, outcome_of, sent}};
 ghost use Rattle.frames.specs.Sessions.{Session, WritesFrames};
+ghost use Rattle.frames.specs.Outcomes as spec;
 ghost use Rattle.streams.specs.Moves.{AppendsLess};
 
 use crate::peer::{Answer, Peer};

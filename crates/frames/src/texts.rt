@@ -1,8 +1,6 @@
 //! The two replies that need no memory.
-ghost use Rattle.std.specs.Prelude.{OnOk, OnErr};
-ghost use Rattle.std.specs.Io.KnownBytes.{Appends};
-ghost use Rattle.frames.specs.Frames.{frame};
-ghost use Rattle.frames.specs.Texts.{closing_text, failed_text};
+ghost use Rattle.std.specs.{Prelude.{OnOk, OnErr}, Io.KnownBytes.Appends};
+ghost use Rattle.frames.specs.{Frames.frame, Texts.{closing_text, failed_text}};
 ghost use Rattle.streams.specs.Moves.{AppendsLess};
 
 use crate::frame::write_frame;

@@ -1,23 +1,17 @@
 -- An account without its deposits: what is done to it is done to what is left.
 use Rattle.std.proofs.Common.{◌≡◌, ℕ, Bool, true, false, cond, not, ◌&&◌, ◌==◌, List, [], ◌∷◌, ◌++◌, map, filter, Option, Some, None, refl, sym, ap, ◌∙◌, arith, eqb-true}
+use Rattle.std.proofs.lemmas.{Bool.Decides.nat_tests, List.Sums.sum_by-cons, Map.Views.any-filter_same}
 use Rattle.std.specs.declared.cmp.Ordering.TheVariants.{Less, Equal, Greater}
-use Rattle.std.proofs.lemmas.Bool.Decides.{nat_tests}
-use Rattle.std.proofs.lemmas.List.Sums.{sum_by-cons}
-use Rattle.std.proofs.lemmas.Map.Views.{any-filter_same}
-use Rattle.accounts.specs.declared.entries.LapseEntry.{LapseEntry}
-use Rattle.accounts.specs.declared.entries.LapseEntry.TheVariants.{Renewal, Start, Notice}
-use Rattle.accounts.specs.declared.line.LineKind.{LineKind}
-use Rattle.accounts.specs.declared.line.LineKind.TheVariants as kinds
+use Rattle.accounts.specs.declared.{entries.LapseEntry.{LapseEntry, TheVariants.{Renewal, Start, Notice}}, line.LineKind.LineKind}
 use Rattle.accounts.specs.Lines.{in_order, is_kind, is_on, kind_rank, maybe_number, numbers, roid_numbers, transfer_refunded, transfer_started}
+use Rattle.accounts.specs.declared.line.LineKind.TheVariants as kinds
 use Rattle.basis.specs.Bag.{add, bag_of, precedes, remade}
 use Rattle.basis.proofs.BagLaws.{filter-bag_of}
-use Rattle.lifecycle.specs.Changes.{changed, refunded_by}
-use Rattle.lifecycle.specs.Graces.{gives, graces, period_of, runs, runs_from}
+use Rattle.lifecycle.specs.{Changes.{changed, refunded_by}, Graces.{gives, graces, period_of, runs, runs_from}}
 use Rattle.policy.specs.declared.days.Period.{Period}
 use Rattle.isolation.proofs.Words.{is_some, nat_lt, slice_cmp, list_any, sum_by, is_le, nat_cmp, ordering_then, not-false, not-true, Account, Line, entered}
 use Rattle.isolation.proofs.Words.{renewal_line, with_lines, lines_in_order, AccountChange, Charge, RefundRunning, RefundTransfer, Lapse}
-use Rattle.isolation.proofs.Words.{RunningRefund, cents_back, given_back, years_back, Roid, PolicyRules, is_charge}
-use Rattle.isolation.proofs.Words.{without_deposits}
+use Rattle.isolation.proofs.Words.{RunningRefund, cents_back, given_back, years_back, Roid, PolicyRules, is_charge, without_deposits}
 
 -- ---- lists without what fails a test
 

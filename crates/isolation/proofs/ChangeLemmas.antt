@@ -2,8 +2,7 @@
 use Rattle.std.proofs.Common.{◌≡◌, ◌≢◌, ℕ, max, Bool, true, false, cond, ◌==◌, List, [], ◌∷◌, Option, Some, None, refl, sym, ap, subst, ◌∙◌, eqb-true}
 use Rattle.lifecycle.specs.Changes.{changed as account_changed}
 use Rattle.decisions.specs.declared.change.Change.TheVariants.{MoveClock, OpenAccount, PutContact, DropContact, PutDomain, DropDomain, PutHost, DropHost, RenameHost, LapseContact, LapseDomain, Post}
-use Rattle.isolation.proofs.AccountLemmas.{account-changed, account-entered, deposited-left}
-use Rattle.isolation.proofs.RedactionLemmas.{account-found}
+use Rattle.isolation.proofs.{AccountLemmas.{account-changed, account-entered, deposited-left}, RedactionLemmas.account-found}
 use Rattle.isolation.proofs.Words.{unwrap_or, nat_cmp_total, slice_cmp, nat_list_cmp_total, FinMap, get, insert, remove, nat_cmp-IsAntisymmetric, nat_cmp}
 use Rattle.isolation.proofs.Words.{Account, Line, Posting, empty_account, entered, map_values, names_apart, map_values-insert, map_values-remove}
 use Rattle.isolation.proofs.Words.{map_values-twice, AccountChange, Charge, Registry, Contact, Domain, Host, PolicyRules, Change, changed, changed_all}

@@ -3,19 +3,14 @@ use Rattle.std.proofs.Common.{◌≡◌, ◌≢◌, inl, inr, ℕ, ◌+◌, ◌*
 use Rattle.std.specs.Str.{bytes_eq}
 use Rattle.accounts.specs.declared.line.LineKind.TheVariants as lines
 use Rattle.accounts.specs.Lines.{is_same_roid}
-use Rattle.facts.specs.declared.facts.ContactFacts.{ContactFacts}
-use Rattle.facts.specs.declared.facts.DomainFacts.{DomainFacts}
-use Rattle.facts.specs.declared.facts.HostFacts.{HostFacts}
+use Rattle.facts.specs.declared.facts.{ContactFacts.ContactFacts, DomainFacts.DomainFacts, HostFacts.HostFacts}
 use Rattle.facts.specs.Facts.{contact_facts, contact_seen, domain_at, domain_facts, domain_facts_of, domain_seen, facts, host_facts, host_seen, lookups, or_else}
 use Rattle.lifecycle.specs.Turns.{turns}
 use Rattle.names.specs.RequestedName.{RequestedName, name_of}
 use Rattle.objects.specs.declared.roid.ObjectKind.TheVariants as kinds
 use Rattle.objects.specs.declared.status.Status.TheVariants.{PendingTransfer}
-use Rattle.protocol.specs.declared.command.Action.TheVariants.{ReportRestore}
-use Rattle.protocol.specs.declared.command.HostUpdate.{HostUpdate}
-use Rattle.protocol.specs.declared.command.NewContact.{NewContact}
-use Rattle.protocol.specs.declared.command.NewDomain.{NewDomain}
-use Rattle.protocol.specs.declared.command.NewHost.{NewHost}
+use Rattle.protocol.specs.declared.command.{Action.TheVariants.ReportRestore, HostUpdate.HostUpdate, NewContact.NewContact}
+use Rattle.protocol.specs.declared.command.{NewDomain.NewDomain, NewHost.NewHost}
 use Rattle.protocol.specs.declared.command.Request.TheVariants as requests
 use Rattle.protocol.specs.declared.transfer.TransferOp.TheVariants as ops
 use Rattle.decisions.specs.Decisions.{changes_of, charge, contact_changes, deleted_domain, deletion_at, deletion_changes, domain_changes, host_changes, new_contact, new_domain, new_host, new_roid, or_old, renewal_changes, renewed_domain, report_changes, restore_changes, restored_domain, restoring_domain, updated_contact, updated_domain}

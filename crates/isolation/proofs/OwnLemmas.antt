@@ -2,12 +2,10 @@
 -- for that, and is told the same.
 use Rattle.std.proofs.Common.{◌≡◌, ℕ, Bool, true, false, cond, not, ◌==◌, List, [], Option, Some, None, option_map, refl, sym, ap, ◌∙◌}
 use Rattle.lifecycle.specs.Graces.{graces}
-use Rattle.objects.specs.declared.grace.Graces.{Graces}
-use Rattle.objects.specs.declared.grace.Standing.{Standing}
+use Rattle.objects.specs.declared.grace.{Graces.Graces, Standing.Standing}
 use Rattle.decisions.proofs.ViewLemmas.{same_facts}
 use Rattle.isolation.specs.Public.{public_part}
-use Rattle.isolation.proofs.AccountLemmas.{graces-charges}
-use Rattle.isolation.proofs.RedactionLemmas.{account-left, same-clock, same-hosts, same-own}
+use Rattle.isolation.proofs.{AccountLemmas.graces-charges, RedactionLemmas.{account-left, same-clock, same-hosts, same-own}}
 use Rattle.isolation.proofs.Words.{slice_cmp, nat_list_cmp_total, FinMap, get, same_map, nat_cmp, and_parts, false_from_ne_true, not-true, true≢false}
 use Rattle.isolation.proofs.Words.{Account, map_values, names_apart, get-map_values, facts, Registry, account_of, standing_of, domain_sight, view_for}
 use Rattle.isolation.proofs.Words.{Contact, ContactFace, Domain, DomainFace, FullDomain, Seen, contact_face_of, face_of, authorizes, contact_as, domain_as}

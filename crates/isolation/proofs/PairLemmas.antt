@@ -1,8 +1,7 @@
 -- Two objects that are one but for what is redacted: what is seen of them, and what is put in their place.
 use Rattle.std.proofs.Common.{◌≡◌, ℕ, Bool, true, false, cond, ◌||◌, ◌==◌, List, [], ◌∷◌, Option, Some, None, option_and_then, option_map, refl, sym, ap, subst, ◌∙◌}
 use Rattle.rules.specs.Conditions.{is_anothers, is_authorized, last_seen}
-use Rattle.isolation.proofs.ChangeLemmas.{AreAlikeChanges, IsAlikeChange, same-changes}
-use Rattle.isolation.proofs.OwnLemmas.{standing-left}
+use Rattle.isolation.proofs.{ChangeLemmas.{AreAlikeChanges, IsAlikeChange, same-changes}, OwnLemmas.standing-left}
 use Rattle.isolation.proofs.RedactionLemmas.{same-contact, same-domain}
 use Rattle.isolation.proofs.Words.{get, and_from, false≢true, or_left, or_right, true≢false, same_Some, Registry, standing_of, domain_sight, Contact}
 use Rattle.isolation.proofs.Words.{ContactFace, Domain, DomainFace, FullDomain, Seen, Full, TransferParty, Public, Transfer, contact_face_of, face_of}

@@ -1,18 +1,17 @@
 -- What commands put in the place of an object is alike, where the object is one but for what is redacted.
 use Rattle.std.proofs.Common.{◌≡◌, ℕ, Bool, true, false, not, ◌&&◌, ◌==◌, List, [], Option, Some, None, refl, sym, ap, ◌∙◌}
-use Rattle.lifecycle.specs.Lapse.{contact_handed_over, gained, handed_over}
-use Rattle.lifecycle.specs.Transfers.{ended, requested}
+use Rattle.lifecycle.specs.{Lapse.{contact_handed_over, gained, handed_over}, Transfers.{ended, requested}}
 use Rattle.objects.specs.declared.transfer.TransferState.TheVariants.{ClientApproved}
 use Rattle.protocol.specs.declared.transfer.TransferOp.TheVariants as ops
 use Rattle.decisions.specs.Transfers.{contact_transferred_if, contact_with_transfer, domain_transferred_if, domain_with_transfer}
 use Rattle.isolation.proofs.ChangeLemmas.{AreAlikeChanges, put-contact-alike, put-domain-alike, same-change}
 use Rattle.isolation.proofs.RedactionLemmas.{left_out, left_out-twice, secret-twice, still-out, with_data, with_secret}
-use Rattle.names.specs.RequestedName.{RequestedName}
-use Rattle.protocol.specs.declared.command.Request.TheVariants.{TransferDomain}
 use Rattle.isolation.proofs.Words.{unwrap_or, not-true, not_from_false, or_from, or_parts, Facts, or_else, Contact, Postal, Domain, Roid, Transfer}
 use Rattle.isolation.proofs.Words.{is_party, is_incoming, is_pending, is_pending_state, PolicyRules, ContactUpdate, DomainUpdate, TransferOp}
 use Rattle.isolation.proofs.Words.{or_old, updated_contact, updated_domain, transfer_after, Objects, is_redacted, no_postal, redacted_contact}
 use Rattle.isolation.proofs.Words.{redacted_domain, blank_if}
+use Rattle.names.specs.RequestedName.{RequestedName}
+use Rattle.protocol.specs.declared.command.Request.TheVariants.{TransferDomain}
 
 -- ---- updates
 

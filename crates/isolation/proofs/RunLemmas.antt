@@ -4,9 +4,7 @@ use Rattle.model.specs.Lapse.{lapse, lapsed, now}
 use Rattle.model.proofs.LapseLaws.{lapses-on}
 use Rattle.isolation.specs.Laws.{AlikeListsShowTheSame, AlikeListsTellTheSame, CallsAreStepsOfTwo, none}
 use Rattle.isolation.specs.Runs.{Answer, Question, answer_to, effect_of, is_asked_by, left_after, left_by_question, answers_to}
-use Rattle.isolation.proofs.OwnLemmas.{same-public}
-use Rattle.isolation.proofs.StepLemmas.{pairs-step}
-use Rattle.isolation.proofs.RedactionLemmas.{same-clock}
+use Rattle.isolation.proofs.{OwnLemmas.same-public, StepLemmas.pairs-step, RedactionLemmas.same-clock}
 use Rattle.isolation.proofs.TimeLemmas.{lapse-alike, lapsed-alike}
 use Rattle.isolation.proofs.Words.{Registry, PolicyRules, AreAlikeInTurn, Pair, first, firsts, same, second, seconds, touched_by, Objects}
 use Rattle.isolation.proofs.Words.{AreOne, redacted}

@@ -4,20 +4,15 @@ use Rattle.model.specs.declared.object.Object.TheVariants as objects
 use Rattle.model.specs.Objects.{object_at}
 use Rattle.objects.specs.declared.roid.ObjectKind.{ObjectKind}
 use Rattle.objects.specs.declared.roid.ObjectKind.TheVariants as kinds
-use Rattle.protocol.specs.Codes.{is_accepted}
-use Rattle.protocol.specs.declared.code.Code.{Code}
-use Rattle.protocol.specs.declared.order.Order.{Order}
+use Rattle.protocol.specs.{Codes.is_accepted, declared.{code.Code.Code, order.{Order.Order, StatusOrder.StatusOrder}}, Orders.name_ordered}
 use Rattle.protocol.specs.declared.order.Order.TheVariants as orders
-use Rattle.protocol.specs.declared.order.StatusOrder.{StatusOrder}
-use Rattle.protocol.specs.Orders.{name_ordered}
 use Rattle.decisions.specs.Decisions.{changes_after, changes_of}
 use Rattle.decisions.specs.Orders.{cents_of, deposit_line, deposited, deposited_to, order_answer, order_changes, order_effect, ordered}
 use Rattle.decisions.proofs.AcceptedLemmas.{carried-out}
 use Rattle.rules.specs.Verdicts.{granted, judged, unless_refused}
 use Rattle.isolation.specs.Runs.{answer_to, command, date, dated, effect_of, inspection, is_asked_by, look_up, order, reply, shown}
 use Rattle.isolation.proofs.ChangeLemmas.{AreAlikeChanges, IsAlikeChange, changed-alike, deposited-alike, give-alike, put-contact-alike, put-domain-alike, same-change, same-changes}
-use Rattle.isolation.proofs.CommandLemmas.{hidden-request, same-request}
-use Rattle.isolation.proofs.OwnLemmas.{answer-alike, decision-alike, same-public}
+use Rattle.isolation.proofs.{CommandLemmas.{hidden-request, same-request}, OwnLemmas.{answer-alike, decision-alike, same-public}}
 use Rattle.isolation.proofs.PairLemmas.{equal-lists, no-changes, through}
 use Rattle.isolation.proofs.RedactionLemmas.{apart, left_out-twice, one-but-more, same-clock, same-contact, same-domain, same-hosts, secret-twice}
 use Rattle.isolation.proofs.Words.{slice_cmp, FinMap, get, list_any, nat_cmp, and_from, eq-eqb, false≢true, or_left, or_right, true≢false, same_Some, Facts}

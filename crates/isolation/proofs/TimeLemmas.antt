@@ -4,8 +4,7 @@ use Rattle.std.specs.Option.{option_map_or}
 use Rattle.basis.specs.Sweeps.{given, given_list, kept}
 use Rattle.basis.proofs.ApartLaws.{get-kept}
 use Rattle.lifecycle.specs.Lapse.{approved, completion, contact_completed, contact_moved, due_by, gained, lapse as lapse_domain, lapse_by, lapse_contact, leaves, lived, moved, purged, raised, renewals, turn}
-use Rattle.lifecycle.specs.Phases.{purge_at}
-use Rattle.lifecycle.specs.Turns.{turns}
+use Rattle.lifecycle.specs.{Phases.purge_at, Turns.turns}
 use Rattle.objects.specs.declared.domain.Deletion.{Deletion}
 use Rattle.model.specs.Lapse.{accounts_at, contacts_at, domains_at, lapse, lapsed, postings}
 use Rattle.isolation.proofs.ChangeLemmas.{Accounts, Named, account-alike, entered-alike}

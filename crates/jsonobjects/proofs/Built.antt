@@ -1,16 +1,10 @@
 -- Members that are put before all others.
 use Rattle.std.proofs.Common.{Bor, map, append_assoc, ◌≡◌, ℕ, Bool, true, false, List, [], ◌∷◌, ◌++◌, Option, Some, None, refl, ap, ◌∙◌}
-use Rattle.std.specs.Prelude.{◌&&◌}
 use Rattle.std.proofs.lemmas.List.{map-append}
-use Rattle.jsonobjects.specs.declared.item.Item.{Item}
-use Rattle.jsonobjects.specs.Item.{item_value}
-use Rattle.std.specs.List.{list_all}
-use Rattle.std.specs.Ordering.{nat_cmp, is_lt}
-use Rattle.std.specs.declared.cmp.Ordering.{Ordering}
-use Rattle.std.specs.declared.cmp.Ordering.TheVariants.{Less, Equal, Greater}
-use Rattle.std.specs.Cmp.Lexicographic.{slice_cmp}
+use Rattle.std.specs.{Prelude.◌&&◌, List.list_all, Ordering.{nat_cmp, is_lt}, declared.cmp.Ordering.Ordering}
+use Rattle.std.specs.{declared.cmp.Ordering.TheVariants.{Less, Equal, Greater}, Cmp.Lexicographic.slice_cmp}
+use Rattle.jsonobjects.specs.{declared.item.Item.Item, Item.item_value, Members.{members_with, are_in_order}}
 use Rattle.serde_json.specs.Data.{Data, Members, member, put}
-use Rattle.jsonobjects.specs.Members.{members_with, are_in_order}
 
 and_first : (a b : Bool) → (a && b) ≡ true → a ≡ true
 and_first true b e = refl

@@ -1,9 +1,7 @@
 -- Values without a float.
 use Rattle.std.proofs.Common.{◌≡◌, ℕ, Bool, false, List, [], ◌∷◌, Option, Some, None, refl, map}
 use Rattle.std.specs.Prelude.{◌||◌, IfSome, option_map}
-use Rattle.serde_json.specs.Data.{Data, string, array}
-use Rattle.serde_json.specs.View.{items_of}
-use Rattle.serde_json.specs.Written.{has_float, members_have_float}
+use Rattle.serde_json.specs.{Data.{Data, string, array}, View.items_of, Written.{has_float, members_have_float}}
 use Rattle.jsonobjects.specs.Members.{members_with, texts_value, moment_value}
 
 abbrev pub IsPlain : Data → Type 0

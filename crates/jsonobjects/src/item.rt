@@ -1,9 +1,7 @@
 //! What the members of a reply say.
 ghost use Rattle.std.specs.Prelude.{◌≡◌, IfOk, IsTrue, List, ℕ, map, option_map};
-ghost use Rattle.serde_json.specs.Data.{object};
-ghost use Rattle.serde_json.specs.View.{view};
-ghost use Rattle.objects.specs.Graces.{states_of};
-ghost use Rattle.objects.specs.StatusTexts.{rgp_text};
+ghost use Rattle.serde_json.specs.{Data.object, View.view};
+ghost use Rattle.objects.specs.{Graces.states_of, StatusTexts.rgp_text};
 ghost use Rattle.jsonobjects.specs.Item.{item_value};
 ghost use Rattle.jsonobjects.specs.Members.{are_in_order, members_with, texts_value, moment_value};
 

@@ -2,8 +2,7 @@
 ghost use Rattle.std.specs.Prelude.{◌≡◌, None};
 ghost use Rattle.listening.specs.Ports.{LeavesOne, ServesPorts};
 ghost use Rattle.listening.specs.inner.Log as spec;
-ghost use Rattle.operator.specs.Operations.{Operates};
-ghost use Rattle.operator.specs.declared.serving.RequestEnd.{RequestEnd};
+ghost use Rattle.operator.specs.{Operations.Operates, declared.serving.RequestEnd.RequestEnd};
 ghost use Rattle.books.specs.Book.{Follows};
 
 use crate::listener::serve_public;

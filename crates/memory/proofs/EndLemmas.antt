@@ -1,11 +1,9 @@
 -- How a script over a registry in memory ends.
 use Rattle.std.proofs.Common.{◌≡◌, ℕ, List, Some, None, IfSome, Ok, subst}
 use Rattle.std.specs.Prelude.{Option}
-use Rattle.policy.specs.Reading.{policy_of}
-use Rattle.policy.specs.Rules.{PolicyRules}
-use Rattle.script.specs.declared.exit.Exit.{Exit}
+use Rattle.policy.specs.{Reading.policy_of, Rules.PolicyRules}
+use Rattle.script.specs.{declared.exit.Exit.Exit, Runs.{EndsIn, EndsRun}}
 use Rattle.script.specs.declared.exit.Exit.TheVariants as exits
-use Rattle.script.specs.Runs.{EndsIn, EndsRun}
 use Rattle.memory.specs.Runs.{EndsByFile, EndsUnder, start}
 use Rattle.model.specs.Registry.{Registry}
 

@@ -4,35 +4,19 @@ use Rattle.std.proofs.lemmas.Bool.{and_parts}
 use Rattle.std.specs.List.{AllByRecursion}
 use Rattle.sqlite_trees.specs.declared.store.Shape.TheVariants as shape
 use Rattle.sqlite_trees.proofs.ListLemmas.{map-map}
-use Rattle.sqlite_trees.specs.Tree.{Trees}
-use Rattle.sqlite_trees.specs.View.{IsShaped}
-use Rattle.sqlite_schema.specs.declared.schema.Constraint.TheVariants.{Datatype, NotNull}
-use Rattle.sqlite_schema.specs.declared.schema.Schema.{Schema}
-use Rattle.sqlite_schema.specs.declared.schema.Table.{Table}
+use Rattle.sqlite_trees.specs.{Tree.Trees, View.IsShaped}
+use Rattle.sqlite_schema.specs.declared.schema.{Constraint.TheVariants.{Datatype, NotNull}, Schema.Schema, Table.Table}
 use Rattle.sqlite_catalog.specs.Listing.{IsSound}
-use Rattle.sqlite.specs.Effect.{Database, IsDatabase}
-use Rattle.sqlite.specs.State.{State, HasCleanDisk}
+use Rattle.sqlite.specs.{Effect.{Database, IsDatabase}, State.{State, HasCleanDisk}}
 use Rattle.sqltables.specs.Tables.{meta, account, contact, domain, host, address, link, message, transfer}
-use Rattle.sqltables.specs.inner.FirstTables.{first_line, first_registry}
-use Rattle.sqltables.specs.Meta.{metas}
-use Rattle.sqltables.specs.Account.{accounts}
-use Rattle.sqltables.specs.Contact.{contacts}
-use Rattle.sqltables.specs.Domain.{domains}
-use Rattle.sqltables.specs.Host.{hosts}
-use Rattle.sqltables.specs.Address.{addresses}
-use Rattle.sqltables.specs.Link.{links}
-use Rattle.sqltables.specs.Message.{messages}
-use Rattle.sqltables.specs.Transfer.{transfers}
+use Rattle.sqltables.specs.{inner.FirstTables.{first_line, first_registry}, Meta.metas, Account.accounts, Contact.contacts, Domain.domains}
+use Rattle.sqltables.specs.{Host.hosts, Address.addresses, Link.links, Message.messages, Transfer.transfers}
 use Rattle.sqltables.specs.Decoding.{meta_in, account_in, contact_in, domain_in, host_in, address_in, link_in, message_in, transfer_in}
-use Rattle.sqltables.specs.Adoption.{IsFound, IsInOrder}
-use Rattle.sqltables.proofs.AdoptedLemmas.{schema_once}
-use Rattle.sqltables.proofs.SoundLemmas.{after_key, holds}
-use Rattle.sqltables.proofs.StandingLemmas.{honest}
-use Rattle.oldrows.specs.inner.Adoption.{IsSeen}
-use Rattle.oldrows.specs.inner.Lines.{first_line_in, first_lines, without_end}
+use Rattle.sqltables.specs.{Adoption.{IsFound, IsInOrder}, Content.Content}
+use Rattle.sqltables.proofs.{AdoptedLemmas.schema_once, SoundLemmas.{after_key, holds}, StandingLemmas.honest}
+use Rattle.oldrows.specs.inner.{Adoption.IsSeen, Lines.{first_line_in, first_lines, without_end}}
 use Rattle.oldrows.specs.inner.Stored.{CoversOld, FitsOld, GuardsOld, IsLeftAsOld, IsOld, IsOldContent, IsSameOld, IsSeenAs, IsShapedAsOld, old_leaves, old_remains, old_contents, old_readiness, old_rows, as_found}
 use Rattle.oldrows.specs.Stored.{IsRead, OldState}
-use Rattle.sqltables.specs.Content.{Content}
 use Rattle.states.specs.States.{Has, Remains}
 use Rattle.states.proofs.LeavingLemmas.{has-alone}
 

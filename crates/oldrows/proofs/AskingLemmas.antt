@@ -1,26 +1,18 @@
 -- What a query finds, and what it leaves.
 use Rattle.std.proofs.Common.{◌≡◌, ◌&&◌, inl, inr, ℕ, Bool, true, false, List, [], map, IfOk, Result, Ok, Err, IsTrue, refl, sym, ap, subst, ◌∙◌}
 use Rattle.std.proofs.lemmas.Bool.{and_parts}
-use Rattle.sqlite_value.specs.declared.value.Value.TheVariants.{Null}
-use Rattle.sqlite_value.specs.Order.{Row}
+use Rattle.sqlite_value.specs.{declared.value.Value.TheVariants.Null, Order.Row}
 use Rattle.sqlite_trees.specs.Tree.{Trees}
-use Rattle.sqlite_schema.specs.declared.schema.Schema.{Schema}
-use Rattle.sqlite_schema.specs.declared.command.Command.TheVariants.{Select}
-use Rattle.sqlite.specs.declared.error.Error.{Error}
-use Rattle.sqlite.specs.Effect.{Database}
-use Rattle.sqlite.specs.Given.{IsPlain}
-use Rattle.sqlite.specs.Listing.{understood}
+use Rattle.sqlite_schema.specs.declared.{schema.Schema.Schema, command.Command.TheVariants.Select}
+use Rattle.sqlite.specs.{declared.error.Error.Error, Effect.Database, Given.IsPlain, Listing.understood}
 use Rattle.sqlite.specs.State.{CommitsShowing, State, FailsToQuery, HasCleanDisk, IsUnchanged, Shown, Survives}
 use Rattle.sqlite.proofs.Callers.{reads_as}
 use Rattle.sqlrows.specs.inner.Calls.{StaysOrUndoes}
-use Rattle.sqlrows.proofs.SelectLemmas.{same_command}
-use Rattle.sqlrows.proofs.SoundLemmas.{not_queried_open, queried_open, was_open}
+use Rattle.sqlrows.proofs.{SelectLemmas.same_command, SoundLemmas.{not_queried_open, queried_open, was_open}}
 use Rattle.sqlrows.proofs.StandLemmas.{commits_nothing, same_if_shown, stands_if_not_shown}
-use Rattle.sqltables.specs.Content.{Content}
-use Rattle.sqltables.specs.inner.FirstTables.{first_registry}
+use Rattle.sqltables.specs.{Content.Content, inner.FirstTables.first_registry}
 use Rattle.sqltables.proofs.StandingLemmas.{answered-open, clean-of, honest, leaves-no-more, was-honest}
-use Rattle.states.specs.declared.fault.BookFault.{BookFault}
-use Rattle.states.specs.States.{Remains}
+use Rattle.states.specs.{declared.fault.BookFault.BookFault, States.Remains}
 use Rattle.oldrows.specs.inner.Stored.{AgreesAsOld, Asks, FindsOld, FitsOld, GuardsOld, IsOld, old_contents, old_rows, as_found}
 use Rattle.oldrows.specs.Stored.{Answers, IsRead, OldState}
 use Rattle.oldrows.proofs.CopyLemmas.{read-on}

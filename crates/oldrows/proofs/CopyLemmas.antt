@@ -1,18 +1,13 @@
 -- Rows put one after another.
 use Rattle.std.proofs.Common.{◌≡◌, ℕ, ◌+◌, ◌<◌, ℤ, ◌<ℤ◌, true, get_or, length, List, [], ◌∷◌, ◌++◌, drop, Result, Ok, Err, refl, sym, ap, ap₂, ◌∙◌, add-one, append-nil, drop-cons}
 use Rattle.std.proofs.lemmas.List.{append_assoc}
-use Rattle.std.specs.List.{AllByRecursion}
-use Rattle.std.specs.Ordering.{match_ordering}
-use Rattle.std.specs.declared.cmp.Ordering.{Ordering}
+use Rattle.std.specs.{List.AllByRecursion, Ordering.match_ordering, declared.cmp.Ordering.Ordering}
 use Rattle.sqlite_keyed.specs.Keyed.{IsKeyedBy, insert_by}
-use Rattle.sqlite_keyed.proofs.KeyedLemmas.{Less-from_lt}
-use Rattle.sqlite_keyed.proofs.ListLemmas.{all-append, all_both, all_of}
-use Rattle.states.specs.declared.fault.BookFault.{BookFault}
-use Rattle.states.specs.States.{Makes, StateOf, Writes}
+use Rattle.sqlite_keyed.proofs.{KeyedLemmas.Less-from_lt, ListLemmas.{all-append, all_both, all_of}}
+use Rattle.states.specs.{declared.fault.BookFault.BookFault, States.{Makes, StateOf, Writes}}
 use Rattle.states.proofs.LeavingLemmas.{leaves-on}
 use Rattle.sqltables.specs.Content.{Content}
-use Rattle.oldrows.specs.Stored.{IsAsked, IsRead, OldState}
-use Rattle.oldrows.specs.inner.Copies.{Copies, IsCopyLeft, IsOnItsWay, IsToPut, put_rows}
+use Rattle.oldrows.specs.{Stored.{IsAsked, IsRead, OldState}, inner.Copies.{Copies, IsCopyLeft, IsOnItsWay, IsToPut, put_rows}}
 use Rattle.oldrows.specs.inner.Tables.{Table}
 
 -- ---- rows in the order of their numbers

@@ -1,32 +1,19 @@
 -- What the texts ask for.
 use Rattle.std.proofs.Common.{◌≡◌, ℕ, ap, map, sym, ◌∙◌, refl, List, [], ◌∷◌, true}
-use Rattle.sqlite_value.specs.declared.value.Value.TheVariants.{Null}
-use Rattle.sqlite_value.specs.Order.{Row}
+use Rattle.sqlite_value.specs.{declared.value.Value.TheVariants.Null, Order.Row}
 use Rattle.sqlite_sql.specs.Term.{Term, col, eval_all, lit}
 use Rattle.sqlite_trees.proofs.ListLemmas.{map-map}
 use Rattle.sqlite_keyed.proofs.ListLemmas.{filter_all, all_of}
-use Rattle.sqlite.specs.Effect.{Database}
-use Rattle.sqlite.specs.Listing.{understood}
+use Rattle.sqlite.specs.{Effect.Database, Listing.understood}
 use Rattle.sqlite_tied.specs.Compute.{everything}
-use Rattle.sqlrows.specs.Layouts.{Layout}
-use Rattle.sqlrows.specs.inner.Layouts.{Holds, IsSelect, select_query}
+use Rattle.sqlrows.specs.{Layouts.Layout, inner.Layouts.{Holds, IsSelect, select_query}}
 use Rattle.sqlrows.proofs.SelectLemmas.{selects}
-use Rattle.sqltables.specs.Content.{Content}
-use Rattle.sqltables.specs.inner.FirstTables.{first_registry}
-use Rattle.sqltables.specs.Meta.{meta_shown, metas}
-use Rattle.sqltables.specs.Account.{account_shown, accounts}
-use Rattle.sqltables.specs.Contact.{contact_shown, contacts}
-use Rattle.sqltables.specs.Domain.{domain_shown, domains}
-use Rattle.sqltables.specs.Host.{host_shown, hosts}
-use Rattle.sqltables.specs.Address.{address_shown, addresses}
-use Rattle.sqltables.specs.Link.{link_shown, links}
-use Rattle.sqltables.specs.Line.{line_shown}
-use Rattle.sqltables.specs.declared.line.LineRow.{LineRow}
-use Rattle.sqltables.specs.Message.{message_shown, messages}
-use Rattle.sqltables.specs.Transfer.{transfer_shown, transfers}
+use Rattle.sqltables.specs.{Content.Content, inner.FirstTables.first_registry, Meta.{meta_shown, metas}, Account.{account_shown, accounts}}
+use Rattle.sqltables.specs.{Contact.{contact_shown, contacts}, Domain.{domain_shown, domains}, Host.{host_shown, hosts}}
+use Rattle.sqltables.specs.{Address.{address_shown, addresses}, Link.{link_shown, links}, Line.line_shown, declared.line.LineRow.LineRow}
+use Rattle.sqltables.specs.{Message.{message_shown, messages}, Transfer.{transfer_shown, transfers}}
 use Rattle.sqltables.proofs.StatementLemmas.{all_columns}
-use Rattle.oldrows.specs.inner.Stored.{Asks, IsOld}
-use Rattle.oldrows.specs.inner.Lines.{first_lines, without_end}
+use Rattle.oldrows.specs.inner.{Stored.{Asks, IsOld}, Lines.{first_lines, without_end}}
 use Rattle.oldrows.specs.inner.Texts.{meta_query, account_query, contact_query, domain_query, host_query, address_query, link_query, line_query, message_query, transfer_query}
 
 -- a text that selects these columns of all rows of a table asks for the records that they show

@@ -1,10 +1,8 @@
 //! The rows of each table, as they are copied.
 ghost use Rattle.std.specs.Prelude.{◌≡◌, true, map, IfOk};
 ghost use Rattle.sqlite_keyed.specs.Keyed.{insert_by};
-ghost use Rattle.oldrows.specs.inner.Stored.{FindsOld};
-ghost use Rattle.oldrows.specs.inner.Tables.{Table};
+ghost use Rattle.oldrows.specs.{inner.{Stored.FindsOld, Tables.Table}, Copies.renumbered};
 ghost use Rattle.states.specs.States.{Makes};
-ghost use Rattle.oldrows.specs.Copies.{renumbered};
 
 use crate::reading::OldRows;
 use basis::list::Seq;

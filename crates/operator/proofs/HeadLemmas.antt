@@ -1,12 +1,9 @@
 -- What the parser of heads answers: heads within the limits, or none.
 use Rattle.std.proofs.Common.{◌≡◌, ℕ, ◌≤◌, Option, List, [], ◌∷◌, ◌++◌, length, drop, refl, ap, arith, sym, subst, ◌∙◌, map, take, length-take}
 use Rattle.std.proofs.lemmas.List.{length-map}
-use Rattle.httparse.specs.Grammar.{Field, print_request}
-use Rattle.httparse.specs.Spans.{AreFieldsAt, IsRequestOf, header_bytes, name_and_value, span_bytes}
-use Rattle.httparse.specs.declared.spans.HeaderSpan.{HeaderSpan}
-use Rattle.httparse.specs.declared.spans.RequestSpans.{RequestSpans}
-use Rattle.operator.specs.Heard.{StaysHeadless, most_head}
-use Rattle.operator.specs.Requests.{HasHeadAsking, IsLength, asked_by, bears, most_head_fields}
+use Rattle.httparse.specs.{Grammar.{Field, print_request}, Spans.{AreFieldsAt, IsRequestOf, header_bytes, name_and_value, span_bytes}}
+use Rattle.httparse.specs.declared.spans.{HeaderSpan.HeaderSpan, RequestSpans.RequestSpans}
+use Rattle.operator.specs.{Heard.{StaysHeadless, most_head}, Requests.{HasHeadAsking, IsLength, asked_by, bears, most_head_fields}}
 use Rattle.operator.specs.declared.request.Asked.{Asked}
 use Rattle.policy.specs.Rules.{PolicyRules}
 

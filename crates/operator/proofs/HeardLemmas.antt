@@ -1,11 +1,8 @@
 -- What is read of a request, and what it begins with.
 use Rattle.std.proofs.Common.{◌≡◌, ℕ, ◌≤◌, Option, Some, None, List, ◌++◌, drop, length, sym, ap, arith, ◌∙◌, subst, append_assoc}
-use Rattle.std.specs.Fmt.{option_append}
-use Rattle.std.specs.Io.KnownBytes.{Consumes}
+use Rattle.std.specs.{Fmt.option_append, Io.KnownBytes.Consumes}
 use Rattle.httparse.specs.Grammar.{print_request}
-use Rattle.operator.specs.declared.request.Asked.{Asked}
-use Rattle.operator.specs.Heard.{IsBodyOf, IsHeard, most_head}
-use Rattle.operator.specs.Requests.{HasHeadAsking}
+use Rattle.operator.specs.{declared.request.Asked.Asked, Heard.{IsBodyOf, IsHeard, most_head}, Requests.HasHeadAsking}
 use Rattle.policy.specs.Rules.{PolicyRules}
 
 -- what was read begins with a head, and so the input does, with what follows

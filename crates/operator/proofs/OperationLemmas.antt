@@ -3,16 +3,11 @@ use Rattle.std.proofs.Common.{◌⊎◌, ℕ, List, Option, inl, inr, refl}
 use Rattle.std.specs.Prelude.{Result, Ok, Err, IfErr, IfOk}
 use Rattle.operator.specs.Operations.{IsFailedOrder, IsMalformedOrder, outcome_of_exit}
 use Rattle.policy.specs.Rules.{PolicyRules}
-use Rattle.protocol.specs.declared.code.Code.{Code}
-use Rattle.protocol.specs.declared.order.OperatorRequest.{OperatorRequest}
+use Rattle.protocol.specs.declared.{code.Code.Code, order.OperatorRequest.OperatorRequest}
 use Rattle.model.specs.Registry.{Registry}
-use Rattle.registry.specs.Calls.{StepKeeps}
-use Rattle.registry.specs.Execution.{Fails, IsUnchanged, ShowsBacklog}
-use Rattle.registry.specs.declared.backlog.Backlog.{Backlog}
+use Rattle.registry.specs.{Calls.StepKeeps, Execution.{Fails, IsUnchanged, ShowsBacklog}, declared.backlog.Backlog.Backlog}
 use Rattle.registry.specs.declared.fault.Fault.{Fault}
-use Rattle.script.specs.Deposits.{IsAnsweredBy, PrintsBeginning}
-use Rattle.script.specs.Orders.{EndsUnanswered}
-use Rattle.script.specs.declared.exit.Exit.{Exit}
+use Rattle.script.specs.{Deposits.{IsAnsweredBy, PrintsBeginning}, Orders.EndsUnanswered, declared.exit.Exit.Exit}
 use Rattle.script.specs.declared.exit.Exit.TheVariants as exits
 use Rattle.server.proofs.PassingLemmas.{unchanged}
 use Rattle.books.specs.Book.{BookState, Stored}

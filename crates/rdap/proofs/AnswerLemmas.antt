@@ -2,10 +2,8 @@
 use Rattle.std.proofs.Common.{ℕ, List, ◌++◌, ap, sym, ◌∙◌, inl, inr}
 use Rattle.httparse.specs.Grammar.{RequestHead}
 use Rattle.rdap.proofs.HeadLemmas.{one_head, stays}
-use Rattle.rdap.specs.Answering.{AnswersAgree, Faces, IsAnswer, request_answer}
-use Rattle.rdap.specs.Heads.{IsDecided}
+use Rattle.rdap.specs.{Answering.{AnswersAgree, Faces, IsAnswer, request_answer}, Heads.IsDecided, Requests.request_of}
 use Rattle.policy.specs.Rules.{PolicyRules}
-use Rattle.rdap.specs.Requests.{request_of}
 
 pub one_answer : AnswersAgree
 one_answer p faces head one other (inl (h, has, is)) (inl (k, has_too, is_too)) =

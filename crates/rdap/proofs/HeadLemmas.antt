@@ -1,8 +1,7 @@
 -- Which bytes begin with no head, whatever follows.
 use Rattle.std.proofs.Common.{◌≡◌, ℕ, zero, suc, ◌<◌, ◌≤◌, List, [], ◌∷◌, ◌++◌, length, take, refl, ap, arith, sym, subst, ◌∙◌, append_assoc}
 use Rattle.std.proofs.lemmas.List.{append-nil, take-append-le, take_all}
-use Rattle.httparse.specs.Grammar.{HasNoRequest, MayBecomeRequest, RequestHead, print_request}
-use Rattle.httparse.specs.Spans.{RequestOverflows}
+use Rattle.httparse.specs.{Grammar.{HasNoRequest, MayBecomeRequest, RequestHead, print_request}, Spans.RequestOverflows}
 use Rattle.httparse.proofs.GrammarLemmas.{request_unique}
 use Rattle.rdap.specs.Heads.{HasHead, IsCut, NeverHasHead, most_bytes, most_fields}
 

@@ -1,21 +1,13 @@
 -- No body has a float.
 use Rattle.std.proofs.Common.{◌≡◌, ℕ, Bool, true, false, List, [], ◌∷◌, ◌++◌, Option, Some, None, refl, Result, Ok, Err, codes}
 use Rattle.std.specs.Prelude.{◌||◌, IfSome, map}
-use Rattle.serde_json.specs.Data.{Data, array}
-use Rattle.serde_json.specs.View.{items_of}
-use Rattle.serde_json.specs.Written.{has_float}
+use Rattle.serde_json.specs.{Data.{Data, array}, View.items_of, Written.has_float}
 use Rattle.jsonobjects.proofs.Floats.{IsPlain, items_plain, members_plain, texts}
-use Rattle.names.specs.Canonical.{unicode_of}
-use Rattle.names.specs.declared.fault.NameFault.{NameFault}
-use Rattle.names.specs.Reading.{or_syntax}
-use Rattle.objects.specs.declared.contact.ContactFace.{ContactFace}
-use Rattle.objects.specs.declared.domain.DomainFace.{DomainFace}
-use Rattle.objects.specs.declared.domain.Links.{Links}
-use Rattle.objects.specs.declared.host.HostFace.{HostFace}
+use Rattle.names.specs.{Canonical.unicode_of, declared.fault.NameFault.NameFault, Reading.or_syntax}
+use Rattle.objects.specs.declared.{contact.ContactFace.ContactFace, domain.{DomainFace.DomainFace, Links.Links}, host.HostFace.HostFace}
 use Rattle.objects.specs.Graces.{states_of}
 use Rattle.policy.specs.Rules.{PolicyRules, id_at}
-use Rattle.rdap.specs.declared.domain.Role.{Role}
-use Rattle.rdap.specs.declared.domain.Role.TheVariants.{Registrar}
+use Rattle.rdap.specs.declared.domain.Role.{Role, TheVariants.Registrar}
 use Rattle.rdap.specs.Bodies.{address_members, addresses_value, members_of_entity, entity_object, event_if_dated, events_value, nameserver_members, nameserver_value, of_version_4, of_version_6, text_if_valid, some_texts, contact_entity, contact_names, members_of_domain, domain_object, entities, members_of_host, host_object, registrar_entity, role_members, role_text, role_value, roles_of}
 use Rattle.rdap.specs.StatusWords.{status_words}
 

@@ -1,8 +1,7 @@
 -- Paths that are plain.
 use Rattle.std.proofs.Common.{rules, ◌≡◌, ℕ, zero, suc, Bool, true, false, ◌<◌, List, [], ◌∷◌, refl, slice_index}
-use Rattle.std.specs.Prelude.{◌&&◌}
-use Rattle.std.specs.Str.{IsUtf8}
 use Rattle.std.proofs.lemmas.Str.{IsUtf8-from_ascii}
+use Rattle.std.specs.{Prelude.◌&&◌, Str.IsUtf8}
 use Rattle.rdap.specs.Requests.{is_plain_byte, is_plain_path}
 
 and_first : (a b : Bool) → (a && b) ≡ true → a ≡ true

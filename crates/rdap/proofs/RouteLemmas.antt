@@ -1,27 +1,16 @@
 -- The route that is found for a path is the one that the definition of a request says.
 use Rattle.std.proofs.Common.{Bor, ◌≡◌, ℕ, zero, suc, ◌+◌, ◌-◌, ◌<◌, ◌≤◌, le_refl, List, [], ◌∷◌, ◌++◌, length, drop, take, Option, Some, None, Bool, true, false, cond, get_or, refl, sym, ap, subst, ◌∙◌, arith, nat_eq, ◌==◌, codes, ltb, leb}
-use Rattle.std.proofs.lemmas.Bool.Decides.{nat_tests}
-use Rattle.std.proofs.lemmas.List.{length-append, take-append-drop, take_all}
-use Rattle.std.proofs.lemmas.Slice.Eq.{bytes_eq-Decides}
-use Rattle.std.proofs.lemmas.Str.{IsCharBoundary-after_ascii, IsUtf8-drop}
-use Rattle.std.proofs.Math.Seq.{drop-append_seam}
-use Rattle.std.specs.Prelude.{MatchOption, ◌&&◌, ◌||◌, not, if◌then◌else◌, unwrap_or}
-use Rattle.std.specs.List.{list_all}
-use Rattle.std.specs.Str.{IsUtf8, bytes_eq}
+use Rattle.std.proofs.lemmas.{Bool.Decides.nat_tests, List.{length-append, take-append-drop, take_all}, Slice.Eq.bytes_eq-Decides}
+use Rattle.std.proofs.{lemmas.Str.{IsCharBoundary-after_ascii, IsUtf8-drop}, Math.Seq.drop-append_seam}
+use Rattle.std.specs.{Prelude.{MatchOption, ◌&&◌, ◌||◌, not, if◌then◌else◌, unwrap_or}, List.list_all, Str.{IsUtf8, bytes_eq}}
 use Rattle.http.specs.Token.{IsToken, is_token_byte}
-use Rattle.matchit.specs.Level.{IsText}
-use Rattle.matchit.specs.Params.{AllText, named, part_of, walk, wild_from, wild_stop}
-use Rattle.matchit.specs.Router.{RouteOf}
-use Rattle.matchit.specs.Rows.{RowsOf, catch_all_token, param_token}
+use Rattle.matchit.specs.{Level.IsText, Params.{AllText, named, part_of, walk, wild_from, wild_stop}, Router.RouteOf}
+use Rattle.matchit.specs.{Rows.{RowsOf, catch_all_token, param_token}, Seek.{first, or_else, param_step, seek, step}}
 use Rattle.matchit.specs.Seek as seeks
-use Rattle.matchit.specs.Seek.{first, or_else, param_step, seek, step}
 use Rattle.rdap.proofs.RequestLemmas.{plain_is_text}
 use Rattle.rdap.specs.Requests.{has_slash, is_segment, request_at, segment, segment_below}
-use Rattle.rdap.specs.Routes.{below, name_of, request_for, routes, fixed_route}
-use Rattle.rdap.specs.declared.request.Request.TheVariants.{Refused}
-use Rattle.rdap.specs.declared.wire.Outcome.TheVariants.{NotFound}
-use Rattle.rdap.specs.declared.routes.Kind.{Kind}
-use Rattle.rdap.specs.declared.routes.Kind.TheVariants.{Domain, Nameserver, Entity, Help}
+use Rattle.rdap.specs.{Routes.{below, name_of, request_for, routes, fixed_route}, declared.request.Request.TheVariants.Refused}
+use Rattle.rdap.specs.declared.{wire.Outcome.TheVariants.NotFound, routes.Kind.{Kind, TheVariants.{Domain, Nameserver, Entity, Help}}}
 
 abbrev Route : Type 0
 Route = RouteOf Kind

@@ -2,8 +2,7 @@
 use Rattle.std.proofs.Common.{◌≡◌, refl}
 use Rattle.std.specs.Fmt.{digits}
 use Rattle.http.specs.StatusCode.{status_text}
-use Rattle.rdap.specs.Answers.{code_and_reason, status_code}
-use Rattle.rdap.specs.declared.wire.Outcome.{Outcome}
+use Rattle.rdap.specs.{Answers.{code_and_reason, status_code}, declared.wire.Outcome.Outcome}
 use Rattle.rdap.specs.declared.wire.Outcome.TheVariants.{Found, BadRequest, NotFound, MethodNotAllowed}
 
 -- what is written of a code is the code and its reason

@@ -1,7 +1,6 @@
 //! What the bodies of answers share (RFC 9083, 4).
 ghost use Rattle.std.specs.Prelude.{◌≡◌, ◌++◌, IfOk, OnOk, map};
-ghost use Rattle.serde_json.specs.Data.{string};
-ghost use Rattle.serde_json.specs.View.{view};
+ghost use Rattle.serde_json.specs.{Data.string, View.view};
 ghost use Rattle.objects.specs.Roid.{roid_text};
 ghost use Rattle.jsonobjects.specs.Members.{texts_value};
 ghost use Rattle.rdap.specs.Bodies as spec;

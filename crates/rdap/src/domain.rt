@@ -1,7 +1,6 @@
 //! Domains (RFC 9083, 5.3).
 ghost use Rattle.std.specs.Prelude.{◌≡◌, ◌++◌, ◌∷◌, IfOk, OnOk, Some, filter, map};
-ghost use Rattle.serde_json.specs.Data.{array};
-ghost use Rattle.serde_json.specs.View.{view, items_of};
+ghost use Rattle.serde_json.specs.{Data.array, View.{view, items_of}};
 ghost use Rattle.policy.specs.Rules.{id_at};
 ghost use Rattle.rdap.specs.Bodies as spec;
 

@@ -3,18 +3,13 @@
 use Rattle.std.proofs.Common.{◌≡◌, ℕ, ◌≤◌, max, true, false, nat_lt, Result, Ok, Err, IfOk, Some, refl, sym, ap, ◌∙◌, arith}
 use Rattle.std.proofs.lemmas.Bool.Decides.{nat_tests}
 use Rattle.registry.proofs.Words.{BookState, Fault, IsGreetingStep, IsLookUp, IsOrderStep, IsRegistrar, IsSettlement, IsSound, IsStep, lapsed}
-use Rattle.registry.proofs.Words.{lapses-on, last_clock, LooksUp, Makes, PolicyRules, Registry, terms_of}
+use Rattle.registry.proofs.{Words.{lapses-on, last_clock, LooksUp, Makes, PolicyRules, Registry, terms_of}, CallsKept.call_kept}
 use Rattle.decisions.specs.Askable.{CanBeAsked}
 use Rattle.decisions.proofs.IsolationLemmas.{isolated}
-use Rattle.isolation.specs.Public.{public_part}
-use Rattle.isolation.specs.Runs.{code, command, date, dated, look_up, order, reply, shown}
-use Rattle.protocol.specs.declared.code.Code.{Code}
-use Rattle.protocol.specs.declared.command.Command.{Command}
-use Rattle.protocol.specs.declared.order.Order.{Order}
-use Rattle.protocol.specs.declared.reply.Reply.{Reply}
+use Rattle.isolation.specs.{Public.public_part, Runs.{code, command, date, dated, look_up, order, reply, shown}}
+use Rattle.protocol.specs.declared.{code.Code.Code, command.Command.Command, order.Order.Order, reply.Reply.Reply}
 use Rattle.registry.specs.Calls.{CallKeeps, LooksUpKeeping, StepKeeps}
 use Rattle.registry.specs.Execution.{Greets, Isolates, OrderSteps, Settles, Steps, last_call}
-use Rattle.registry.proofs.CallsKept.{call_kept}
 
 pub in_time : (moment : ℕ) → nat_lt last_call moment ≡ false → moment ≤ last_clock
 in_time moment early = grind (arith, nat_tests, early)

@@ -2,21 +2,15 @@
 use Rattle.std.proofs.Common.{◌≡◌, ℕ, ◌≤◌, max, true, Result, Ok, Err, IfOk, Some, refl, sym, ap, subst, ◌∙◌, arith}
 use Rattle.registry.proofs.Words.{BookFault, BookLeavesSame, BookStarts, BookState, BookStays, Fault, Follows, GivesUpTo, IsRegistrar, IsRegistry}
 use Rattle.registry.proofs.Words.{IsSound, KeepsStep, lapsed, lapsed-is-settled, last_clock, LeavesOldOrMade, Makes, Memory, NoRefusal, now}
-use Rattle.registry.proofs.Words.{order_effect, PolicyRules, Registry, Store, Stored, terms_of}
+use Rattle.registry.proofs.{Words.{order_effect, PolicyRules, Registry, Store, Stored, terms_of}, CrashLemmas.{gave_up_by, later}}
 use Rattle.model.specs.Money.{MoneyFollows}
 use Rattle.isolation.specs.Runs.{Answer, IsCall, Question, command, date, inspection, look_up, order}
 use Rattle.isolation.proofs.RunLemmas.{calls-are-steps-of-two}
 use Rattle.registry.specs.declared.fault.Fault.TheVariants as faults
-use Rattle.registry.specs.Calls.{CallKeeps, StepKeeps}
-use Rattle.registry.specs.Faults.{of_book}
-use Rattle.registry.specs.Money.{CallKeepsMoney}
-use Rattle.registry.specs.WellFormed.{CallKeepsWellFormed}
-use Rattle.decisions.specs.Askable.{CanBeAsked}
-use Rattle.decisions.specs.Steps.{effect}
-use Rattle.decisions.proofs.LapsedLemmas.{serial-lapsed}
-use Rattle.decisions.proofs.MoneyLaws.{money-effect-now, money-lapsed-now, money-order-now}
+use Rattle.registry.specs.{Calls.{CallKeeps, StepKeeps}, Faults.of_book, Money.CallKeepsMoney, WellFormed.CallKeepsWellFormed}
+use Rattle.decisions.specs.{Askable.CanBeAsked, Steps.effect}
+use Rattle.decisions.proofs.{LapsedLemmas.serial-lapsed, MoneyLaws.{money-effect-now, money-lapsed-now, money-order-now}}
 use Rattle.decisions.proofs.RegistryLemmas.{registry-effect, registry-lapsed, registry-now, registry-order}
-use Rattle.registry.proofs.CrashLemmas.{gave_up_by, later}
 
 -- ---- refusals stay counted
 

@@ -1,21 +1,16 @@
 -- A transaction in which what is due lapses.
 use Rattle.std.proofs.Common.{◌≡◌, ℕ, true, max, min, length, take, map, List, [], ◌∷◌, ◌++◌, Option, Some, None, refl, sym, ap, ◌∙◌, arith}
-use Rattle.std.proofs.lemmas.List.{length-take}
-use Rattle.std.proofs.lemmas.List.Sums.{fold-append}
+use Rattle.std.proofs.lemmas.List.{length-take, Sums.fold-append}
 use Rattle.registry.proofs.Words.{at, BookReads, BookState, BookStays, BookWrites, changed_all, Contact, Domain, Due, due_by, dues_lapsed, fold, get}
 use Rattle.registry.proofs.Words.{HasMoved, IsSettlement, IsWithin, lapse_contact, lapse_domain, now, object_lapsed, ObjectKind, option_map}
 use Rattle.registry.proofs.Words.{PolicyRules, posting_change, Registry, Stored, with_changes, with_contact_lapsed, with_domain_lapsed}
-use Rattle.registry.proofs.Words.{with_dues_lapsed}
-use Rattle.accounts.specs.declared.entries.Posting.{Posting}
-use Rattle.accounts.specs.Entries.{posted}
-use Rattle.model.specs.declared.object.Object.{Object}
+use Rattle.registry.proofs.{Words.with_dues_lapsed, LapsingLemmas.some-lapsed, StepLemmas.{only-read, within-on, written}}
+use Rattle.accounts.specs.{declared.entries.Posting.Posting, Entries.posted}
+use Rattle.model.specs.{declared.object.Object.Object, Objects.object_at}
 use Rattle.model.specs.declared.object.Object.TheVariants as objects
-use Rattle.model.specs.Objects.{object_at}
 use Rattle.objects.specs.declared.host.Host.{Host}
 use Rattle.objects.specs.declared.roid.ObjectKind.TheVariants as kinds
 use Rattle.registry.specs.inner.Posting.{HasLapsed, lapse_changes, lapse_postings}
-use Rattle.registry.proofs.LapsingLemmas.{some-lapsed}
-use Rattle.registry.proofs.StepLemmas.{only-read, within-on, written}
 
 -- ---- postings change accounts alone
 

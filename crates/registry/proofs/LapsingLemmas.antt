@@ -1,26 +1,20 @@
 -- What is due lapses one after another as the whole registry does.
 use Rattle.std.proofs.Common.{◌≡◌, ◌<◌, ◌⊎◌, inl, inr, ℕ, Bool, true, false, cond, ◌||◌, true≢false, List, [], ◌∷◌, filter, Option, Some, None, option_and_then, refl, sym, ap, ◌∙◌, arith}
 use Rattle.std.proofs.lemmas.Bool.Decides.{nat_tests}
-use Rattle.std.specs.BTreeSet.{insert_key}
-use Rattle.std.specs.FinMap.{IsAntisymmetric, find, get-entries}
-use Rattle.std.specs.declared.cmp.Ordering.{Ordering}
+use Rattle.std.specs.{BTreeSet.insert_key, FinMap.{IsAntisymmetric, find, get-entries}, declared.cmp.Ordering.Ordering}
 use Rattle.std.specs.declared.cmp.Ordering.TheVariants.{Less, Equal, Greater}
 use Rattle.registry.proofs.Words.{all-due-lapse-as-all, at, completes_at, Contact, Domain, Due, due_at, due_by, dues_lapsed, entries, get}
 use Rattle.registry.proofs.Words.{lapses-on-from-some, match_ordering, nat_cmp, nat_cmp-IsAntisymmetric, nat_list_cmp_total, now, object_lapsed}
 use Rattle.registry.proofs.Words.{ObjectKind, ordering_then, PolicyRules, Registry, slice_cmp, some-lapse-together, transfer_due_by}
 use Rattle.accounts.specs.declared.message.Subject.TheVariants as subjects
-use Rattle.basis.proofs.ApartLaws.{itself, tied}
-use Rattle.basis.proofs.MapLemmas.{names_apart}
-use Rattle.lifecycle.specs.Periods.{passed}
+use Rattle.basis.proofs.{ApartLaws.{itself, tied}, MapLemmas.names_apart}
+use Rattle.lifecycle.specs.{Periods.passed, DueObjects.{contact_due, domain_due, due_cmp, due_then, found_due, kind_rank, with_due}}
 use Rattle.model.specs.Lapse.{Choice, accounts_at, either, is_named, lapse, lapse_some, nothing, only}
-use Rattle.model.proofs.OneByOneLemmas.{one-lapses}
-use Rattle.model.proofs.SweepLemmas.{swept-still}
+use Rattle.model.proofs.{OneByOneLemmas.one-lapses, SweepLemmas.swept-still}
 use Rattle.objects.specs.declared.roid.ObjectKind.TheVariants as kinds
 use Rattle.objects.specs.declared.transfer.Transfer.{Transfer}
-use Rattle.concerns.specs.declared.given.Names.{Names}
-use Rattle.concerns.specs.Concerns.{HasConcerned, concerned}
+use Rattle.concerns.specs.{declared.given.Names.Names, Concerns.{HasConcerned, concerned}}
 use Rattle.concerns.specs.DueFor as dues
-use Rattle.lifecycle.specs.DueObjects.{contact_due, domain_due, due_cmp, due_then, found_due, kind_rank, with_due}
 use Rattle.states.specs.States.{Has}
 
 -- ---- what is due lapses one after another as it does together

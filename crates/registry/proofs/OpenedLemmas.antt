@@ -1,35 +1,23 @@
 -- What is opened is a registry of the policy.
 use Rattle.std.proofs.Common.{◌≡◌, ◌↔◌, ◌⊎◌, inl, inr, ⊎_elim, ℕ, zero, suc, ◌+◌, ◌≤◌, Bool, true, false, cond, List, [], ◌∷◌, ◌++◌, length, Option, Some, None, IsSome, is_some, refl, sym, ap, subst, ◌∙◌, arith, length-append}
-use Rattle.std.specs.List.{All}
 use Rattle.std.proofs.lemmas.List.Elements.{All-nil}
-use Rattle.std.specs.declared.cmp.Ordering.{Ordering}
-use Rattle.std.specs.Cmp.{nat_cmp_total}
+use Rattle.std.specs.{List.All, declared.cmp.Ordering.Ordering, Cmp.nat_cmp_total}
 use Rattle.registry.proofs.Words.{account_of, blank, BookState, changed, changed_all, Continues, DaysContinue, empty, eq_by_cmp, FinMap, fold, get}
 use Rattle.registry.proofs.Words.{get-empty, HasCome, IsLineOf, IsRegistrar, IsRegistry, lapse_contact, length_of, nat_cmp, nat_cmp-IsAntisymmetric}
 use Rattle.registry.proofs.Words.{now, PolicyRules, Registry, slice_cmp, Stored, terms_of, unwrap_or}
-use Rattle.accounts.specs.declared.account.Account.{Account}
-use Rattle.accounts.specs.declared.entries.Posting.{Posting}
-use Rattle.accounts.specs.Account.{empty_account}
-use Rattle.accounts.specs.Entries.{entered, posted}
+use Rattle.accounts.specs.{declared.{account.Account.Account, entries.Posting.Posting}, Account.empty_account, Entries.{entered, posted}}
 use Rattle.basis.specs.Sweeps.{change_at}
 use Rattle.basis.proofs.ChangeLaws.{change_at-commutes}
 use Rattle.lifecycle.specs.Lapse.{lapse}
-use Rattle.policy.proofs.ScheduleLemmas.{continues-itself, in-force-same}
-use Rattle.policy.proofs.TermsLemmas.{continues-Decides}
+use Rattle.policy.proofs.{ScheduleLemmas.{continues-itself, in-force-same}, TermsLemmas.continues-Decides}
 use Rattle.registry.specs.Opening.{KeepsLengths, Opens, OpensAsItWas, continues_earlier, goes_on, opened, openings}
 use Rattle.registry.specs.WellFormed.{HoldsRegistry, OpensWellFormed}
-use Rattle.decisions.specs.declared.change.Change.{Change}
-use Rattle.decisions.specs.declared.change.Change.TheVariants.{OpenAccount}
-use Rattle.decisions.specs.Changes.{itself}
-use Rattle.decisions.proofs.GrowthLemmas.{Grows}
-use Rattle.decisions.proofs.KeepingLemmas.{kept-grown, placed}
-use Rattle.decisions.proofs.LineKeepingLemmas.{lines-domains}
-use Rattle.decisions.proofs.RegistryLemmas.{registry-now}
-use Rattle.decisions.proofs.ViewLemmas.{account_of-with_account}
+use Rattle.decisions.specs.{declared.change.Change.{Change, TheVariants.OpenAccount}, Changes.itself}
+use Rattle.decisions.proofs.{GrowthLemmas.Grows, KeepingLemmas.{kept-grown, placed}, LineKeepingLemmas.lines-domains}
+use Rattle.decisions.proofs.{RegistryLemmas.registry-now, ViewLemmas.account_of-with_account}
 use Rattle.names.specs.Zone.{ZoneRules}
-use Rattle.model.specs.Lapse.{accounts_at, postings}
+use Rattle.model.specs.{Lapse.{accounts_at, postings}, Shapes.HasShapes}
 use Rattle.model.proofs.TermsLemmas.{AgreeUntil, same-lapse}
-use Rattle.model.specs.Shapes.{HasShapes}
 
 -- ---- the accounts, once those of the first n registrars are open
 

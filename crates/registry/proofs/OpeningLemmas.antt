@@ -1,14 +1,11 @@
 -- Accounts are opened one after another, and a book once it is known to be ours.
 use Rattle.std.proofs.Common.{◌≡◌, ◌≢◌, ℕ, suc, ◌+◌, true, false, cond, Result, Ok, Err, [], ◌∷◌, ◌++◌, refl, sym, ap, ◌∙◌, arith}
 use Rattle.registry.proofs.Words.{BookFinds, BookReads, BookState, Follows, Memory, OpensAny, OpensOurs, PolicyRules, Store, terms_of}
+use Rattle.registry.proofs.{CallsKept.{begun, follows-on}, CrashLemmas.refused_later, StepLemmas.{LeadsHome, back-later, gave-up-later}}
 use Rattle.registry.specs.declared.fault.OpenFault.{OpenFault}
-use Rattle.registry.specs.declared.fault.OpenFault.TheVariants as refusals
 use Rattle.registry.specs.Opening.{IsOthers, IsOurs, Opens, Refuses, RefusesOurs, goes_on, opened, openings}
-use Rattle.registry.proofs.CallsKept.{begun, follows-on}
-use Rattle.registry.proofs.CrashLemmas.{refused_later}
-use Rattle.registry.proofs.StepLemmas.{LeadsHome, back-later, gave-up-later}
-use Rattle.states.specs.declared.readiness.Ready.{Ready}
-use Rattle.states.specs.declared.readiness.Ready.TheVariants.{Other}
+use Rattle.registry.specs.declared.fault.OpenFault.TheVariants as refusals
+use Rattle.states.specs.declared.readiness.Ready.{Ready, TheVariants.Other}
 use Rattle.decisions.specs.declared.change.Change.TheVariants.{OpenAccount}
 
 pub openings_zero : openings 0 ≡ []

@@ -4,27 +4,18 @@ use Rattle.registry.proofs.Words.{account_of, AreChangesMade, at, BookFault, Boo
 use Rattle.registry.proofs.Words.{due_at_name, dues_lapsed, HasMoved, IsGreetingStep, IsLookUp, IsOrderCarriedOut, IsOrderStep, IsPrepared, IsStep}
 use Rattle.registry.proofs.Words.{IsWithin, lapsed, lapses-on, lapsing, now, ObjectKind, order_answer, order_effect, PolicyRules, Registry}
 use Rattle.registry.proofs.Words.{status_at, Stored, with_dues_lapsed, with_lapsed, Works}
-use Rattle.concerns.specs.Concerns.{IsSettledIn, concerned}
-use Rattle.concerns.specs.ConcernLaws.{IsSettledFor}
-use Rattle.concerns.specs.Names.{named_by}
-use Rattle.concerns.proofs.CommandLemmas.{answer-now, effect-now}
-use Rattle.concerns.proofs.ConcernLemmas.{caught-up}
+use Rattle.registry.proofs.{LapsingLemmas.{all-lapsed, chosen, each-as-some, has-concerned, some-lapsed}, StepLemmas.{within-on, written}}
+use Rattle.concerns.specs.{Concerns.{IsSettledIn, concerned}, ConcernLaws.IsSettledFor, Names.named_by, DueFor.due_for}
+use Rattle.concerns.proofs.{CommandLemmas.{answer-now, effect-now}, ConcernLemmas.caught-up}
 use Rattle.concerns.proofs.OrderLemmas.{deposit-effect-now, nothing-due, status-answer-now, status-effect-now}
 use Rattle.model.specs.Lapse.{lapse}
 use Rattle.facts.specs.Facts.{facts}
-use Rattle.protocol.specs.declared.code.Code.{Code}
-use Rattle.protocol.specs.declared.command.Command.{Command}
-use Rattle.protocol.specs.declared.order.Order.TheVariants as orders
-use Rattle.protocol.specs.declared.order.StatusOrder.{StatusOrder}
-use Rattle.protocol.specs.declared.reply.Reply.{Reply}
+use Rattle.protocol.specs.declared.{code.Code.Code, command.Command.Command, order.StatusOrder.StatusOrder, reply.Reply.Reply}
 use Rattle.protocol.specs.Orders.{name_ordered}
+use Rattle.protocol.specs.declared.order.Order.TheVariants as orders
 use Rattle.registry.specs.declared.command.Prepared.{Prepared}
 use Rattle.registry.specs.inner.Passing.{Extent, IsPassed, IsSettledAs, about_named, concerning, due_in, everything, nothing}
-use Rattle.registry.proofs.LapsingLemmas.{all-lapsed, chosen, each-as-some, has-concerned, some-lapsed}
-use Rattle.registry.proofs.StepLemmas.{within-on, written}
-use Rattle.decisions.specs.Decisions.{decided}
-use Rattle.decisions.specs.Steps.{answer, effect, reply_of}
-use Rattle.concerns.specs.DueFor.{due_for}
+use Rattle.decisions.specs.{Decisions.decided, Steps.{answer, effect, reply_of}}
 
 -- ---- of a registry
 

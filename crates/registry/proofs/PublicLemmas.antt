@@ -9,20 +9,10 @@ use Rattle.facts.specs.Facts.{is_inside, superordinate_of_domain}
 use Rattle.isolation.specs.Public.{PublicPart, public_part}
 use Rattle.model.specs.Zone.{delegations, glue_at, own_hosts, zone_data}
 use Rattle.names.specs.Zone.{ZoneRules, last_two_of}
-use Rattle.objects.specs.declared.contact.ContactFace.{ContactFace}
-use Rattle.objects.specs.declared.domain.DomainFace.{DomainFace}
-use Rattle.objects.specs.declared.domain.Links.{Links}
-use Rattle.objects.specs.declared.host.Host.{Host}
-use Rattle.objects.specs.declared.host.HostFace.{HostFace}
-use Rattle.objects.specs.declared.status.Status.TheVariants.{ClientHold, PendingDelete, ServerHold}
-use Rattle.objects.specs.declared.zone.Delegation.{Delegation}
-use Rattle.objects.specs.declared.zone.Glue.{Glue}
-use Rattle.objects.specs.declared.zone.ZoneData.{ZoneData}
-use Rattle.objects.specs.Contacts.{contact_face_of}
-use Rattle.objects.specs.Delegations.{delegation_of}
-use Rattle.objects.specs.Domains.{shows}
-use Rattle.objects.specs.Hosts.{host_face_of}
-use Rattle.objects.specs.Links.{names_contact, names_host}
+use Rattle.objects.specs.declared.{contact.ContactFace.ContactFace, domain.{DomainFace.DomainFace, Links.Links}, host.Host.Host}
+use Rattle.objects.specs.declared.{host.HostFace.HostFace, status.Status.TheVariants.{ClientHold, PendingDelete, ServerHold}}
+use Rattle.objects.specs.{declared.zone.{Delegation.Delegation, Glue.Glue, ZoneData.ZoneData}, Contacts.contact_face_of}
+use Rattle.objects.specs.{Delegations.delegation_of, Domains.shows, Hosts.host_face_of, Links.{names_contact, names_host}}
 use Rattle.objects.specs.Statuses.{has_status}
 use Rattle.objects.proofs.StatusLemmas.{has_status-filter}
 use Rattle.policy.proofs.TextLemmas.{list_any_of_map}

@@ -1,8 +1,7 @@
 -- One step in a transaction after another.
 use Rattle.std.proofs.Common.{◌≡◌, ◌<◌, ◌⊎◌, true, cond, Result, Ok, Err, sym, subst, ap, ◌∙◌}
 use Rattle.registry.proofs.Words.{BookFault, BookFinds, BookLeavesSame, BookReads, BookState, BookStays, BookWrites, Follows, GivesUp, home, IsBack}
-use Rattle.registry.proofs.Words.{IsWithin, Memory, NoRefusal, Registry, Store, Stored, WentBack, Works}
-use Rattle.registry.proofs.CallsKept.{begun, follows-on}
+use Rattle.registry.proofs.{Words.{IsWithin, Memory, NoRefusal, Registry, Store, Stored, WentBack, Works}, CallsKept.{begun, follows-on}}
 
 leaves-on : (old mid new : BookState) → BookLeavesSame old mid → BookLeavesSame mid new → BookLeavesSame old new
 leaves-on old mid new first then = record {

@@ -1,7 +1,5 @@
 //! What holds of each command that comes, since the types of its values keep it.
-ghost use Rattle.std.specs.Prelude.{◌≤◌};
-ghost use Rattle.std.specs.List.{slice_get};
-ghost use Rattle.std.specs.Option.{IfSome};
+ghost use Rattle.std.specs.{Prelude.◌≤◌, List.slice_get, Option.IfSome};
 ghost use Rattle.names.specs.Canonical.{IsCanonical};
 ghost use Rattle.protocol.specs.Requests.{asks_of, domains_asked, transfer_years};
 ghost use Rattle.decisions.specs.Askable.{CanBeAsked};

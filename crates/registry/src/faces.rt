@@ -5,10 +5,9 @@ ghost use Rattle.std.specs.Prelude.{Some};
 ghost use Rattle.concerns.specs.Names.{named_by};
 ghost use Rattle.objects.specs.declared.roid.ObjectKind.TheVariants as kinds;
 ghost use Rattle.registry.specs.Faces.{IsLookUp, balance_command};
-ghost use Rattle.registry.specs.inner.FaceLaws as laws;
 ghost use Rattle.registry.specs.inner.Passing.{about, concerning, everything, lapsing};
-ghost use Rattle.model.specs.Registry.{account_of};
-ghost use Rattle.model.specs.Zone.{zone_data};
+ghost use Rattle.registry.specs.inner.FaceLaws as laws;
+ghost use Rattle.model.specs.{Registry.account_of, Zone.zone_data};
 ghost use Rattle.books.specs.Faces.{contact_face_at, domain_face_at, host_face_at};
 
 use crate::passing::{Scope, pass};

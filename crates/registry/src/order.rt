@@ -1,9 +1,8 @@
 //! How an order of the operator is carried out.
 ghost use Rattle.std.specs.Prelude.{◌≡◌, true, option_and_then};
-ghost use Rattle.registry.specs.Execution.{IsOrderStep};
-ghost use Rattle.protocol.specs.declared.order.Order.TheVariants as orders;
-ghost use Rattle.registry.specs.inner.Passing.{status_at};
+ghost use Rattle.registry.specs.{Execution.IsOrderStep, inner.Passing.status_at};
 ghost use Rattle.registry.specs.inner.Steps.{IsOrderCarriedOut, Works};
+ghost use Rattle.protocol.specs.declared.order.Order.TheVariants as orders;
 ghost use Rattle.decisions.specs.Orders.{deposit_decision};
 ghost use Rattle.books.specs.Book.{BookFinds};
 ghost use Rattle.model.specs.Objects.{object_at};

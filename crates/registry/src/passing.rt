@@ -1,11 +1,9 @@
 //! How time passes in an open transaction: what somebody asks for lapses, and all else that is due
 //! stays behind the clock until it is asked for or settled.
 ghost use Rattle.std.specs.Prelude.{◌≡◌, true};
-ghost use Rattle.registry.specs.Faces.{balance_command};
-ghost use Rattle.registry.specs.Lapsing.{with_dues_lapsed};
+ghost use Rattle.registry.specs.{Faces.balance_command, Lapsing.with_dues_lapsed};
+ghost use Rattle.registry.specs.inner.{Passing.{IsPassed, extent_of}, Steps.Works};
 ghost use Rattle.registry.specs.inner.Passing as spec;
-ghost use Rattle.registry.specs.inner.Passing.{IsPassed, extent_of};
-ghost use Rattle.registry.specs.inner.Steps.{Works};
 ghost use Rattle.books.specs.Book.{BookFinds, BookMakes};
 
 use crate::lapse::lapse_each;

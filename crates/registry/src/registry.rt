@@ -1,26 +1,20 @@
 //! The registry.
 ghost use Rattle.std.specs.Prelude.{◌≡◌, ◌≢◌, ◌<◌, nat_lt, true, false, ◌↔◌};
-ghost use Rattle.std.specs.Prelude.{IfOk, IfErr, Err, Some};
+ghost use Rattle.std.specs.{Prelude.{IfOk, IfErr, Err, Some}, Coded.codes};
 ghost use Rattle.std.proofs.Props.{props};
-ghost use Rattle.std.specs.Coded.{codes};
 ghost use Rattle.basis.specs.Sets.{names_code};
-ghost use Rattle.policy.specs.Rules.{IsRegistrar, IsSound};
-ghost use Rattle.policy.specs.Terms.{terms_of};
+ghost use Rattle.policy.specs.{Rules.{IsRegistrar, IsSound}, Terms.terms_of};
 ghost use Rattle.isolation.specs.Runs as two_runs;
 ghost use Rattle.registry.specs.Calls.{CallKeeps, IsOpenedAs, IsRefused, LooksUpKeeping, StepKeeps};
 ghost use Rattle.registry.specs.Crashes.{Makes};
 ghost use Rattle.registry.specs.Execution.{Fails, Greets, Isolates, OrderSteps, Settles, Steps};
-ghost use Rattle.registry.specs.Execution.{IsBacklog, ShowsBacklog};
-ghost use Rattle.registry.specs.Execution.{last_call};
+ghost use Rattle.registry.specs.Execution.{IsBacklog, ShowsBacklog, last_call};
 ghost use Rattle.registry.specs.Execution.{IsGreetingStep, IsOrderStep, IsSettlement, IsStep};
-ghost use Rattle.registry.specs.Faces.{IsLookUp, LooksUp};
-ghost use Rattle.registry.specs.Faces.{lapsing_all, lapsing_at, lapsing_of};
-ghost use Rattle.registry.specs.inner.Passing.{lapsing};
-ghost use Rattle.objects.specs.declared.roid.ObjectKind.TheVariants as kinds;
-ghost use Rattle.registry.specs.Opening.{KeepsLengths, OpensAsItWas};
+ghost use Rattle.registry.specs.Faces.{IsLookUp, LooksUp, lapsing_all, lapsing_at, lapsing_of};
+ghost use Rattle.registry.specs.{inner.Passing.lapsing, Opening.{KeepsLengths, OpensAsItWas}};
 ghost use Rattle.registry.specs.Sound.{BeginAfter-prop};
-ghost use Rattle.model.specs.Registry.{account_of};
-ghost use Rattle.model.specs.Zone.{zone_data};
+ghost use Rattle.objects.specs.declared.roid.ObjectKind.TheVariants as kinds;
+ghost use Rattle.model.specs.{Registry.account_of, Zone.zone_data};
 ghost use Rattle.books.specs.Faces.{contact_face_at, domain_face_at, host_face_at};
 
 use crate::askable::show_can_be_asked;

@@ -2,21 +2,14 @@
 use Rattle.std.proofs.Common.{◌≡◌, ◌⊎◌, inl, inr, ⊎_elim, Bool, true, false, List, [], ◌∷◌, ◌++◌, Some, Result, Ok, Err, IfOk, OnOk, cond, refl, sym, ap, subst, ◌∙◌}
 use Rattle.std.proofs.Math.Logic.{∥∥₁_map, ∥∥₁_map₂}
 use Rattle.model.specs.Registry.{Registry}
-use Rattle.policy.specs.Rules.{PolicyRules}
-use Rattle.policy.specs.declared.terms.Terms.{Terms}
-use Rattle.policy.specs.Terms.{terms_of}
-use Rattle.registry.specs.declared.fault.Fault.{Fault}
-use Rattle.registry.specs.declared.fault.Fault.TheVariants as faults
-use Rattle.registry.specs.declared.fault.OpenFault.{OpenFault}
-use Rattle.registry.specs.declared.fault.OpenFault.TheVariants as refusals
-use Rattle.registry.specs.Crashes.{Makes, RefusedTo}
-use Rattle.registry.specs.Execution.{SameTerms}
+use Rattle.policy.specs.{Rules.PolicyRules, declared.terms.Terms.Terms, Terms.terms_of}
+use Rattle.registry.specs.{declared.fault.{Fault.Fault, OpenFault.OpenFault}, Crashes.{Makes, RefusedTo}, Execution.SameTerms}
 use Rattle.registry.specs.Opening.{Refuses}
+use Rattle.registry.specs.declared.fault.Fault.TheVariants as faults
+use Rattle.registry.specs.declared.fault.OpenFault.TheVariants as refusals
 use Rattle.books.specs.Book.{BookState, Follows, LeavesItself, LeavesOldOrMade, Stored, may_leave}
 use Rattle.books.specs.Reopening.{IsBook, IsFound, IsFoundAgain, LeavesFound}
-use Rattle.states.specs.declared.readiness.Ready.{Ready}
-use Rattle.states.specs.declared.readiness.Ready.TheVariants.{Empty, Used, Other}
-use Rattle.states.specs.States.{Has, Remains}
+use Rattle.states.specs.{declared.readiness.Ready.{Ready, TheVariants.{Empty, Used, Other}}, States.{Has, Remains}}
 use Rattle.runs.specs.Crashes.{Call, Event, AreMade, Happen, Happened, Happens, ComeTo, CallLeadsTo, WereMade, answered, asking, crash, gave_up, opening, refused, settling}
 use Rattle.runs.specs.CrashLaws.{CrashesLeaveRuns, CrashesLeftRuns, EventsGoOn, IsCarriedOut, TakenLeaveFound, event_of, refusal_event}
 

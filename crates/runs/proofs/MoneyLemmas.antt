@@ -1,15 +1,10 @@
 -- Runs leave well formed registries, and their money follows.
 use Rattle.std.proofs.Common.{◌≤◌, ℕ, List, [], ◌∷◌, sym, ap, subst, arith}
-use Rattle.model.specs.Lapse.{now}
-use Rattle.model.specs.Money.{MoneyFollows}
-use Rattle.model.specs.MoneyLaws.{AreCalls}
-use Rattle.model.specs.Registry.{Registry}
-use Rattle.model.specs.WellFormed.{IsRegistry, last_clock}
+use Rattle.model.specs.{Lapse.now, Money.MoneyFollows, MoneyLaws.AreCalls, Registry.Registry, WellFormed.{IsRegistry, last_clock}}
 use Rattle.model.proofs.MoneyLaws.{money-follows-over}
 use Rattle.policy.specs.Rules.{PolicyRules, IsSound}
 use Rattle.registry.proofs.CallsKept.{formed, paid}
-use Rattle.decisions.proofs.MoneyLaws.{money-lapsed}
-use Rattle.decisions.proofs.RegistryLemmas.{registry-lapsed}
+use Rattle.decisions.proofs.{MoneyLaws.money-lapsed, RegistryLemmas.registry-lapsed}
 use Rattle.isolation.specs.Runs.{Answer, IsCall, Question, command, date, inspection, look_up, order}
 use Rattle.runs.specs.Runs.{Taken, RunTurn, AreTurns, IsAskedIn, IsRunTurn, call, calls_of, moment_of, settlement}
 use Rattle.runs.specs.RunLaws.{RunsKeepMoney, RunsKeepRegistries}

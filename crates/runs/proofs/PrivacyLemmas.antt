@@ -1,14 +1,11 @@
 -- Runs of alike lists tell a registrar the same, and leave everybody the same to look up.
 use Rattle.std.proofs.Common.{◌≡◌, ℕ, cond, List, [], ◌∷◌, refl, sym, ap, ◌∙◌}
-use Rattle.model.specs.Lapse.{lapsed, now}
-use Rattle.model.specs.Registry.{Registry}
+use Rattle.model.specs.{Lapse.{lapsed, now}, Registry.Registry}
 use Rattle.policy.specs.Rules.{PolicyRules}
-use Rattle.isolation.specs.Alike.{firsts, seconds}
-use Rattle.isolation.specs.Public.{public_part}
+use Rattle.isolation.specs.{Alike.{firsts, seconds}, Public.public_part}
 use Rattle.isolation.specs.Runs.{Answer, Question, answer_to, effect_of, is_asked_by, left_after, left_by_question, answers_to}
 use Rattle.isolation.proofs.RunLemmas.{alike-lists-show-the-same, alike-lists-tell-the-same}
-use Rattle.runs.specs.Runs.{IsRun, answers_for}
-use Rattle.runs.specs.RunLaws.{AlikeRunsShowTheSame, AlikeRunsTellTheSame}
+use Rattle.runs.specs.{Runs.{IsRun, answers_for}, RunLaws.{AlikeRunsShowTheSame, AlikeRunsTellTheSame}}
 use Rattle.runs.proofs.SettlementLemmas.{found-alike}
 
 -- what a run answers is what its list tells, from whatever is the same now

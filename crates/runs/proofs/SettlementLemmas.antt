@@ -1,7 +1,6 @@
 -- Settlements between calls change no answer.
 use Rattle.std.proofs.Common.{◌≡◌, ◌≤◌, ℕ, max, Bool, true, false, List, [], ◌∷◌, refl, sym, ap, subst, ◌∙◌, arith}
-use Rattle.model.specs.Lapse.{lapse, lapsed, now}
-use Rattle.model.specs.Registry.{Registry}
+use Rattle.model.specs.{Lapse.{lapse, lapsed, now}, Registry.Registry}
 use Rattle.model.proofs.LapseLaws.{have-one-future, lapses-on}
 use Rattle.policy.specs.Rules.{PolicyRules}
 use Rattle.registry.specs.Execution.{IsSettlement}

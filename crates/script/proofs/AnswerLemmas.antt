@@ -1,29 +1,18 @@
 -- What a registrar is answered, and the operator, as a script prints it.
 use Rattle.std.proofs.Common.{◌≡◌, ◌⊎◌, ◌≤◌, inl, inr, ℕ, Bool, true, false, cond, List, [], Some, None, IfSome, refl, sym, ap, subst, ◌∙◌}
 use Rattle.std.specs.Prelude.{Option}
-use Rattle.eppcommands.specs.Order.{order_in}
-use Rattle.eppcommands.specs.Session.{in_session}
-use Rattle.eppreplies.specs.Answer.{answer_text}
-use Rattle.eppreplies.specs.Greeting.{greeting_text}
-use Rattle.eppreplies.specs.Reply.{reply_text}
+use Rattle.eppcommands.specs.{Order.order_in, Session.in_session}
+use Rattle.eppreplies.specs.{Answer.answer_text, Greeting.greeting_text, Reply.reply_text}
 use Rattle.eppwire.specs.Answers.{AnswersRegistrar, AnswersSaid, IsSentOrLost, is_last}
 use Rattle.eppwire.specs.Answers as wire
-use Rattle.frames.specs.Outcomes.{Outcome, ended, failed, lost, outcome_of, replied}
-use Rattle.frames.specs.Texts.{failed_text}
-use Rattle.frames.specs.declared.peer.Answer.{Answer}
+use Rattle.frames.specs.{Outcomes.{Outcome, ended, failed, lost, outcome_of, replied}, Texts.failed_text, declared.peer.Answer.Answer}
 use Rattle.policy.specs.Rules.{PolicyRules}
-use Rattle.protocol.specs.declared.code.Code.{Code}
-use Rattle.protocol.specs.declared.code.Code.TheVariants.{Completed}
-use Rattle.protocol.specs.declared.order.OperatorRequest.{OperatorRequest}
+use Rattle.protocol.specs.declared.{code.Code.{Code, TheVariants.Completed}, order.OperatorRequest.OperatorRequest}
+use Rattle.protocol.specs.declared.session.InSession.{InSession, TheVariants.{Hello, Ordinary}}
 use Rattle.protocol.specs.declared.order.OperatorRequest.TheVariants as requests
-use Rattle.protocol.specs.declared.session.InSession.{InSession}
-use Rattle.protocol.specs.declared.session.InSession.TheVariants.{Hello, Ordinary}
 use Rattle.registry.specs.Execution.{last_call}
-use Rattle.script.specs.Deposits.{IsAnsweredBy}
-use Rattle.script.specs.Runs.{Answers, GivesUp, IsPayloadAnswered, OperatorSteps, SaidSteps, kept}
-use Rattle.script.specs.declared.line.Sender.{Sender}
-use Rattle.script.specs.declared.line.Sender.TheVariants.{Registrar, Operator}
-use Rattle.script.specs.Lines.{Asked, IsLine, registrar_of}
+use Rattle.script.specs.{Deposits.IsAnsweredBy, Runs.{Answers, GivesUp, IsPayloadAnswered, OperatorSteps, SaidSteps, kept}}
+use Rattle.script.specs.{declared.line.Sender.{Sender, TheVariants.{Registrar, Operator}}, Lines.{Asked, IsLine, registrar_of}}
 use Rattle.script.specs.inner.Runs.{IsAnsweredOperator, TextOf, printed_text}
 use Rattle.books.specs.Book.{BookState, Stored}
 use Rattle.model.specs.Registry.{Registry}

@@ -1,20 +1,14 @@
 -- What a run leaves that a fault ends: the front of what is printed.
 use Rattle.std.proofs.Common.{◌≡◌, ◌⊎◌, inl, inr, ◌<◌, ◌==◌, ◌++◌, ℕ, false, List, [], ◌∷◌, length, take, drop, Some, None, IfSome, Result, Ok, Err, refl, sym, ap, subst, ◌∙◌, codes, append-nil, append_assoc, take-append-drop}
-use Rattle.std.proofs.lemmas.Grind.{flat_map-append}
-use Rattle.std.proofs.lemmas.List.{append_cancel_left}
-use Rattle.std.proofs.KnownBytes.{Appends-nil, Appends-trans}
-use Rattle.std.specs.Prelude.{Option, OnErr}
-use Rattle.std.specs.declared.io.ErrorKind.{ErrorKind}
-use Rattle.std.specs.declared.io.ErrorKind.TheVariants.{OutOfMemory}
-use Rattle.std.specs.Io.BufRead.{drop_through, strip_last, take_through}
-use Rattle.std.specs.Io.KnownBytes.{Appends, Keeps, append_known}
+use Rattle.std.proofs.{lemmas.{Grind.flat_map-append, List.append_cancel_left}, KnownBytes.{Appends-nil, Appends-trans}}
+use Rattle.std.specs.{Prelude.{Option, OnErr}, declared.io.ErrorKind.{ErrorKind, TheVariants.OutOfMemory}}
+use Rattle.std.specs.Io.{BufRead.{drop_through, strip_last, take_through}, KnownBytes.{Appends, Keeps, append_known}}
 use Rattle.model.specs.Registry.{Registry}
 use Rattle.policy.specs.Rules.{PolicyRules}
-use Rattle.script.specs.declared.exit.Exit.{Exit}
-use Rattle.script.specs.declared.exit.Exit.TheVariants as exits
-use Rattle.script.specs.Exits.{exit_of}
+use Rattle.script.specs.{declared.exit.Exit.Exit, Exits.exit_of}
 use Rattle.script.specs.Runs.{Answers, BeginsBehind, BeginsReplies, EndsIn, Prints, Writes, lines_of, printed}
 use Rattle.script.specs.inner.Runs.{AppendsFront, BeginsLine, BreaksAt, EndsBehind}
+use Rattle.script.specs.declared.exit.Exit.TheVariants as exits
 use Rattle.streams.specs.Moves.{AppendsLess}
 use Rattle.script.proofs.RunLemmas.{ArePrinted, Prints-told, Reads, next_lines, under}
 

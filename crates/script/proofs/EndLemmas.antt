@@ -1,12 +1,9 @@
 -- How a run ends.
 use Rattle.std.proofs.Common.{◌≡◌, inl, inr, refl, ◌==◌, ◌++◌, ℕ, cond, List, [], Some, None, IfSome, ap, subst, ◌∙◌, append-nil}
-use Rattle.std.specs.Prelude.{Option}
-use Rattle.std.specs.Io.KnownBytes.{Appends, Keeps, append_known, prepend_known}
+use Rattle.std.specs.{Prelude.Option, Io.KnownBytes.{Appends, Keeps, append_known, prepend_known}}
 use Rattle.policy.specs.Rules.{PolicyRules}
-use Rattle.script.specs.declared.exit.Exit.{Exit}
+use Rattle.script.specs.{declared.exit.Exit.Exit, inner.Runs.{AppendsFront, EndsBehind}, Runs.EndsIn}
 use Rattle.script.specs.declared.exit.Exit.TheVariants as exits
-use Rattle.script.specs.inner.Runs.{AppendsFront, EndsBehind}
-use Rattle.script.specs.Runs.{EndsIn}
 use Rattle.script.proofs.BeginLemmas.{IsFault, begun_by, fault_cut, fault_out}
 use Rattle.model.specs.Registry.{Registry}
 

@@ -1,17 +1,13 @@
 -- A line that ends a run.
 use Rattle.std.proofs.Common.{◌≡◌, ◌+◌, ◌<◌, ℕ, true, List, ◌∷◌, ◌++◌, length, Some, None, IfSome, refl, sym, ap, subst, ◌∙◌}
 use Rattle.std.proofs.KnownBytes.{Appends-kept}
-use Rattle.std.specs.Prelude.{Option}
-use Rattle.std.specs.Io.BufRead.{drop_through, strip_last, take_through}
-use Rattle.std.specs.Io.KnownBytes.{Appends, append_known}
+use Rattle.std.specs.{Prelude.Option, Io.{BufRead.{drop_through, strip_last, take_through}, KnownBytes.{Appends, append_known}}}
 use Rattle.model.specs.Registry.{Registry}
 use Rattle.policy.specs.Rules.{PolicyRules}
-use Rattle.script.specs.declared.exit.Exit.{Exit}
-use Rattle.script.specs.declared.exit.Exit.TheVariants as exits
-use Rattle.script.specs.Runs.{BeginsBehind, Prints, Writes, kept, lines_of, printed}
+use Rattle.script.specs.{declared.exit.Exit.Exit, Runs.{BeginsBehind, Prints, Writes, kept, lines_of, printed}}
 use Rattle.script.specs.inner.Runs.{BeginsLine, BreaksAt, EndsBehind, HaltsAt}
-use Rattle.script.proofs.BeginLemmas.{begun_at}
-use Rattle.script.proofs.RunLemmas.{ArePrinted, Reads, next_lines, under}
+use Rattle.script.specs.declared.exit.Exit.TheVariants as exits
+use Rattle.script.proofs.{BeginLemmas.begun_at, RunLemmas.{ArePrinted, Reads, next_lines, under}}
 use Rattle.books.specs.Book.{BookState, Follows}
 
 -- what a line leaves that ends a run, behind the lines that were answered

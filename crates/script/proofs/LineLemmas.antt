@@ -1,12 +1,9 @@
 -- What the parts of a line are.
 use Rattle.std.proofs.Common.{◌≡◌, ℕ, ◌+◌, ◌/◌, ◌%◌, ◌<◌, lit<, Bool, true, false, List, [], ◌∷◌, ◌++◌, Some, None, refl, ap, ◌∙◌, arith, cond}
-use Rattle.std.proofs.lemmas.Str.{IsUtf8-from_ascii, IsUtf8-from_is_utf8, is_utf8-from_IsUtf8}
-use Rattle.std.proofs.lemmas.Str.Ascii.{IsAscii-cons, IsAscii-nil}
+use Rattle.std.proofs.lemmas.Str.{IsUtf8-from_ascii, IsUtf8-from_is_utf8, is_utf8-from_IsUtf8, Ascii.{IsAscii-cons, IsAscii-nil}}
 use Rattle.std.specs.Str.{IsAscii, IsUtf8, is_utf8}
 use Rattle.calendar.proofs.ReadLemmas.{AreShort-parts_of}
-use Rattle.calendar.specs.Calendar.{date_of}
-use Rattle.calendar.specs.Moment.{IsMoment}
-use Rattle.calendar.specs.Text.{moment_text, two}
+use Rattle.calendar.specs.{Calendar.date_of, Moment.IsMoment, Text.{moment_text, two}}
 
 -- each byte is ASCII
 record Low (bytes : List ℕ) : Type 0 where

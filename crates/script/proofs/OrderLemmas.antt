@@ -3,10 +3,8 @@ use Rattle.std.proofs.Common.{◌≡◌, ◌++◌, ◌∙◌, ℕ, Option, Some,
 use Rattle.std.specs.Io.KnownBytes.{Appends, Keeps}
 use Rattle.eppreplies.specs.Answer.{answer_text}
 use Rattle.policy.specs.Rules.{PolicyRules}
-use Rattle.protocol.specs.declared.code.Code.{Code}
-use Rattle.protocol.specs.declared.order.OperatorRequest.{OperatorRequest}
-use Rattle.script.specs.Deposits.{EndsUnprinted, IsAnsweredBy, IsOfMachine, PrintsBeginning}
-use Rattle.script.specs.declared.exit.Exit.{Exit}
+use Rattle.protocol.specs.declared.{code.Code.Code, order.OperatorRequest.OperatorRequest}
+use Rattle.script.specs.{Deposits.{EndsUnprinted, IsAnsweredBy, IsOfMachine, PrintsBeginning}, declared.exit.Exit.Exit}
 use Rattle.script.specs.declared.exit.Exit.TheVariants as exits
 use Rattle.books.specs.Book.{BookState}
 use Rattle.streams.specs.Moves.{AppendsBeginning}

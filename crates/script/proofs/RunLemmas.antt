@@ -1,14 +1,10 @@
 -- Runs, line by line.
 use Rattle.std.proofs.Common.{◌≡◌, ◌+◌, ◌<◌, ◌==◌, ℕ, Bool, true, false, cond, List, [], ◌∷◌, ◌++◌, length, Some, None, IfSome, refl, sym, ap, subst, ◌∙◌, codes, append-nil, append_assoc, arith}
-use Rattle.std.proofs.lemmas.Grind.{common_steps, flat_map-append}
-use Rattle.std.proofs.KnownBytes.{Appends-nil, Appends-trans}
-use Rattle.std.specs.Prelude.{Option}
-use Rattle.std.specs.Io.BufRead.{DropsThrough, drop_through, strip_last, take_through}
-use Rattle.std.specs.Io.KnownBytes.{Appends, IsAtEnd}
+use Rattle.std.proofs.{lemmas.Grind.{common_steps, flat_map-append}, KnownBytes.{Appends-nil, Appends-trans}}
+use Rattle.std.specs.{Prelude.Option, Io.{BufRead.{DropsThrough, drop_through, strip_last, take_through}, KnownBytes.{Appends, IsAtEnd}}}
 use Rattle.policy.specs.Rules.{PolicyRules}
 use Rattle.script.specs.declared.exit.Exit.TheVariants as exits
-use Rattle.script.specs.Runs.{Answers, EndsIn, Prints, begun_with, lines_of, printed}
-use Rattle.script.specs.inner.Runs.{TellsLine}
+use Rattle.script.specs.{Runs.{Answers, EndsIn, Prints, begun_with, lines_of, printed}, inner.Runs.TellsLine}
 use Rattle.model.specs.Registry.{Registry}
 
 -- ---- the lines of an input

@@ -1,6 +1,5 @@
 //! How the program ends.
-ghost use Rattle.std.specs.Prelude.{◌≡◌};
-ghost use Rattle.std.specs.IoError.{error_kind};
+ghost use Rattle.std.specs.{Prelude.◌≡◌, IoError.error_kind};
 ghost use Rattle.script.specs.declared.exit.Exit.TheVariants as exits;
 ghost use Rattle.script.specs.Exits.{exit_of, exit_of_book, exit_text, has_line, result_of, status_of_exit};
 

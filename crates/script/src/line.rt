@@ -1,9 +1,7 @@
 //! A line of a script: `MOMENT CALLER JSON`, with single blanks.
 ghost use Rattle.std.specs.Prelude.{◌≡◌, ℕ, IfSome, IfNone, Some, None, if◌then◌else◌, option_map};
-ghost use Rattle.std.specs.List.{position};
-ghost use Rattle.std.specs.Str.{is_utf8};
-ghost use Rattle.calendar.specs.Moment.{IsMoment};
-ghost use Rattle.calendar.specs.Text.{moment_text};
+ghost use Rattle.std.specs.{List.position, Str.is_utf8};
+ghost use Rattle.calendar.specs.{Moment.IsMoment, Text.moment_text};
 ghost use Rattle.script.specs.Lines.{Asked, IsKnown, IsLine, asked_by_line, is_blank, registrar_of, sender_in, sender_named};
 ghost use Rattle.script.specs.Lines as spec;
 

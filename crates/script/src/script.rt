@@ -1,7 +1,6 @@
 //! The answers to a script's lines.
 ghost use Rattle.std.specs.Prelude.{◌≡◌, ℕ, List, [], ◌++◌, codes, option_map, true, Some, IfErr, IfSome, OnErr, OnOk};
-ghost use Rattle.std.specs.Io.BufRead.{strip_last};
-ghost use Rattle.std.specs.Io.KnownBytes.{Appends, Keeps, append_known};
+ghost use Rattle.std.specs.Io.{BufRead.strip_last, KnownBytes.{Appends, Keeps, append_known}};
 ghost use Rattle.frames.specs.Outcomes.{outcome_of};
 ghost use Rattle.script.specs.inner.Runs.{AppendsFront, BreaksAt, EndsBehind, HaltsAt, TellsLine, printed_text, run_end};
 ghost use Rattle.script.specs.Runs.{EndsIn, kept};

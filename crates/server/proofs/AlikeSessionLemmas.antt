@@ -1,23 +1,18 @@
 -- Two sessions over one input, with registries that are alike, are sent the same, and stay alike.
 use Rattle.std.proofs.Common.{◌≡◌, ◌⊎◌, inl, inr, ℕ, true, false, true≢false, List, [], ◌∷◌, ◌++◌, map, drop, Option, Some, None, refl, sym, ap, subst, ◌∙◌, append_assoc, append-nil}
-use Rattle.std.specs.Prelude.{IfSome}
-use Rattle.std.specs.List.{list_all}
 use Rattle.std.proofs.lemmas.Bool.{and_parts}
+use Rattle.std.specs.{Prelude.IfSome, List.list_all}
 use Rattle.eppwire.specs.Answers.{IsSentOrLost}
 use Rattle.frames.specs.Clocks as clocks
 use Rattle.frames.specs.Frames.{Ending, Takes, bad_length, closed, complete, cut, frame, front, over}
 use Rattle.frames.specs.Outcomes.{Outcome, end_with, ended, failed, lost, replied, sent}
-use Rattle.frames.specs.Sessions.{IsAtEnding, IsTurn, Rests, Run, Session, SessionState, Turn, frames}
-use Rattle.frames.specs.Texts.{closing_text}
-use Rattle.frames.specs.declared.session.SessionEnd.{SessionEnd}
-use Rattle.frames.specs.declared.session.SessionEnd.TheVariants.{Logout, End, Cut, Length, ReadFault, WriteFault, Lost}
+use Rattle.frames.specs.{Sessions.{IsAtEnding, IsTurn, Rests, Run, Session, SessionState, Turn, frames}, Texts.closing_text}
+use Rattle.frames.specs.declared.session.SessionEnd.{SessionEnd, TheVariants.{Logout, End, Cut, Length, ReadFault, WriteFault, Lost}}
 use Rattle.isolation.specs.Alike as pairs
-use Rattle.isolation.specs.Alike.{AreAlikeInTurn, IsAlike}
-use Rattle.isolation.specs.Redaction.{Objects, redacted}
+use Rattle.isolation.specs.{Alike.{AreAlikeInTurn, IsAlike}, Redaction.{Objects, redacted}}
 use Rattle.isolation.specs.Runs.{Answer, Question, effect_of, is_asked_by, left_by_question}
 use Rattle.isolation.proofs.RunLemmas.{calls-are-steps-of-two}
-use Rattle.model.specs.Lapse.{now}
-use Rattle.model.specs.Registry.{Registry}
+use Rattle.model.specs.{Lapse.now, Registry.Registry}
 use Rattle.policy.specs.Rules.{PolicyRules}
 use Rattle.runs.specs.Runs.{IsRun}
 use Rattle.runs.proofs.SettlementLemmas.{answers-are-determined, found-alike}

@@ -1,7 +1,7 @@
 -- What reads behind the end of a connection take, each of them 65,536 bytes at most.
 use Rattle.std.proofs.Common.{ℕ, ◌+◌, ◌*◌, ◌≤◌, Option, List, [], ◌++◌, length, take, arith, length-append, length-take}
-use Rattle.std.specs.Io.KnownBytes.{Consumes, Keeps}
 use Rattle.std.proofs.KnownBytes.{Consumes-nil, Consumes-trans, Consumes-kept}
+use Rattle.std.specs.Io.KnownBytes.{Consumes, Keeps}
 use Rattle.server.specs.inner.Closing.{TakesUpTo}
 
 -- before the first one nothing is taken

@@ -1,18 +1,12 @@
 -- The first byte of a connection, which is read and given back; and its session.
 use Rattle.std.proofs.Common.{◌≡◌, inl, inr, ℕ, zero, suc, ◌+◌, ◌/◌, ◌<◌, Option, Some, None, List, [], ◌∷◌, length, take, Bool, refl, sym, ap, ◌∙◌, subst, arith}
-use Rattle.std.specs.Prelude.{IfSome}
-use Rattle.std.specs.Fmt.{option_append}
-use Rattle.std.specs.Io.KnownBytes.{Consumes, IsAtEnd}
+use Rattle.std.specs.{Prelude.IfSome, Fmt.option_append, Io.KnownBytes.{Consumes, IsAtEnd}}
 use Rattle.policy.specs.Rules.{PolicyRules}
-use Rattle.frames.specs.Outcomes.{Outcome}
-use Rattle.frames.specs.Sessions.{Session, SessionState}
-use Rattle.frames.specs.declared.session.SessionEnd.{SessionEnd}
-use Rattle.server.specs.Connections.{Agrees, AnswersAt, Desk, FramesBeginConnections, IsServed, Serves, begins_frame}
+use Rattle.frames.specs.{Outcomes.Outcome, Sessions.{Session, SessionState}, declared.session.SessionEnd.SessionEnd}
+use Rattle.server.specs.{Connections.{Agrees, AnswersAt, Desk, FramesBeginConnections, IsServed, Serves, begins_frame}, Http.AnswersHttp}
+use Rattle.server.specs.declared.{connection.ConnectionEnd.ConnectionEnd, http.HttpEnd.HttpEnd}
 use Rattle.eppwire.proofs.FollowLemmas.{answers_follow, follows_on, same_follows}
-use Rattle.server.specs.Http.{AnswersHttp}
-use Rattle.server.specs.declared.connection.ConnectionEnd.{ConnectionEnd}
 use Rattle.server.specs.declared.connection.ConnectionEnd.TheVariants as ends
-use Rattle.server.specs.declared.http.HttpEnd.{HttpEnd}
 use Rattle.server.specs.declared.http.HttpEnd.TheVariants as http
 use Rattle.server.proofs.PeerLemmas.{session_taken, taken_for}
 use Rattle.books.specs.Book.{BookState, Follows}

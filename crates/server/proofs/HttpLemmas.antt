@@ -1,25 +1,17 @@
 -- What a look-up leaves of a registry, and what is written to a connection of HTTP.
 use Rattle.std.proofs.Common.{◌≡◌, ◌+◌, ◌<◌, ◌≤◌, ◌↔◌, ℕ, true, inl, inr, ◌⊎◌, Option, Some, None, List, [], length, take, drop, ◌++◌, Result, Ok, Err, refl, sym, ap, subst, ◌∙◌, le_refl, append-nil, take-take}
-use Rattle.std.proofs.lemmas.List.{take-append-le}
-use Rattle.std.proofs.KnownBytes.{Consumes-trans}
-use Rattle.std.proofs.lemmas.Slice.{take-put_mid_below}
-use Rattle.std.specs.Io.KnownBytes.{Consumes, ReadConsumes}
+use Rattle.std.proofs.{lemmas.{List.take-append-le, Slice.take-put_mid_below}, KnownBytes.Consumes-trans}
+use Rattle.std.specs.{Io.KnownBytes.{Consumes, ReadConsumes}, Prelude.IfOk}
 use borrow.Rule.Slice.PartMut.{put_mid}
 use lib.Seq.{take-add}
-use Rattle.std.specs.Prelude.{IfOk}
-use Rattle.eppwire.proofs.FollowLemmas.{stays_followed}
-use Rattle.eppwire.proofs.LateLemmas.{in_time}
+use Rattle.eppwire.proofs.{FollowLemmas.stays_followed, LateLemmas.in_time}
 use Rattle.frames.specs.Clocks.{Tells}
-use Rattle.model.specs.Lapse.{lapsed}
-use Rattle.model.specs.Registry.{Registry}
+use Rattle.model.specs.{Lapse.lapsed, Registry.Registry}
 use Rattle.policy.specs.Rules.{PolicyRules}
-use Rattle.rdap.specs.Answering.{Faces, IsAnswer}
-use Rattle.rdap.specs.Heads.{IsCut}
+use Rattle.rdap.specs.{Answering.{Faces, IsAnswer}, Heads.IsCut}
 use Rattle.rdap.proofs.AnswerLemmas.{stands}
-use Rattle.registry.specs.declared.fault.Fault.{Fault}
+use Rattle.registry.specs.{declared.fault.Fault.Fault, Execution.last_call, Faces.LooksUp}
 use Rattle.registry.specs.declared.fault.Fault.TheVariants as faults
-use Rattle.registry.specs.Execution.{last_call}
-use Rattle.registry.specs.Faces.{LooksUp}
 use Rattle.registry.proofs.PassingSteps.{same_then}
 use Rattle.server.specs.Http.{AnswersHttp, IsAnswered, IsNeeded, IsRead, IsWritten, MayShow, Passes, faces_at, faces_of}
 use Rattle.server.specs.declared.http.HttpEnd.{HttpEnd}

@@ -1,8 +1,7 @@
 -- Connections one after the other.
 use Rattle.std.proofs.Common.{◌≡◌, ℕ, List, None, ◌∷◌, subst}
 use Rattle.policy.specs.Rules.{PolicyRules}
-use Rattle.server.specs.Connections.{Serves}
-use Rattle.server.specs.Listening.{ServesInTurn, ServesUnknown}
+use Rattle.server.specs.{Connections.Serves, Listening.{ServesInTurn, ServesUnknown}}
 use Rattle.books.specs.Book.{BookState}
 
 -- one more behind those that were served

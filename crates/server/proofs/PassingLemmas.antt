@@ -4,10 +4,7 @@ use Rattle.std.specs.Prelude.{Result, Ok, Err, IfErr, IfOk}
 use Rattle.books.specs.Book.{BookState, Stored}
 use Rattle.model.specs.Registry.{Registry}
 use Rattle.policy.specs.Rules.{PolicyRules}
-use Rattle.registry.specs.Calls.{LooksUpKeeping}
-use Rattle.registry.specs.Execution.{Fails, IsUnchanged}
-use Rattle.registry.specs.Faces.{LooksUp}
-use Rattle.registry.specs.declared.fault.Fault.{Fault}
+use Rattle.registry.specs.{Calls.LooksUpKeeping, Execution.{Fails, IsUnchanged}, Faces.LooksUp, declared.fault.Fault.Fault}
 use Rattle.registry.specs.declared.fault.Fault.TheVariants as faults
 use Rattle.server.specs.Http.{Passes}
 

@@ -1,9 +1,7 @@
 -- A session with a peer is one with whatever the peer can be taken for.
 use Rattle.std.proofs.Common.{inl, inr, ℕ, List, [], ◌∷◌, ap}
-use Rattle.frames.specs.Outcomes.{Outcome}
-use Rattle.frames.specs.Sessions.{SessionState, Turn, IsTurn, Run, Rests, EndsSession, Session}
-use Rattle.frames.specs.declared.session.SessionEnd.{SessionEnd}
-use Rattle.frames.specs.declared.session.SessionEnd.TheVariants.{Logout, End, Cut, Length, ReadFault, WriteFault, Lost}
+use Rattle.frames.specs.{Outcomes.Outcome, Sessions.{SessionState, Turn, IsTurn, Run, Rests, EndsSession, Session}}
+use Rattle.frames.specs.declared.session.SessionEnd.{SessionEnd, TheVariants.{Logout, End, Cut, Length, ReadFault, WriteFault, Lost}}
 
 -- the peer of a session is taken for something else
 abbrev pub taken_for : {S T : Type 0} → (S → T) → SessionState S → SessionState T

@@ -1,16 +1,13 @@
 -- What goes out to everyone agrees.
 use Rattle.std.proofs.Common.{◌≡◌, ap, subst, sym, ◌∙◌}
 use Rattle.isolation.specs.Public.{IsPublic, public_part}
-use Rattle.model.specs.Lapse.{lapsed}
-use Rattle.model.specs.Registry.{Registry}
+use Rattle.model.specs.{Lapse.lapsed, Registry.Registry}
 use Rattle.policy.specs.Rules.{PolicyRules}
 use Rattle.rdap.proofs.AnswerLemmas.{one_answer}
 use Rattle.rdap.specs.Answering.{Faces, IsAnswer}
 use Rattle.registry.specs.Faces.{ArePublic}
 use Rattle.registry.proofs.PublicLemmas.{look-ups-are-public}
-use Rattle.server.specs.ZoneExport.{zone_data_text}
-use Rattle.server.specs.Http.{faces_at}
-use Rattle.server.specs.Public.{PublicPartsLookSame, PublicTextsAgree}
+use Rattle.server.specs.{ZoneExport.zone_data_text, Http.faces_at, Public.{PublicPartsLookSame, PublicTextsAgree}}
 
 pub public_texts : PublicTextsAgree
 public_texts p moment one other same = (

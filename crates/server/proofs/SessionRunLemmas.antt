@@ -1,28 +1,23 @@
 -- The frames of a session are answered one after another, and that is a run.
 use Rattle.std.proofs.Common.{◌≡◌, ◌⊎◌, inl, inr, ℕ, ◌+◌, arith, length, length-append, Bool, true, false, true≢false, List, [], ◌∷◌, ◌++◌, map, Option, Some, None, refl, sym, ap, subst, ◌∙◌, append_assoc, append-nil}
+use Rattle.std.proofs.{Math.Seq.take-append-add, lemmas.Grind.flat_map-append}
 use Rattle.std.specs.Prelude.{if◌then◌else◌}
-use Rattle.std.proofs.Math.Seq.{take-append-add}
 use lib.Seq.{take-append-le}
 use Rattle.streams.specs.Moves.{IsLess}
-use Rattle.std.proofs.lemmas.Grind.{flat_map-append}
 use Rattle.eppcommands.specs.Session.{before_login, in_session}
-use Rattle.frames.specs.Frames.{frame}
-use Rattle.frames.specs.Texts.{closing_text}
+use Rattle.frames.specs.{Frames.frame, Texts.closing_text, Outcomes.{Outcome, ended, failed, replied, sent}}
+use Rattle.frames.specs.{Sessions.{EndsSession, IsTurn, Rests, Run, SessionState, Turn, frames}, declared.session.SessionEnd.SessionEnd}
+use Rattle.frames.specs.declared.session.SessionEnd.TheVariants.{Logout, End, Cut, Length, ReadFault, WriteFault, Lost}
 use Rattle.eppreplies.specs.Reply.{reply_text}
 use Rattle.eppwire.specs.Answers.{Answers, AnswersHello, AnswersSaidBeforeLogin, AnswersSaid, FailsToAnswer, IsSentOrLost, is_last}
 use Rattle.eppwire.proofs.FollowLemmas.{answers_follow, follows_on, same_follows}
 use Rattle.model.specs.Registry.{Registry}
 use Rattle.policy.specs.Rules.{PolicyRules}
 use Rattle.isolation.specs.Runs.{Answer, IsCall, Question, command, date, dated, reply}
-use Rattle.protocol.specs.declared.session.BeforeLogin.{BeforeLogin}
+use Rattle.protocol.specs.declared.session.{BeforeLogin.BeforeLogin, InSession.InSession}
 use Rattle.protocol.specs.declared.session.BeforeLogin.TheVariants as before
-use Rattle.protocol.specs.declared.session.InSession.{InSession}
 use Rattle.protocol.specs.declared.session.InSession.TheVariants as within
 use Rattle.runs.specs.Runs.{IsRun}
-use Rattle.frames.specs.Outcomes.{Outcome, ended, failed, replied, sent}
-use Rattle.frames.specs.Sessions.{EndsSession, IsTurn, Rests, Run, SessionState, Turn, frames}
-use Rattle.frames.specs.declared.session.SessionEnd.{SessionEnd}
-use Rattle.frames.specs.declared.session.SessionEnd.TheVariants.{Logout, End, Cut, Length, ReadFault, WriteFault, Lost}
 use Rattle.server.specs.Connections.{AnswersAt, Desk}
 use Rattle.server.specs.SessionRuns.{AreAnswered, AreHeard, AreRepliesWritten, IsAnsweredAll, IsLeftAt, PasswordsAreForLogins, SessionsAreAnswered, SessionsAreRuns, asked_over, caller_after, caller_with, first_outcome, has_failed, outcome_before, outcome_by, outcome_sent, question_within, questions_before, questions_by_turn, questions_said}
 use Rattle.books.specs.Book.{BookState, Follows, Stored}

@@ -1,6 +1,5 @@
 //! How a connection is let go: so that its client reads all that was written, whatever it sent besides.
-ghost use Rattle.std.specs.Prelude.{◌≡◌, true, length, vec_len, IfOk};
-ghost use Rattle.std.specs.Io.KnownBytes.{IsAtEnd};
+ghost use Rattle.std.specs.{Prelude.{◌≡◌, true, length, vec_len, IfOk}, Io.KnownBytes.IsAtEnd};
 ghost use Rattle.server.specs.inner.Closing as spec;
 
 use crate::connection::ConnectionEnd;

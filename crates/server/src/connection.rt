@@ -1,12 +1,10 @@
 //! One connection.
 ghost use Rattle.std.specs.Prelude.{◌≡◌};
-ghost use Rattle.frames.specs.Sessions.{WritesFrames};
+ghost use Rattle.frames.specs.{Sessions.WritesFrames, declared.session.SessionEnd.SessionEnd};
 ghost use Rattle.server.specs.Connections as spec;
-ghost use Rattle.server.specs.Connections.{IsServed, Serves};
-ghost use Rattle.server.specs.Http.{AnswersHttp};
-ghost use Rattle.server.specs.declared.connection.ConnectionEnd.TheVariants as ends;
+ghost use Rattle.server.specs.{Connections.{IsServed, Serves}, Http.AnswersHttp};
 ghost use Rattle.server.specs.declared.http.HttpEnd.{HttpEnd};
-ghost use Rattle.frames.specs.declared.session.SessionEnd.{SessionEnd};
+ghost use Rattle.server.specs.declared.connection.ConnectionEnd.TheVariants as ends;
 ghost use Rattle.books.specs.Book.{Follows};
 
 use crate::http::{HttpEnd, serve_http};

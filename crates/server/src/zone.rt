@@ -1,6 +1,5 @@
 //! The zone of a registry, as an office hands it to its name servers.
-ghost use Rattle.std.specs.Prelude.{◌≡◌, true, IfErr, OnOk};
-ghost use Rattle.std.specs.Io.KnownBytes.{Appends};
+ghost use Rattle.std.specs.{Prelude.{◌≡◌, true, IfErr, OnOk}, Io.KnownBytes.Appends};
 ghost use Rattle.server.specs.ZoneExport.{StopsAs, serial_of, zone_at, zone_data_text};
 ghost use Rattle.server.specs.Http.{Passes};
 ghost use Rattle.server.specs.declared.zone.ZoneExportFault.TheVariants as faults;

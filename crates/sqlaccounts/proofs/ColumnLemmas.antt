@@ -1,25 +1,21 @@
 -- What a message is in the columns of its row, and the order of rows.
 use Rattle.std.proofs.Common.{◌≡◌, ℕ, ℤ, pos, true, false, ◌&&◌, List, Option, Some, None, inl, inr, refl, sym, ap, subst, ◌∙◌, int_cmp, int_eq, arith}
-use Rattle.std.specs.declared.cmp.Ordering.TheVariants.{Less, Equal, Greater}
-use Rattle.std.specs.Cmp.Lexicographic.{nat_list_cmp_total, slice_cmp}
+use Rattle.std.specs.{declared.cmp.Ordering.TheVariants.{Less, Equal, Greater}, Cmp.Lexicographic.{nat_list_cmp_total, slice_cmp}}
 use Rattle.sqlaccounts.proofs.Words.{and_from, and_parts, by_then_key, cases_Bool, Equal-is, exact_in, int_cmp_total, ints, is_exact, is_gt}
 use Rattle.sqlaccounts.proofs.Words.{IsTotalOrder, kept, Message, message_cmp, message_of_columns, MessageRow, moment_in_column, nat_cmp}
 use Rattle.sqlaccounts.proofs.Words.{nat_cmp-IsAntisymmetric, nat_tests, on_total, Ordering, ordering_then, row_of_message, same_int, same_some}
-use Rattle.sqlaccounts.proofs.Words.{slice_cmp-IsAntisymmetric, step, then_total, ◌>>=◌}
+use Rattle.sqlaccounts.proofs.{Words.{slice_cmp-IsAntisymmetric, step, then_total, ◌>>=◌}, FindingLemmas.equal}
 use Rattle.sqlite_typed.specs.Tests.{bytes_eq}
 use Rattle.calendar.specs.Moment.{IsMoment}
-use Rattle.accounts.specs.declared.message.Origin.{Origin}
-use Rattle.accounts.specs.declared.message.Origin.TheVariants.{Lapse, Command}
+use Rattle.accounts.specs.declared.message.Origin.{Origin, TheVariants.{Lapse, Command}}
 use Rattle.accounts.specs.Messages.{class_of, number_of, subject_rank, tie_of}
 use Rattle.sqltables.specs.Message as table
 use Rattle.sqltables.proofs.RowLemmas.{bytes_same}
 use Rattle.sqlcolumns.specs.Codes.{subject_in}
 use Rattle.sqlcolumns.specs.Messages.{command_made, command_notice_in, lapse_made, lapse_notice_in, origin_columns, origin_in}
-use Rattle.sqlcolumns.proofs.CodeLemmas.{subject_written}
-use Rattle.sqlcolumns.proofs.MessageLemmas.{command_notice_written, lapse_notice_written, message_back}
+use Rattle.sqlcolumns.proofs.{CodeLemmas.subject_written, MessageLemmas.{command_notice_written, lapse_notice_written, message_back}}
 use Rattle.sqlcolumns.proofs.NumberLemmas.{exact_written, moment_written}
 use Rattle.sqlaccounts.specs.inner.QueueRows.{IsWritten}
-use Rattle.sqlaccounts.proofs.FindingLemmas.{equal}
 
 -- ---- columns
 

@@ -3,11 +3,9 @@ use Rattle.std.proofs.Common.{◌≡◌, ℕ, ℤ, true, false, cond, List, [], 
 use Rattle.sqlaccounts.proofs.Words.{account_of_row, account_of_rows, AccountRow, accounts_of, all_from, bag_of, Content, empty_account}
 use Rattle.sqlaccounts.proofs.Words.{false_from_ne_true, filter_map, filter_none, get, get_by, in_order, is_place, IsConsistent, key-get_by, LeadsTo}
 use Rattle.sqlaccounts.proofs.Words.{line_of_columns, LineRow, lines_under, message_of_columns, MessageRow, option_map, put_all, queue_under}
-use Rattle.sqlaccounts.proofs.Words.{registrar_column, row_of, same_int, unwrap_or}
+use Rattle.sqlaccounts.proofs.{Words.{registrar_column, row_of, same_int, unwrap_or}, AccountLemmas.{get-accounts_of, get-found}}
+use Rattle.sqlaccounts.proofs.{BagLemmas.bag-nil, FindingLemmas.{equal, unmissed}}
 use Rattle.sqltables.specs.Account as account_table
-use Rattle.sqlaccounts.proofs.AccountLemmas.{get-accounts_of, get-found}
-use Rattle.sqlaccounts.proofs.BagLemmas.{bag-nil}
-use Rattle.sqlaccounts.proofs.FindingLemmas.{equal, unmissed}
 
 none-with : {X Y : Type 0} (key : Y → ℤ) (column : X → ℤ) (xs : List X) (ys : List Y) (id : ℤ) → LeadsTo xs (λ x. Some (column x)) ys key → get_by key ys id ≡ None → filter (λ x. int_eq (column x) id) xs ≡ []
 none-with key column xs ys id leads none = filter_none (λ x. int_eq (column x) id) xs (all_from (λ x. int_eq (column x) id ≡ false) xs (λ x has. false_from_ne_true (int_eq (column x) id) (λ e.

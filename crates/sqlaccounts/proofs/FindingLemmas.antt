@@ -9,8 +9,7 @@ use Rattle.sqlaccounts.proofs.Words.{some_read, ◌>>=◌}
 use Rattle.sqlite_keyed.specs.Rules.{points_to}
 use Rattle.objects.specs.declared.roid.ObjectKind.TheVariants.{Domain}
 use Rattle.sqlcolumns.specs.Roids.{roid_in}
-use Rattle.sqlcolumns.proofs.LineLemmas.{is_read}
-use Rattle.sqlcolumns.proofs.NumberLemmas.{registrar_back, registrar_written, serial_back, serial_written}
+use Rattle.sqlcolumns.proofs.{LineLemmas.is_read, NumberLemmas.{registrar_back, registrar_written, serial_back, serial_written}}
 use Rattle.sqlcolumns.proofs.RoidLemmas.{roid_read}
 
 pub equal : (a b : ℤ) → a ≡ b → int_eq a b ≡ true

@@ -6,14 +6,12 @@ use Rattle.sqlaccounts.proofs.Words.{filter_map, filter_map-append, Has, has_eit
 use Rattle.sqlaccounts.proofs.Words.{is_row_about, IsBalanceChanged, IsDomainRoid, IsKeyedBy, IsPosted, IsRowOf, Line, line_of_columns}
 use Rattle.sqlaccounts.proofs.Words.{line_with_account, line_with_id, LineRow, lines_in_order, lines_to, lines_under, LineSwap, list_any}
 use Rattle.sqlaccounts.proofs.Words.{maybe_moment_column, next_key, option_map, queue_under, reads_as, remade, same, same_some, Schedule}
-use Rattle.sqlaccounts.proofs.Words.{swapped_all, taken, taken-absent, taken-add, with_lines, ◌>>=◌}
-use Rattle.sqlcolumns.specs.inner.Lines.{domain_columns, line_row_with, row_of_line}
-use Rattle.sqltables.specs.Line as table
-use Rattle.sqlaccounts.specs.Graces.{maybe_grace_end}
-use Rattle.sqlaccounts.specs.inner.Changes.{IsWritten}
-use Rattle.sqlaccounts.proofs.BagLemmas.{bag-middle}
+use Rattle.sqlaccounts.proofs.{Words.{swapped_all, taken, taken-absent, taken-add, with_lines, ◌>>=◌}, BagLemmas.bag-middle}
 use Rattle.sqlaccounts.proofs.FindingLemmas.{equal, found, none-there, own-row, parts, reads}
 use Rattle.sqlaccounts.proofs.PostingLemmas.{own-lines, posted-as, posted-rows, posted-still}
+use Rattle.sqlcolumns.specs.inner.Lines.{domain_columns, line_row_with, row_of_line}
+use Rattle.sqltables.specs.Line as table
+use Rattle.sqlaccounts.specs.{Graces.maybe_grace_end, inner.Changes.IsWritten}
 
 -- ---- swaps
 

@@ -3,11 +3,8 @@ use Rattle.std.proofs.Common.{◌≡◌, ℕ, pos, Bool, true, false, cond, ◌&
 use Rattle.sqlaccounts.proofs.Words.{Account, account_of_row, account_of_rows, AccountRow, add, bag_of, bag_of-push, cases_Bool, cons_option}
 use Rattle.sqlaccounts.proofs.Words.{Content, empty_account, filter-bag_of, filter_map, filter_map-append, in_order, is_on, is_place, is_row_on}
 use Rattle.sqlaccounts.proofs.Words.{IsConsistent, IsDomainRoid, Line, line_of_columns, line_with_account, LineRow, lines_in_order, option_map}
-use Rattle.sqlaccounts.proofs.Words.{registrar_column, Roid, row_of, unwrap_or}
-use Rattle.sqlaccounts.proofs.AccountLemmas.{get-accounts_of}
-use Rattle.sqlaccounts.proofs.BagLemmas.{bag-again, bag-nil}
-use Rattle.sqlaccounts.proofs.ConsistencyLemmas.{parts-there}
-use Rattle.sqlaccounts.proofs.FindingLemmas.{on-row}
+use Rattle.sqlaccounts.proofs.{Words.{registrar_column, Roid, row_of, unwrap_or}, AccountLemmas.get-accounts_of}
+use Rattle.sqlaccounts.proofs.{BagLemmas.{bag-again, bag-nil}, ConsistencyLemmas.parts-there, FindingLemmas.on-row}
 
 -- one row more
 pub read-more : (rows : List LineRow) (row : LineRow) (line : Line) → line_of_columns row ≡ Some line

@@ -6,16 +6,13 @@ use Rattle.sqlaccounts.proofs.Words.{Content, counter_in, Decides-int_eq, delete
 use Rattle.sqlaccounts.proofs.Words.{filter_map, filter_map-append, Has, has, has_filtered, has_kept, ident_and_held, ints, is_right, IsKeyedBy}
 use Rattle.sqlaccounts.proofs.Words.{IsPosted, IsRowOf, lines_under, list_any, Message, message_of_columns, MessageRow, messages_to, next_key}
 use Rattle.sqlaccounts.proofs.Words.{none_counted, option_map_or, put, put_all, queue_under, same_from_decides, Schedule, slice_get, with_queue}
-use Rattle.sqltables.specs.Message as table
-use Rattle.sqltables.proofs.RowLemmas.{same_by_key}
-use Rattle.sqlaccounts.specs.declared.queue.Found.{Found}
-use Rattle.sqlaccounts.specs.inner.QueueFound.{IsFound}
-use Rattle.sqlaccounts.specs.inner.QueueRows.{IsWaitingMore}
 use Rattle.sqlaccounts.proofs.ColumnLemmas.{message_first, row_cmp, row_cmp_total, same_columns, same_read}
-use Rattle.sqlaccounts.proofs.FindingLemmas.{equal, has_read, read_from}
-use Rattle.sqlaccounts.proofs.PostingLemmas.{posted-rows, posted-still}
+use Rattle.sqlaccounts.proofs.{FindingLemmas.{equal, has_read, read_from}, PostingLemmas.{posted-rows, posted-still}}
 use Rattle.sqlaccounts.proofs.QueueLemmas.{dropped-lacking, first-put_all, has-put_all, length-put, one_from_tie, put-there, put_all-push, put_all-without, tie, tied, without}
 use Rattle.sqlaccounts.proofs.SortLemmas.{IsLeast, least-sort_by}
+use Rattle.sqltables.specs.Message as table
+use Rattle.sqltables.proofs.RowLemmas.{same_by_key}
+use Rattle.sqlaccounts.specs.{declared.queue.Found.Found, inner.{QueueFound.IsFound, QueueRows.IsWaitingMore}}
 
 abbrev messages_in : List MessageRow → List Message
 messages_in rows = filter_map message_of_columns rows

@@ -2,11 +2,10 @@
 use Rattle.std.proofs.Common.{◌≡◌, ℕ, pos, true, false, cond, ◌&&◌, length, [], Option, Some, None, is_some, refl, sym, ap, ◌∙◌, int_eq}
 use Rattle.sqlaccounts.proofs.Words.{account_of_row, AccountRow, accounts_of, accounts_to, balance_in, Content, empty_account, get, has_right_sums}
 use Rattle.sqlaccounts.proofs.Words.{insert_by, is_place, is_right, IsConsistent, IsOpened, opened_row, option_map, option_map_or, row_of, unwrap_or}
+use Rattle.sqlaccounts.proofs.AccountLemmas.{accounts-put, get-accounts_of, kept_accounts, row_here, row_there, sums-put}
+use Rattle.sqlaccounts.proofs.{FindingLemmas.equal, ConsistencyLemmas.{lines-of-none, queue-of-none}}
 use Rattle.accounts.specs.Lines.{balance}
 use Rattle.sqltables.specs.Account as account_table
-use Rattle.sqlaccounts.proofs.AccountLemmas.{accounts-put, get-accounts_of, kept_accounts, row_here, row_there, sums-put}
-use Rattle.sqlaccounts.proofs.FindingLemmas.{equal}
-use Rattle.sqlaccounts.proofs.ConsistencyLemmas.{lines-of-none, queue-of-none}
 
 no_cents : int_eq (balance_in (opened_row 0).balance) (balance []) ≡ true
 unfolding balance

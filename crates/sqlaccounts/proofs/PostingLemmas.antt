@@ -9,15 +9,14 @@ use Rattle.sqlaccounts.proofs.Words.{IsConsistent, IsKeyedBy, IsPosted, IsRowOf,
 use Rattle.sqlaccounts.proofs.Words.{nat_cmp, nat_cmp-IsAntisymmetric, nat_cmp_total, none_past, option_map, option_map_or, PostsTo, queue_under}
 use Rattle.sqlaccounts.proofs.Words.{Reads, reads-same, registrar_column, row_of, same_map, Schedule, StateOf, Stays, stays-on, then-became}
 use Rattle.sqlaccounts.proofs.Words.{unwrap_or, with_account_changed, with_counters, with_row}
+use Rattle.sqlaccounts.proofs.{AccountLemmas.{accounts-put, get-found, row_here, row_there, sums-put}, CallLemmas.{stays-after, then-kept}}
+use Rattle.sqlaccounts.proofs.FindingLemmas.{equal}
 use Rattle.states.specs.declared.fault.BookFault.{BookFault}
 use Rattle.states.proofs.LeavingLemmas.{leaves-on}
 use Rattle.accounts.specs.declared.counters.Counters.{Counters}
 use Rattle.sqlrows.specs.Meanings.{HasChanged}
 use Rattle.sqltables.specs.Account as account_table
 use Rattle.sqltables.proofs.PuttingLemmas.{consistent-with as put-consistent, put-twice}
-use Rattle.sqlaccounts.proofs.AccountLemmas.{accounts-put, get-found, row_here, row_there, sums-put}
-use Rattle.sqlaccounts.proofs.CallLemmas.{stays-after, then-kept}
-use Rattle.sqlaccounts.proofs.FindingLemmas.{equal}
 
 abbrev key : AccountRow → ℤ
 key = account_table.accounts.key

@@ -1,10 +1,9 @@
 -- The queue that messages make is the set of them, in their order.
 use Rattle.std.proofs.Common.{◌≡◌, ◌⊎◌, ◌+◌, Bool, true, false, cond, not, ◌&&◌, ◌||◌, T, length, List, [], ◌∷◌, ◌++◌, map, fold, filter, Option, Some, None, is_some, inl, inr, refl, sym, ap, ◌∙◌, arith, true≢false}
-use Rattle.std.proofs.lemmas.List.Sums.{fold-append}
-use Rattle.std.proofs.lemmas.Map.Views.{any-filter_same}
+use Rattle.std.proofs.lemmas.{List.Sums.fold-append, Map.Views.any-filter_same}
 use Rattle.std.specs.declared.cmp.Ordering.TheVariants.{Less, Equal, Greater}
-use Rattle.std.specs.FinMap.Entries as entries
 use Rattle.std.specs.FinMap.Entries.{by_order, below_all, find, find-put, find-where_key, is_some-find, is_sorted, is_sorted-put, is_sorted-where_key, same_entries, where_key}
+use Rattle.std.specs.FinMap.Entries as entries
 use Rattle.sqlaccounts.proofs.Words.{dropped, eq_by_cmp, Equal-is, Has, has, is_eq, is_gt, is_lt, list_any, match_ordering, Message, message_cmp}
 use Rattle.sqlaccounts.proofs.Words.{or_parts, Ordering, ordering_reverse, put, put_all, slice_get, tied_itself}
 use Rattle.accounts.specs.MessageOrder.{message_cmp_total}

@@ -1,6 +1,5 @@
 -- The first of a sorted list.
-use Rattle.std.proofs.Common.{◌≡◌, Bool, true, false, cond, List, [], ◌∷◌, Option, Some, None, inl, inr, refl, arith}
-use Rattle.std.proofs.lemmas.Cmp.{upto}
+use Rattle.std.proofs.{Common.{◌≡◌, Bool, true, false, cond, List, [], ◌∷◌, Option, Some, None, inl, inr, refl, arith}, lemmas.Cmp.upto}
 use Rattle.sqlaccounts.proofs.Words.{Has, insert_sorted, is_gt, IsTotalOrder, Ordering, slice_get, sort_by, tied_itself}
 
 module _ {X : Type 0} (cmp : X → X → Ordering) (o : IsTotalOrder cmp) where

@@ -4,10 +4,9 @@ use Rattle.std.specs.Str.{bytes_eq}
 use Rattle.sqlaccounts.proofs.Words.{Account, account_of_row, account_of_rows, AccountRow, acked, Content, counted_in, dropped, HasNewCounters}
 use Rattle.sqlaccounts.proofs.Words.{IsPosted, IsRowOf, Message, message_id, next_message, notified, numbered, put, Schedule, slice_get, with_acked}
 use Rattle.sqlaccounts.proofs.Words.{with_counters, with_queue}
-use Rattle.accounts.specs.declared.counters.Counters.{Counters}
-use Rattle.accounts.specs.MessageOrder.{message_eq_equiv}
-use Rattle.lifecycle.specs.declared.change.Notification.{Notification}
 use Rattle.sqlaccounts.proofs.PostingLemmas.{counts-posted, own-queue, posted-as, posted-on, posted-still, row-posted}
+use Rattle.accounts.specs.{declared.counters.Counters.Counters, MessageOrder.message_eq_equiv}
+use Rattle.lifecycle.specs.declared.change.Notification.{Notification}
 
 -- ---- a command's message
 

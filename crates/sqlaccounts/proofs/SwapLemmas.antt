@@ -2,8 +2,7 @@
 use Rattle.std.proofs.Common.{◌≡◌, true, false, not, List, [], ◌∷◌, ◌++◌, map, filter, inl, inr, refl, sym, ap, ◌∙◌}
 use Rattle.sqlaccounts.proofs.Words.{add, and_parts, bag_of, cases_Bool, false_from_ne_true, in_order, is_on, Line, lines_in_order, LineSwap}
 use Rattle.sqlaccounts.proofs.Words.{list_all, list_any, map-append, or_from, remade, remade-bag_of, Roid, same, same-in_order, swapped, swapped_all}
-use Rattle.sqlaccounts.proofs.Words.{taken, taken-bag_of, taken-before}
-use Rattle.sqlaccounts.proofs.BagLemmas.{bag-added, bag-bag, bag-parts, map-others}
+use Rattle.sqlaccounts.proofs.{Words.{taken, taken-bag_of, taken-before}, BagLemmas.{bag-added, bag-bag, bag-parts, map-others}}
 
 module _ (roid : Roid) where
   abbrev others : List Line → List Line

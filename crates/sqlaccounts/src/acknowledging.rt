@@ -1,6 +1,5 @@
 //! A message that is acknowledged.
-ghost use Rattle.std.specs.Prelude.{◌≡◌, true, IfOk};
-ghost use Rattle.std.specs.Str.{bytes_eq};
+ghost use Rattle.std.specs.{Prelude.{◌≡◌, true, IfOk}, Str.bytes_eq};
 ghost use Rattle.accounts.specs.Messages.{message_id};
 ghost use Rattle.lifecycle.specs.Changes.{with_acked};
 ghost use Rattle.sqlaccounts.specs.inner.Posting.{IsRowOf, PostsNoLine};

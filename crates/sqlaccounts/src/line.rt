@@ -1,10 +1,8 @@
 //! Lines of accounts, and what they add up to.
-ghost use Rattle.std.specs.Prelude.{◌≡◌, true, pos};
-ghost use Rattle.std.specs.Option.{option_map_or};
+ghost use Rattle.std.specs.{Prelude.{◌≡◌, true, pos}, Option.option_map_or};
 ghost use Rattle.sqltables.specs.declared.account.AccountRow.{AccountRow};
-ghost use Rattle.accounts.specs.Entries.{with_lines};
+ghost use Rattle.accounts.specs.{Entries.with_lines, Lines.in_order};
 ghost use Rattle.accounts.specs.Lines as lines;
-ghost use Rattle.accounts.specs.Lines.{in_order};
 ghost use Rattle.basis.specs.Bag.{add, taken};
 ghost use Rattle.sqlaccounts.specs.Accounts.{account_of_rows, balance_in, sums_are_right};
 ghost use Rattle.sqlaccounts.specs.inner.Posting.{IsRowOf, PostsNoLine, PostsTo};

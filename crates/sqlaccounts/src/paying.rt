@@ -2,8 +2,7 @@
 ghost use Rattle.std.specs.Prelude.{◌≡◌, ◌⊎◌, ◌+ℤ◌, ◌-ℤ◌, pos, FitsSigned, IfNone, IfOk, IfSome, OnErr};
 ghost use Rattle.std.specs.Int.{w128};
 ghost use Rattle.accounts.specs.Lines.{amount};
-ghost use Rattle.sqlaccounts.specs.Accounts.{balance_in};
-ghost use Rattle.sqlaccounts.specs.inner.Changes.{IsBalanceChanged};
+ghost use Rattle.sqlaccounts.specs.{Accounts.balance_in, inner.Changes.IsBalanceChanged};
 
 use accounts::Line;
 use sqltables::{AccountRow, bytes_of_balance};

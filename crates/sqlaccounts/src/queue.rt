@@ -1,12 +1,8 @@
 //! The queue of a registrar's messages.
-ghost use Rattle.std.specs.Prelude.{◌≡◌, true, slice_get};
-ghost use Rattle.std.specs.FinMap.{get};
-ghost use Rattle.std.specs.Option.{unwrap_or};
-ghost use Rattle.accounts.specs.Account.{empty_account};
-ghost use Rattle.accounts.specs.Entries.{with_queue};
+ghost use Rattle.std.specs.{Prelude.{◌≡◌, true, slice_get}, FinMap.get, Option.unwrap_or};
+ghost use Rattle.accounts.specs.{Account.empty_account, Entries.with_queue};
 ghost use Rattle.accounts.specs.Queue as queue;
-ghost use Rattle.sqlaccounts.specs.Accounts.{accounts_of};
-ghost use Rattle.sqlaccounts.specs.inner.Posting.{IsRowOf, PostsNoLine};
+ghost use Rattle.sqlaccounts.specs.{Accounts.accounts_of, inner.Posting.{IsRowOf, PostsNoLine}};
 ghost use Rattle.sqlaccounts.specs.inner.QueueFound.{IsFound};
 ghost use Rattle.sqltables.specs.Message as table;
 ghost use Rattle.states.specs.States.{Finds, FindsSome};

@@ -1,6 +1,5 @@
 //! How many messages wait for a registrar, in rows.
-ghost use Rattle.std.specs.Prelude.{◌≡◌, Some, pos, length};
-ghost use Rattle.std.specs.Option.{option_map_or};
+ghost use Rattle.std.specs.{Prelude.{◌≡◌, Some, pos, length}, Option.option_map_or};
 ghost use Rattle.sqlaccounts.specs.Accounts.{account_of_rows, sums_are_right};
 ghost use Rattle.sqlrows.specs.Meanings.{FindsIfRight};
 ghost use Rattle.sqltables.specs.declared.account.AccountRow.{AccountRow};

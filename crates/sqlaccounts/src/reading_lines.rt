@@ -1,9 +1,7 @@
 //! The lines of an account, and those on one domain.
-ghost use Rattle.std.specs.Prelude.{◌≡◌, filter, IfOk};
-ghost use Rattle.std.specs.List.{filter_map, list_all};
+ghost use Rattle.std.specs.{Prelude.{◌≡◌, filter, IfOk}, List.{filter_map, list_all}};
 ghost use Rattle.accounts.specs.Lines as lines;
-ghost use Rattle.accounts.specs.Lines.{in_order, swapped_all};
-ghost use Rattle.accounts.specs.declared.line.LineSwap.{LineSwap};
+ghost use Rattle.accounts.specs.{Lines.{in_order, swapped_all}, declared.line.LineSwap.LineSwap};
 ghost use Rattle.basis.specs.Bag.{bag_of, remade};
 ghost use Rattle.sqlcolumns.specs.Lines.{line_of_columns};
 ghost use Rattle.sqlaccounts.specs.Accounts.{account_of_rows};

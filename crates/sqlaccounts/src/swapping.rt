@@ -1,7 +1,6 @@
 //! Lines of a registrar's account that are put for others.
 ghost use Rattle.std.specs.Prelude.{◌≡◌, true};
-ghost use Rattle.accounts.specs.Entries.{with_lines};
-ghost use Rattle.accounts.specs.Lines.{in_order, swapped, swapped_all};
+ghost use Rattle.accounts.specs.{Entries.with_lines, Lines.{in_order, swapped, swapped_all}};
 ghost use Rattle.basis.specs.Bag.{remade};
 ghost use Rattle.sqlaccounts.specs.inner.Posting.{IsRowOf, PostsTo};
 

@@ -1,8 +1,7 @@
 //! Lines as rows that read as these lines.
 ghost use Rattle.std.specs.Prelude.{◌↔◌, IsTrue, IfOk, IfSome};
 ghost use Rattle.calendar.specs.Moment.{IsMoment};
-ghost use Rattle.sqlcolumns.specs.inner.Lines.{IsStorableLine};
-ghost use Rattle.sqlcolumns.specs.Roids.{IsRoid};
+ghost use Rattle.sqlcolumns.specs.{inner.Lines.IsStorableLine, Roids.IsRoid};
 ghost use Rattle.sqlaccounts.specs.inner.Changes.{IsWritten};
 
 use accounts::Line;

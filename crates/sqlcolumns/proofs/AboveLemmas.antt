@@ -1,12 +1,9 @@
 -- A host below a domain with a dot has the same name of two labels above it.
 use Rattle.std.proofs.Common.{◌≡◌, ℕ, ◌+◌, ◌-◌, ◌<◌, ◌≤◌, ◌==◌, nat_eq, nat_lt, eqb, Bool, true, false, cond, ◌&&◌, List, [], ◌∷◌, ◌++◌, drop, take, length, get_or, slice_index, refl, sym, ap, ◌∙◌, Bor, map, arith}
-use Rattle.std.specs.List.{count_by, ends_with, join_by, join_with_byte, onto_first}
-use Rattle.std.proofs.Math.Seq.{drop-append-add}
-use Rattle.std.proofs.lemmas.Bool.{and_parts, ltb-true}
-use Rattle.std.proofs.lemmas.Bool.Decides.{Decides-eqb}
+use Rattle.std.proofs.{Math.Seq.drop-append-add, lemmas.Bool.{and_parts, ltb-true, Decides.Decides-eqb}}
 use Rattle.std.proofs.lemmas.List.{append-nil, drop-map, drop_more, length-append, length-map, take-append-drop, take_rest}
-use Rattle.std.proofs.lemmas.List.Splits.{length-slice_split}
-use Rattle.std.proofs.lemmas.Slice.Eq.{bytes_eq-Decides}
+use Rattle.std.proofs.lemmas.{List.Splits.length-slice_split, Slice.Eq.bytes_eq-Decides}
+use Rattle.std.specs.List.{count_by, ends_with, join_by, join_with_byte, onto_first}
 use Rattle.objects.specs.Hosts.{is_below}
 use Rattle.sqlcolumns.specs.Above.{above, last_two, parts_between_dots}
 

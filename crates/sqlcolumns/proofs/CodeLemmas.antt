@@ -1,9 +1,7 @@
 -- The variant with a code has that code, and each variant is found by its own.
-use Rattle.std.proofs.Common.{rules, ◌≡◌, ℤ, List, Some, ap, ◌∙◌}
-use Rattle.std.proofs.lemmas.Bool.Decides.{Decides-int_eq}
+use Rattle.std.proofs.{Common.{rules, ◌≡◌, ℤ, List, Some, ap, ◌∙◌}, lemmas.Bool.Decides.Decides-int_eq}
 use Rattle.std.specs.Ordering.{int_eq}
-use Rattle.accounts.specs.declared.line.LineKind.{LineKind}
-use Rattle.accounts.specs.declared.message.Subject.{Subject}
+use Rattle.accounts.specs.declared.{line.LineKind.LineKind, message.Subject.Subject}
 use Rattle.objects.specs.declared.transfer.TransferState.{TransferState}
 use Rattle.sqlcolumns.specs.declared.code.Role.{Role}
 use Rattle.sqlcolumns.specs.Codes.{with_code, kind_column, kind_in, all_subjects, subject_column, subject_in, state_column, state_in, role_column, role_in}

@@ -4,15 +4,10 @@ use Rattle.objects.specs.declared.contact.Contact.{Contact}
 use Rattle.objects.specs.declared.roid.ObjectKind.TheVariants as kinds
 use Rattle.sqltables.specs.declared.contact.ContactRow.{ContactRow}
 use Rattle.sqlcolumns.specs.inner.Contacts.{IsContact, contact_registration, contact_row_with, postal_row, postal_with, row_of_contact}
-use Rattle.sqlcolumns.specs.Contacts.{contact_of_columns, contact_with}
-use Rattle.sqlcolumns.specs.Registrations.{registration_columns}
-use Rattle.sqlcolumns.specs.Steps.{◌>>=◌}
-use Rattle.sqlcolumns.specs.Texts.{street_column}
-use Rattle.sqlcolumns.specs.Transfers.{is_same, maybe_due_column}
-use Rattle.sqlcolumns.proofs.ReadLemmas.{passed, same_some, step}
-use Rattle.sqlcolumns.proofs.RegistrationLemmas.{registration_back}
-use Rattle.sqlcolumns.proofs.TextLemmas.{statuses_back, street_back}
-use Rattle.sqlcolumns.proofs.TransferLemmas.{same_as_itself}
+use Rattle.sqlcolumns.specs.{Contacts.{contact_of_columns, contact_with}, Registrations.registration_columns, Steps.◌>>=◌}
+use Rattle.sqlcolumns.specs.{Texts.street_column, Transfers.{is_same, maybe_due_column}}
+use Rattle.sqlcolumns.proofs.{ReadLemmas.{passed, same_some, step}, RegistrationLemmas.registration_back}
+use Rattle.sqlcolumns.proofs.{TextLemmas.{statuses_back, street_back}, TransferLemmas.same_as_itself}
 
 -- what was written is read back
 pub contact_back : (id : ℤ) (c : Contact) (row : ContactRow) → IsContact c → row_of_contact id c ≡ Some row → contact_of_columns row c.transfer ≡ Some c

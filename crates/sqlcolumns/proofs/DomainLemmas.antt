@@ -1,22 +1,14 @@
 -- A domain is read back from its row, its links and its transfer.
 use Rattle.std.proofs.Common.{◌≡◌, ℕ, ℤ, Option, Some, None, IfSome, refl, sym, ap, ◌∙◌}
-use Rattle.objects.specs.declared.domain.Deletion.{Deletion}
-use Rattle.objects.specs.declared.domain.Domain.{Domain}
-use Rattle.objects.specs.declared.domain.Links.{Links}
+use Rattle.objects.specs.declared.{domain.{Deletion.Deletion, Domain.Domain, Links.Links}, transfer.Transfer.Transfer}
 use Rattle.objects.specs.declared.roid.ObjectKind.TheVariants as kinds
-use Rattle.objects.specs.declared.transfer.Transfer.{Transfer}
 use Rattle.sqltables.specs.declared.domain.DomainRow.{DomainRow}
 use Rattle.sqlcolumns.specs.declared.domain.DeletionColumns.{DeletionColumns}
 use Rattle.sqlcolumns.specs.inner.Domains.{IsStorableDeletion, IsDomain, deletion_columns, domain_registration, domain_row_with, row_of_domain}
-use Rattle.sqlcolumns.specs.Domains.{deletion_in, domain_of_columns, domain_registration_columns, domain_with}
-use Rattle.sqlcolumns.specs.Numbers.{years_in_column}
-use Rattle.sqlcolumns.specs.Registrations.{registration_columns, registration_in}
-use Rattle.sqlcolumns.specs.Steps.{◌>>=◌}
-use Rattle.sqlcolumns.specs.Texts.{statuses_in}
-use Rattle.sqlcolumns.proofs.NumberLemmas.{maybe_moment_back, moment_back, years_back}
-use Rattle.sqlcolumns.proofs.ReadLemmas.{same_some, step}
-use Rattle.sqlcolumns.proofs.RegistrationLemmas.{registration_back}
-use Rattle.sqlcolumns.proofs.TextLemmas.{statuses_back}
+use Rattle.sqlcolumns.specs.{Domains.{deletion_in, domain_of_columns, domain_registration_columns, domain_with}, Numbers.years_in_column}
+use Rattle.sqlcolumns.specs.{Registrations.{registration_columns, registration_in}, Steps.◌>>=◌, Texts.statuses_in}
+use Rattle.sqlcolumns.proofs.{NumberLemmas.{maybe_moment_back, moment_back, years_back}, ReadLemmas.{same_some, step}}
+use Rattle.sqlcolumns.proofs.{RegistrationLemmas.registration_back, TextLemmas.statuses_back}
 
 -- ---- deletions
 

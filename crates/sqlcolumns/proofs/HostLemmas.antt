@@ -1,20 +1,13 @@
 -- A host is read from its row.
-use Rattle.std.proofs.Common.{◌≡◌, ℤ, cond, Option, Some, None, refl, sym, ap, ◌∙◌}
+use Rattle.std.proofs.{Common.{◌≡◌, ℤ, cond, Option, Some, None, refl, sym, ap, ◌∙◌}, lemmas.Slice.Eq.bytes_eq-Decides}
 use Rattle.std.specs.Str.{bytes_eq}
-use Rattle.std.proofs.lemmas.Slice.Eq.{bytes_eq-Decides}
 use Rattle.objects.specs.declared.host.Host.{Host}
 use Rattle.objects.specs.declared.roid.ObjectKind.TheVariants as kinds
 use Rattle.sqltables.specs.declared.host.HostRow.{HostRow}
-use Rattle.sqlcolumns.specs.Above.{above}
-use Rattle.sqlcolumns.specs.inner.Hosts.{IsHost, host_row_with, row_of_host}
-use Rattle.sqlcolumns.specs.Hosts.{host_of_columns, host_with}
-use Rattle.sqlcolumns.specs.Numbers.{IsPlace, registrar_column, registrar_in}
-use Rattle.sqlcolumns.specs.Roids.{roid_columns}
-use Rattle.sqlcolumns.specs.Steps.{◌>>=◌}
+use Rattle.sqlcolumns.specs.{Above.above, inner.Hosts.{IsHost, host_row_with, row_of_host}, Hosts.{host_of_columns, host_with}}
+use Rattle.sqlcolumns.specs.{Numbers.{IsPlace, registrar_column, registrar_in}, Roids.roid_columns, Steps.◌>>=◌}
 use Rattle.sqlcolumns.proofs.NumberLemmas.{maybe_back, maybe_moment_back, moment_back, registrar_back}
-use Rattle.sqlcolumns.proofs.ReadLemmas.{passed, same_some, step}
-use Rattle.sqlcolumns.proofs.RoidLemmas.{roid_back}
-use Rattle.sqlcolumns.proofs.TextLemmas.{statuses_back}
+use Rattle.sqlcolumns.proofs.{ReadLemmas.{passed, same_some, step}, RoidLemmas.roid_back, TextLemmas.statuses_back}
 
 -- what was written is read back
 pub host_back : (id : ℤ) (sponsor : Option ℤ) (h : Host) (row : HostRow) → IsHost h → row_of_host id sponsor h ≡ Some row → host_of_columns row h.addresses ≡ Some h

@@ -1,22 +1,18 @@
 -- A line is read from its row, and from no other.
 use Rattle.std.proofs.Common.{◌≡◌, ℤ, Option, Some, None, IfSome, refl, sym, ap, ◌∙◌}
 use Rattle.std.specs.Prelude.{option_map}
-use Rattle.objects.specs.declared.roid.ObjectKind.TheVariants.{Domain}
-use Rattle.objects.specs.declared.roid.Roid.{Roid}
+use Rattle.objects.specs.declared.roid.{ObjectKind.TheVariants.Domain, Roid.Roid}
 use Rattle.accounts.specs.declared.line.Line.{Line}
 use Rattle.sqltables.specs.declared.line.LineRow.{LineRow}
-use Rattle.sqlcolumns.specs.declared.line.DomainColumns.{DomainColumns}
-use Rattle.sqlcolumns.specs.declared.roid.RoidColumns.{RoidColumns}
+use Rattle.sqlcolumns.specs.declared.{line.DomainColumns.DomainColumns, roid.RoidColumns.RoidColumns}
 use Rattle.sqlcolumns.specs.Codes.{all_kinds, kind_column, kind_in}
 use Rattle.sqlcolumns.specs.Numbers.{exact_column, exact_in, fits_years_column, maybe_moment_in, moment_in_column, years_in_column}
-use Rattle.sqlcolumns.specs.Roids.{IsRoid, roid_columns, roid_in}
-use Rattle.sqlcolumns.specs.Steps.{◌>>=◌}
+use Rattle.sqlcolumns.specs.{Roids.{IsRoid, roid_columns, roid_in}, Steps.◌>>=◌}
 use Rattle.sqlcolumns.specs.inner.Lines.{IsStorableLine, domain_columns, line_row_with, not_null, row_of_line}
 use Rattle.sqlcolumns.specs.Lines.{line_made, line_of_columns, maybe_domain_in}
 use Rattle.sqlcolumns.proofs.CodeLemmas.{code_written, kind_back}
 use Rattle.sqlcolumns.proofs.NumberLemmas.{exact_back, exact_written, maybe_moment_back, maybe_moment_written, moment_back, moment_written, natural_written, years_back}
-use Rattle.sqlcolumns.proofs.ReadLemmas.{same_some, some_read, step}
-use Rattle.sqlcolumns.proofs.RoidLemmas.{roid_back, roid_written}
+use Rattle.sqlcolumns.proofs.{ReadLemmas.{same_some, some_read, step}, RoidLemmas.{roid_back, roid_written}}
 
 -- ---- the domain of a line
 

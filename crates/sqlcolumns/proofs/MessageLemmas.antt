@@ -1,23 +1,16 @@
 -- A message is read from its row, and from no other.
 use Rattle.std.proofs.Common.{rules, ◌≡◌, ℤ, pos, Bool, true, false, cond, ◌&&◌, Option, Some, None, refl, sym, ap, ◌∙◌}
-use Rattle.std.proofs.lemmas.Bool.{and_parts}
-use Rattle.std.proofs.lemmas.Bool.Decides.{Decides-int_eq}
+use Rattle.std.proofs.lemmas.Bool.{and_parts, Decides.Decides-int_eq}
 use Rattle.std.specs.Ordering.{int_eq}
 use Rattle.calendar.specs.Moment.{IsMoment}
-use Rattle.accounts.specs.declared.message.CommandNotice.{CommandNotice}
-use Rattle.accounts.specs.declared.message.LapseNotice.{LapseNotice}
-use Rattle.accounts.specs.declared.message.Message.{Message}
-use Rattle.accounts.specs.declared.message.Origin.{Origin}
+use Rattle.accounts.specs.declared.message.{CommandNotice.CommandNotice, LapseNotice.LapseNotice, Message.Message, Origin.Origin}
 use Rattle.accounts.specs.declared.message.Origin.TheVariants.{Lapse, Command}
 use Rattle.sqltables.specs.declared.message.MessageRow.{MessageRow}
-use Rattle.sqlcolumns.specs.declared.origin.OriginColumns.{OriginColumns}
-use Rattle.sqlcolumns.specs.Codes.{subject_column, subject_in}
-use Rattle.sqlcolumns.specs.Numbers.{exact_column, exact_in, moment_column, moment_in_column}
-use Rattle.sqlcolumns.specs.Steps.{◌>>=◌}
+use Rattle.sqlcolumns.specs.{declared.origin.OriginColumns.OriginColumns, Codes.{subject_column, subject_in}}
+use Rattle.sqlcolumns.specs.{Numbers.{exact_column, exact_in, moment_column, moment_in_column}, Steps.◌>>=◌}
 use Rattle.sqlcolumns.specs.Messages.{all_command_notices, all_lapse_notices, command_made, command_notice_column, command_notice_in, lapse_made, lapse_notice_column, lapse_notice_in, message_made, message_of_columns, origin_columns, origin_in, row_of_message}
 use Rattle.sqlcolumns.proofs.CodeLemmas.{code_written, subject_back, subject_written}
-use Rattle.sqlcolumns.proofs.NumberLemmas.{exact_back, exact_written, moment_back, moment_written}
-use Rattle.sqlcolumns.proofs.ReadLemmas.{same_some, step}
+use Rattle.sqlcolumns.proofs.{NumberLemmas.{exact_back, exact_written, moment_back, moment_written}, ReadLemmas.{same_some, step}}
 
 -- ---- codes
 

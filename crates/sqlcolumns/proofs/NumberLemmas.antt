@@ -1,7 +1,6 @@
 -- Numbers and moments are read from their columns, and from no others.
 use Rattle.std.proofs.Common.{◌≡◌, ℕ, ◌<◌, ◌^◌, ℤ, pos, negsuc, Bool, true, Option, Some, None, IfSome, FitsSigned, w64, nat_le, nat_lt, arith, refl, sym, ap, ◌∙◌}
-use Rattle.std.proofs.lemmas.Bool.{and_from, le-leb, ltb-true, lt-ltb}
-use Rattle.std.proofs.lemmas.Int.{ints, of_z-to_z, to_z-of_z}
+use Rattle.std.proofs.lemmas.{Bool.{and_from, le-leb, ltb-true, lt-ltb}, Int.{ints, of_z-to_z, to_z-of_z}}
 use Rattle.std.specs.Prelude.{option_map}
 use Rattle.calendar.specs.Moment.{IsMoment, is_moment}
 use Rattle.sqlcolumns.specs.Numbers.{IsPlace, counter_column, counter_in, exact_column, exact_in, fits_years_column, is_column, is_exact, is_place, maybe_moment_column, maybe_moment_in, moment_column, moment_in_column, natural_in, nullable_in, registrar_column, registrar_in, serial_in, years_column, years_in_column}

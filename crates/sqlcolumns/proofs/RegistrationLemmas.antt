@@ -1,13 +1,10 @@
 -- What contacts and domains have in common is read back from its columns.
 use Rattle.std.proofs.Common.{◌≡◌, Some, sym, ap, ◌∙◌}
 use Rattle.objects.specs.declared.roid.ObjectKind.{ObjectKind}
-use Rattle.sqlcolumns.specs.declared.registration.Registration.{Registration}
-use Rattle.sqlcolumns.specs.declared.registration.RegistrationColumns.{RegistrationColumns}
-use Rattle.sqlcolumns.specs.Registrations.{IsRegistration, columns_with, registration_columns, registration_in}
-use Rattle.sqlcolumns.specs.Roids.{roid_columns}
+use Rattle.sqlcolumns.specs.declared.registration.{Registration.Registration, RegistrationColumns.RegistrationColumns}
+use Rattle.sqlcolumns.specs.{Registrations.{IsRegistration, columns_with, registration_columns, registration_in}, Roids.roid_columns}
 use Rattle.sqlcolumns.specs.Steps.{◌>>=◌}
-use Rattle.sqlcolumns.proofs.NumberLemmas.{maybe_moment_back, moment_back, registrar_back}
-use Rattle.sqlcolumns.proofs.ReadLemmas.{same_some, step}
+use Rattle.sqlcolumns.proofs.{NumberLemmas.{maybe_moment_back, moment_back, registrar_back}, ReadLemmas.{same_some, step}}
 use Rattle.sqlcolumns.proofs.RoidLemmas.{roid_back}
 
 pub registration_back : (kind : ObjectKind) (r : Registration) (columns : RegistrationColumns) → IsRegistration r → registration_columns kind r ≡ Some columns → registration_in kind columns ≡ Some r

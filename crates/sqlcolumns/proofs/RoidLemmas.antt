@@ -1,13 +1,9 @@
 -- ROIDs are read from their columns, and from no others.
-use Rattle.std.proofs.Common.{arith, ◌≡◌, ℤ, true, Some, refl, sym, ap, ◌∙◌}
-use Rattle.std.proofs.lemmas.Bool.Decides.{Decides-eqb}
-use Rattle.objects.specs.declared.roid.ObjectKind.{ObjectKind}
-use Rattle.objects.specs.declared.roid.Roid.{Roid}
+use Rattle.std.proofs.{Common.{arith, ◌≡◌, ℤ, true, Some, refl, sym, ap, ◌∙◌}, lemmas.Bool.Decides.Decides-eqb}
+use Rattle.objects.specs.declared.roid.{ObjectKind.ObjectKind, Roid.Roid}
 use Rattle.accounts.specs.Lines.{object_rank}
-use Rattle.sqlcolumns.specs.declared.roid.RoidColumns.{RoidColumns}
-use Rattle.sqlcolumns.specs.Numbers.{counter_column, registrar_column, registrar_in, serial_in}
-use Rattle.sqlcolumns.specs.Roids.{IsRoid, is_object_kind, roid_columns, roid_in}
-use Rattle.sqlcolumns.specs.Steps.{◌>>=◌}
+use Rattle.sqlcolumns.specs.{declared.roid.RoidColumns.RoidColumns, Numbers.{counter_column, registrar_column, registrar_in, serial_in}}
+use Rattle.sqlcolumns.specs.{Roids.{IsRoid, is_object_kind, roid_columns, roid_in}, Steps.◌>>=◌}
 use Rattle.sqlcolumns.proofs.NumberLemmas.{registrar_back, registrar_written, serial_back, serial_written}
 use Rattle.sqlcolumns.proofs.ReadLemmas.{kept, passed, same_some, step}
 

@@ -1,15 +1,9 @@
 -- Lists are read from their texts.
 use Rattle.std.proofs.Common.{rules, ◌≡◌, ℕ, zero, suc, eqb, Bool, true, false, cond, ◌||◌, List, [], ◌∷◌, ◌++◌, map, length, get_or, ◌+◌, ◌<◌, Bor, ap₂, arith, Option, Some, None, IfSome, Result, Ok, Err, IfOk, refl, sym, ap, ◌∙◌, append_assoc}
-use Rattle.std.proofs.lemmas.Bool.{or_parts}
-use Rattle.std.proofs.lemmas.Bool.Decides.{Decides-eqb}
-use Rattle.std.proofs.lemmas.Slice.Eq.{bytes_eq-Decides}
-use Rattle.std.specs.Str.{bytes_eq}
-use Rattle.std.specs.List.{count_by, join_with_byte, list_any, onto_first, slice_split}
-use Rattle.std.proofs.lemmas.List.{map-append}
+use Rattle.std.proofs.lemmas.{Bool.{or_parts, Decides.Decides-eqb}, Slice.Eq.bytes_eq-Decides, List.map-append}
 use Rattle.std.proofs.lemmas.List.Splits.{join_with_byte-slice_split, length-slice_split, slice_split-cons_no, slice_split-cons_yes}
-use Rattle.objects.specs.StatusTexts.{status_named, status_text}
-use Rattle.objects.specs.declared.status.Status.{Status}
-use Rattle.objects.specs.Statuses.{all_statuses}
+use Rattle.std.specs.{Str.bytes_eq, List.{count_by, join_with_byte, list_any, onto_first, slice_split}}
+use Rattle.objects.specs.{StatusTexts.{status_named, status_text}, declared.status.Status.Status, Statuses.all_statuses}
 use Rattle.sqlcolumns.specs.Steps.{◌>>=◌}
 use Rattle.sqlcolumns.specs.Texts.{after_each, has_feed, statuses_column, statuses_in, statuses_named, street_column, street_in}
 use Rattle.sqlcolumns.proofs.ReadLemmas.{all_read, found_passes, same_some, step}

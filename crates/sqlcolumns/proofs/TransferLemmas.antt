@@ -1,11 +1,9 @@
 -- A transfer is read from its row, and from no other.
-use Rattle.std.proofs.Common.{◌≡◌, ℤ, true, cond, Option, Some, None, refl, sym, ap, ◌∙◌}
-use Rattle.std.proofs.lemmas.Bool.{false≢true}
+use Rattle.std.proofs.{Common.{◌≡◌, ℤ, true, cond, Option, Some, None, refl, sym, ap, ◌∙◌}, lemmas.Bool.false≢true}
 use Rattle.std.proofs.lemmas.Bool.Decides.{Decides-int_eq}
 use Rattle.objects.specs.declared.transfer.Transfer.{Transfer}
 use Rattle.sqltables.specs.declared.transfer.TransferRow.{TransferRow}
-use Rattle.sqlcolumns.specs.Codes.{all_transfer_states, state_column, state_in}
-use Rattle.sqlcolumns.specs.Numbers.{moment_in_column, registrar_in}
+use Rattle.sqlcolumns.specs.{Codes.{all_transfer_states, state_column, state_in}, Numbers.{moment_in_column, registrar_in}}
 use Rattle.sqlcolumns.specs.Transfers.{IsStorableTransfer, due_column, is_same, row_of_transfer, transfer_due_at, transfer_made, transfer_of_columns}
 use Rattle.sqlcolumns.proofs.CodeLemmas.{code_written, state_back}
 use Rattle.sqlcolumns.proofs.NumberLemmas.{moment_back, moment_written, registrar_back, registrar_written}

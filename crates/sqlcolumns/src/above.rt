@@ -1,6 +1,5 @@
 //! Below which name of two labels a name lies.
-ghost use Rattle.std.specs.Prelude.{◌≡◌, map, IfOk, string_bytes};
-ghost use Rattle.std.specs.List.{join_with_byte};
+ghost use Rattle.std.specs.{Prelude.{◌≡◌, map, IfOk, string_bytes}, List.join_with_byte};
 ghost use Rattle.sqlcolumns.specs.Above as spec;
 
 use basis::text::Text;

@@ -1,9 +1,8 @@
 //! Hosts as rows. A host's addresses are rows of their own.
 ghost use Rattle.std.specs.Prelude.{◌≡◌, ◌↔◌, IsTrue, IfOk};
-ghost use Rattle.sqlcolumns.specs.Above.{above};
+ghost use Rattle.sqlcolumns.specs.{Above.above, Texts.statuses_in};
 ghost use Rattle.sqlcolumns.specs.Hosts as spec;
 ghost use Rattle.sqlcolumns.specs.inner.Hosts as inner_spec;
-ghost use Rattle.sqlcolumns.specs.Texts.{statuses_in};
 
 use crate::above::above_column;
 use crate::moment::{

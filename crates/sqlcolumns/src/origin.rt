@@ -2,8 +2,7 @@
 ghost use Rattle.std.specs.Prelude.{◌≡◌, Some, IfSome};
 ghost use Rattle.std.proofs.Common.{rules};
 ghost use Rattle.accounts.specs.declared.message.CommandNotice.{CommandNotice};
-ghost use Rattle.accounts.specs.declared.message.LapseNotice.{LapseNotice};
-ghost use Rattle.accounts.specs.declared.message.Origin.{Origin};
+ghost use Rattle.accounts.specs.declared.message.{LapseNotice.LapseNotice, Origin.Origin};
 ghost use Rattle.sqlcolumns.specs.Messages as spec;
 
 use crate::code::Coded;

@@ -1,7 +1,6 @@
 //! Lists of statuses as one text.
 ghost use Rattle.std.specs.Prelude.{◌≡◌, List, Some, IfOk, IfSome, OnOk, string_bytes};
-ghost use Rattle.objects.specs.StatusTexts.{status_text};
-ghost use Rattle.objects.specs.declared.status.Status.{Status};
+ghost use Rattle.objects.specs.{StatusTexts.status_text, declared.status.Status.Status};
 ghost use Rattle.sqlcolumns.specs.Texts as spec;
 
 use basis::list::Seq;

@@ -6,26 +6,21 @@ use Rattle.sqlderived.proofs.Words.{filter-has, found_due, get, Has, has-filter,
 use Rattle.sqlderived.proofs.Words.{IsConsistent, kept, last_transfer, maybe_due_column, maybe_moment_in, moment_in_column, nat_tests, ObjectKind}
 use Rattle.sqlderived.proofs.Words.{only_named, option_map_or, Ordering, passed, PolicyRules, registrar_column, registrar_in, rules_with}
 use Rattle.sqlderived.proofs.Words.{same_is_equal, same_some, step, test_has, Transfer, transfer_with_contact}
+use Rattle.sqlderived.proofs.FoundLemmas.{HasPicked, found-picked, rows-alike, same-picked}
 use Rattle.calendar.specs.Moment.{capped}
 use Rattle.sqlite_keyed.specs.Lists.{insert_sorted, sort_by}
 use Rattle.objects.specs.declared.contact.Contact.{Contact}
 use Rattle.objects.specs.declared.roid.ObjectKind.TheVariants as kinds
-use Rattle.sqlcolumns.specs.Contacts.{contact_of_columns, contact_registration_columns, contact_with}
-use Rattle.sqlcolumns.specs.Registrations.{registration_in}
-use Rattle.sqlcolumns.specs.Roids.{roid_in}
-use Rattle.sqlcolumns.specs.Texts.{statuses_in, street_in}
+use Rattle.sqlcolumns.specs.{Contacts.{contact_of_columns, contact_registration_columns, contact_with}, Registrations.registration_in}
+use Rattle.sqlcolumns.specs.{Roids.roid_in, Texts.{statuses_in, street_in}}
 use Rattle.sqlcolumns.proofs.NumberLemmas.{registrar_written}
-use Rattle.sqlrows.specs.inner.Layouts.{by_then_key}
+use Rattle.sqlrows.specs.{inner.Layouts.by_then_key, Read.{first_read, or_else}}
 use Rattle.sqltables.specs.Contact as contact_table
-use Rattle.sqltables.specs.declared.contact.ContactRow.{ContactRow}
+use Rattle.sqltables.specs.{declared.contact.ContactRow.ContactRow, inner.Due.is_due_by}
 use Rattle.sqltables.specs.Domain as domain_table
-use Rattle.sqltables.specs.inner.Due.{is_due_by}
-use Rattle.sqlrows.specs.Read.{first_read, or_else}
 use Rattle.sqlobjects.proofs.NameLemmas.{contact-named}
-use Rattle.sqldomains.proofs.LinkedLemmas.{first-has}
-use Rattle.sqldomains.proofs.NameOrderLemmas.{name-read, row-under, stands-there}
+use Rattle.sqldomains.proofs.{LinkedLemmas.first-has, NameOrderLemmas.{name-read, row-under, stands-there}}
 use Rattle.sqlderived.specs.inner.Finding as spec
-use Rattle.sqlderived.proofs.FoundLemmas.{HasPicked, found-picked, rows-alike, same-picked}
 
 -- ---- sorted rows are the same rows
 

@@ -4,11 +4,11 @@ use Rattle.std.specs.declared.cmp.Ordering.TheVariants.{Less, Equal, Greater}
 use Rattle.sqlderived.proofs.Words.{bytes_is, Due, due_cmp, entries, eq_by_cmp, filter-has, find, FinMap, found_due, get, get-entries, Has}
 use Rattle.sqlderived.proofs.Words.{has-filter, IsAntisymmetric, kind_rank, nat_cmp, nat_cmp-IsAntisymmetric, nat_list_cmp_total, ObjectKind}
 use Rattle.sqlderived.proofs.Words.{Ordering, ordering_then, same_some, slice_cmp, slice_cmp-IsAntisymmetric, step, with_due, with_rows}
+use Rattle.sqlderived.proofs.OrderLemmas.{Rises, has-insert, insert-from, insert-keeps, insert-rises, same-list}
 use Rattle.basis.proofs.EntryLaws.{Each, each_entry}
 use Rattle.lifecycle.specs.DueOrder.{due_cmp_total}
 use Rattle.sqlcolumns.specs.Steps.{◌>>=◌}
 use Rattle.sqlderived.specs.inner.Finding.{with_row}
-use Rattle.sqlderived.proofs.OrderLemmas.{Rises, has-insert, insert-from, insert-keeps, insert-rises, same-list}
 
 -- ---- only equals tie
 

@@ -2,8 +2,8 @@
 use Rattle.std.proofs.Common.{◌≡◌, ℕ, ℤ, pos, Bool, true, false, cond, Option, Some, None, sym, ap, ◌∙◌, int_eq}
 use Rattle.sqlderived.proofs.Words.{AccountRow, and_parts, Content, exact_in, has_right_held, held_of, helds_are_right, is_exact, is_held_right}
 use Rattle.sqlderived.proofs.Words.{is_place, IsConsistent, key-get_by, option_map_or, registrar_in, row_of, same_int, unwrap_or}
-use Rattle.sqlrows.proofs.RowLemmas.{all_with}
 use Rattle.sqlderived.proofs.NobodyLemmas.{holds-none}
+use Rattle.sqlrows.proofs.RowLemmas.{all_with}
 use Rattle.sqltables.specs.Account as table
 
 abbrev key : AccountRow → ℤ

@@ -3,16 +3,15 @@ use Rattle.std.proofs.Common.{◌≡◌, ℕ, ℤ, pos, negsuc, ◌+◌, ◌+ℤ
 use Rattle.sqlderived.proofs.Words.{AccountRow, and_parts, AreAlike, AreBoth, AreCounted, both_ways, Content, counts_where, Domain, domains_of, get}
 use Rattle.sqlderived.proofs.Words.{has_right_held, held_of, helds_are_right, ident_and_held, ints, is_held_by, is_held_right, is_place}
 use Rattle.sqlderived.proofs.Words.{IsAlikeButHeld, IsConsistent, IsHeldCounted, IsRecounted, key-get_by, option_map, option_map_or, registrar_in}
-use Rattle.sqlderived.proofs.Words.{row_of, same_int, same_some, test_from, unwrap_or, values}
+use Rattle.sqlderived.proofs.{Words.{row_of, same_int, same_some, test_from, unwrap_or, values}, CountLemmas.{count, count-put}}
+use Rattle.sqlderived.proofs.NobodyLemmas.{holds-none}
 use Rattle.sqlite_keyed.specs.Keyed.{get_by}
 use Rattle.sqlrows.proofs.RowLemmas.{all_with}
 use Rattle.accounts.specs.declared.account.Account.{Account}
 use Rattle.sqlaccounts.specs.inner.Changes.{AreOthersKept, IsChange, IsOpened, opened_row}
 use Rattle.sqlaccounts.proofs.FindingLemmas.{equal}
 use Rattle.sqlobjects.specs.inner.Changes.{with_named}
-use Rattle.sqlderived.proofs.CountLemmas.{count, count-put}
 use Rattle.sqltables.specs.Account as table
-use Rattle.sqlderived.proofs.NobodyLemmas.{holds-none}
 
 abbrev key : AccountRow → ℤ
 key = table.accounts.key

@@ -2,8 +2,7 @@
 use Rattle.std.proofs.Common.{◌≡◌, ℕ, ◌+◌, Option, sym, ap, ◌∙◌}
 use Rattle.sqlderived.proofs.Words.{Content, counts_one, counts_own, counts_where, Domain, Holders, incoming_without, is_held_by, is_some_holder}
 use Rattle.sqlderived.proofs.Words.{is_written, IsCountedAnew, IsRecounted, maybe_holders_of, sponsor_without}
-use Rattle.sqlderived.proofs.HolderLemmas.{balanced, held-by, leaving}
-use Rattle.sqlderived.proofs.RecountLemmas.{anew-as}
+use Rattle.sqlderived.proofs.{HolderLemmas.{balanced, held-by, leaving}, RecountLemmas.anew-as}
 
 module _ (written : Option ℕ) (before after : Option Domain) (p q : Option Holders) (first : p ≡ maybe_holders_of before) (second : q ≡ maybe_holders_of after) (a b c d : Option ℕ)
     (sponsor_left : a ≡ sponsor_without written p q) (incoming_left : b ≡ incoming_without written p q)

@@ -1,47 +1,37 @@
 -- What is found near is, of all that is due, what is concerned.
 use Rattle.std.proofs.Common.{◌≡◌, ◌⊎◌, ⊎_elim, inl, inr, ℕ, ℤ, pos, take, Bool, true, false, cond, ◌&&◌, ◌||◌, ◌==◌, int_le, List, [], ◌∷◌, ◌++◌, filter, Option, Some, None, option_map, refl, sym, ap, subst, ◌∙◌}
-use Rattle.std.proofs.lemmas.List.Folds.{list_any-append}
-use Rattle.std.proofs.lemmas.Slice.Eq.{bytes_eq-Decides}
+use Rattle.std.proofs.lemmas.{List.Folds.list_any-append, Slice.Eq.bytes_eq-Decides}
 use Rattle.std.specs.Str as str
 use Rattle.sqlderived.proofs.Words.{and_from, AreDue, cons_option, contact_due_in_row, contact_read, contacts_of, contacts_until, Content}
 use Rattle.sqlderived.proofs.Words.{counter_column, days_of_rows, Domain, domain_due_shown, domain_read, DomainRow, domains_of, domains_until, Due}
 use Rattle.sqlderived.proofs.Words.{due_then, dues_are_right, eqb-true, filter-has, filter_map, FinMap, flat_map, get, Has, has-filter, has_either}
 use Rattle.sqlderived.proofs.Words.{has_left, has_right, is_pending_state, IsConsistent, last_transfer, list_any, names, nat_cmp, ObjectKind}
 use Rattle.sqlderived.proofs.Words.{option_map_or, or_cases, or_parts, PolicyRules, registrar_column, row_of_transfer, same_some, slice_cmp}
-use Rattle.sqlderived.proofs.Words.{some_has, Transfer, transfer_of_columns, transfer_written, with_rows}
+use Rattle.sqlderived.proofs.{Words.{some_has, Transfer, transfer_of_columns, transfer_written, with_rows}, NobodyLemmas.last-has}
+use Rattle.sqlderived.proofs.DueLemmas.{all-due, contact-row, contact-stands, contact-under, due-picked, never-before}
 use Rattle.sqlite_keyed.specs.Rules.{points_to}
 use Rattle.sqlite_typed.specs.Tests.{bytes_eq}
 use Rattle.accounts.proofs.LineLaws.{same-roids}
 use Rattle.accounts.specs.Lines.{is_same_roid}
-use Rattle.objects.specs.Links.{has_name, names_contact, names_host}
-use Rattle.objects.specs.declared.contact.Contact.{Contact}
+use Rattle.objects.specs.{Links.{has_name, names_contact, names_host}, declared.{contact.Contact.Contact, roid.Roid.Roid}}
 use Rattle.objects.specs.declared.roid.ObjectKind.TheVariants as kinds
-use Rattle.objects.specs.declared.roid.Roid.{Roid}
-use Rattle.sqlcolumns.proofs.NumberLemmas.{registrar_written, serial_written}
-use Rattle.sqlcolumns.proofs.RoidLemmas.{roid_read}
+use Rattle.sqlcolumns.proofs.{NumberLemmas.{registrar_written, serial_written}, RoidLemmas.roid_read}
 use Rattle.protocol.specs.Requests.{holds_of}
 use Rattle.concerns.specs.Concerns.{concerns_domain, contact_name, domain_name, domain_roid, is_about, is_at_stake, meant, read_at}
-use Rattle.concerns.specs.declared.given.Names.{Names}
-use Rattle.concerns.specs.DueFor.{is_picked, picks}
+use Rattle.concerns.specs.{declared.given.Names.Names, DueFor.{is_picked, picks}}
 use Rattle.model.specs.Lapse.{Choice}
 use Rattle.sqltables.specs.Contact as contact_table
-use Rattle.sqltables.specs.declared.contact.ContactRow.{ContactRow}
-use Rattle.sqltables.specs.Domain as domain_table
-use Rattle.sqltables.specs.inner.Due.{falls_due}
-use Rattle.sqltables.specs.Link as link_table
-use Rattle.sqltables.specs.declared.link.LinkRow.{LinkRow}
-use Rattle.sqltables.specs.Transfer as transfer_table
+use Rattle.sqltables.specs.{declared.{contact.ContactRow.ContactRow, link.LinkRow.LinkRow}, inner.Due.falls_due}
 use Rattle.sqltables.specs.declared.transfer.TransferRow.{TransferRow}
+use Rattle.sqltables.specs.Domain as domain_table
+use Rattle.sqltables.specs.Link as link_table
+use Rattle.sqltables.specs.Transfer as transfer_table
 use Rattle.sqltables.proofs.RowLemmas.{bytes_same}
 use Rattle.sqlobjects.specs.inner.Stages.{NamedTable, named_contacts, named_domains, named_hosts, rows_named}
 use Rattle.sqlobjects.proofs.NewRowLemmas.{points-so}
-use Rattle.sqldomains.proofs.AnswerLemmas.{equal}
-use Rattle.sqldomains.proofs.LeadingLemmas.{LinksContact, names-contact, names-host}
-use Rattle.sqldomains.proofs.NameOrderLemmas.{name-read, row-under, stands-there}
-use Rattle.sqldomains.proofs.SponsorLemmas.{parts, sponsor-read}
+use Rattle.sqldomains.proofs.{AnswerLemmas.equal, LeadingLemmas.{LinksContact, names-contact, names-host}}
+use Rattle.sqldomains.proofs.{NameOrderLemmas.{name-read, row-under, stands-there}, SponsorLemmas.{parts, sponsor-read}}
 use Rattle.sqlderived.specs.inner.Near.{HasAllNear, concerned_in, contacts_led, contacts_near, domain_of_link, domains_alike, domains_by_names, domains_led, domains_near, domains_to_contact, domains_to_host, each_named, is_any, is_behind, pending_of}
-use Rattle.sqlderived.proofs.NobodyLemmas.{last-has}
-use Rattle.sqlderived.proofs.DueLemmas.{all-due, contact-row, contact-stands, contact-under, due-picked, never-before}
 
 -- ---- rows found one after another
 

@@ -5,8 +5,7 @@ use Rattle.sqlderived.proofs.Words.{AccountRow, Content, Domain, domain_read, Do
 use Rattle.sqlderived.proofs.Words.{is_held_by, is_incoming, is_pending_state, IsConsistent, last_transfer, registrar_column, row_of, same_some}
 use Rattle.sqlderived.proofs.Words.{Transfer, transfer_of_columns, transfer_with_domain, transfer_written, values}
 use Rattle.sqlite_keyed.proofs.ListLemmas.{none_counted}
-use Rattle.sqldomains.proofs.LinkedLemmas.{none-passes}
-use Rattle.sqldomains.proofs.SponsorLemmas.{parts, sponsor-read}
+use Rattle.sqldomains.proofs.{LinkedLemmas.none-passes, SponsorLemmas.{parts, sponsor-read}}
 use Rattle.sqltables.specs.Account as account_table
 use Rattle.sqltables.specs.declared.transfer.TransferRow.{TransferRow}
 

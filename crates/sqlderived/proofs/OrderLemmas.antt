@@ -1,7 +1,6 @@
 -- What is found due, in strict order, is decided by what is due.
 use Rattle.std.proofs.Common.{◌≡◌, ◌⊎◌, inl, inr, List, [], ◌∷◌, Ordering, Less, Equal, Greater, refl, sym, ap, subst, ◌∙◌}
-use Rattle.std.specs.Prelude.{⊤}
-use Rattle.std.specs.BTreeSet.{insert_key}
+use Rattle.std.specs.{Prelude.⊤, BTreeSet.insert_key}
 use Rattle.sqlderived.proofs.Words.{Has, IsAntisymmetric, IsTotalOrder, match_ordering, ordering_reverse}
 
 module _ {K : Type 0} (R : K → K → Ordering) (o : IsTotalOrder R) (same : IsAntisymmetric R) where

@@ -5,10 +5,10 @@ use Rattle.std.specs.declared.cmp.Ordering.TheVariants.{Less, Equal, Greater}
 use Rattle.sqlderived.proofs.Words.{all_from, completes_at, contact_due, Content, domain_due, Due, due_at, due_by, due_cmp, due_then, entries}
 use Rattle.sqlderived.proofs.Words.{FindsIfRight, found_due, Has, kind_rank, nat_cmp, nat_tests, ObjectKind, Ordering, ordering_then, passed}
 use Rattle.sqlderived.proofs.Words.{PolicyRules, Reads, reads-on, same_some, slice_cmp, StateOf, stays-on}
+use Rattle.sqlderived.proofs.FoundLemmas.{ArePicked, InOrder, found-from, same-picked, tests-picked}
 use Rattle.sqlite_keyed.proofs.ListLemmas.{filter_all, filter_none}
 use Rattle.model.specs.Registry.{Registry}
 use Rattle.states.specs.declared.fault.BookFault.{BookFault}
-use Rattle.sqlderived.proofs.FoundLemmas.{ArePicked, InOrder, found-from, same-picked, tests-picked}
 
 -- ---- an order by moments
 

@@ -6,8 +6,7 @@ use Rattle.sqlderived.proofs.Words.{IsAlikeButHeld, IsCountedAnew, IsHeldCounted
 use Rattle.sqlderived.proofs.Words.{then-became, unwrap_or}
 use Rattle.sqlite_keyed.specs.Keyed.{insert_by}
 use Rattle.accounts.specs.Account.{empty_account}
-use Rattle.sqlaccounts.proofs.AccountLemmas.{accounts-put, get-found, kept_accounts, row_here, row_there, sums-put}
-use Rattle.sqlaccounts.proofs.FindingLemmas.{equal}
+use Rattle.sqlaccounts.proofs.{AccountLemmas.{accounts-put, get-found, kept_accounts, row_here, row_there, sums-put}, FindingLemmas.equal}
 use Rattle.sqltables.proofs.PuttingLemmas.{put-twice}
 use Rattle.sqlderived.specs.declared.recounting.Unwritten.{Unwritten}
 use Rattle.sqlaccounts.specs.inner.Posting.{with_row}

@@ -7,8 +7,7 @@ use Rattle.calendar.specs.Moment.{capped, is_moment}
 use Rattle.sqlcolumns.specs.Domains.{deletion_in}
 use Rattle.sqlcolumns.proofs.DomainLemmas.{deletion_reads}
 use Rattle.lifecycle.specs.Phases.{purge_at}
-use Rattle.objects.specs.Domains.{expiry}
-use Rattle.objects.specs.declared.domain.Deletion.{Deletion}
+use Rattle.objects.specs.{Domains.expiry, declared.domain.Deletion.Deletion}
 use Rattle.objects.specs.declared.domain.Domain as object
 use Rattle.policy.specs.declared.schedule.Schedule.{Schedule}
 use Rattle.sqlobjects.proofs.VerdictLemmas.{all-alike, all-pass, each-passes}

@@ -1,7 +1,6 @@
 //! Whether the column of a domain's row is the moment when it is due.
-ghost use Rattle.std.specs.Prelude.{◌≡◌, ◌==◌, true, IfOk, Some};
+ghost use Rattle.std.specs.{Prelude.{◌≡◌, ◌==◌, true, IfOk, Some}, FinMap.get};
 ghost use Rattle.calendar.specs.Moment.{capped};
-ghost use Rattle.std.specs.FinMap.{get};
 ghost use Rattle.sqlcolumns.specs.Numbers as numbers;
 ghost use Rattle.lifecycle.specs.Lapse as lapse;
 ghost use Rattle.lifecycle.specs.Periods.{rules_with};

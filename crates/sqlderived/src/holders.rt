@@ -1,6 +1,5 @@
 //! Who holds a domain, and who does no more.
-ghost use Rattle.std.specs.Prelude.{◌≡◌, ◌==◌, false, Some};
-ghost use Rattle.std.specs.Option.{option_map_or};
+ghost use Rattle.std.specs.{Prelude.{◌≡◌, ◌==◌, false, Some}, Option.option_map_or};
 ghost use Rattle.sqlderived.specs.inner.Holders as spec;
 
 use basis::registrar::RegistrarNo;

@@ -1,6 +1,5 @@
 //! How many domains a registrar holds.
-ghost use Rattle.std.specs.Prelude.{◌≡◌, nat_le, pos};
-ghost use Rattle.std.specs.Option.{option_map_or};
+ghost use Rattle.std.specs.{Prelude.{◌≡◌, nat_le, pos}, Option.option_map_or};
 ghost use Rattle.sqlrows.specs.Meanings.{FindsIfRight};
 ghost use Rattle.sqlderived.specs.Held.{held_of, helds_are_right};
 ghost use Rattle.sqltables.specs.declared.account.AccountRow.{AccountRow};

@@ -1,6 +1,5 @@
 //! Rows that things lead to, one after another.
-ghost use Rattle.std.specs.Prelude.{◌≡◌, ◌++◌, IfOk};
-ghost use Rattle.std.specs.List.{flat_map};
+ghost use Rattle.std.specs.{Prelude.{◌≡◌, ◌++◌, IfOk}, List.flat_map};
 ghost use Rattle.states.specs.States.{Finds};
 
 use basis::list::Seq;

@@ -1,11 +1,9 @@
 //! What is due of that which concerns a registrar and some names, found by indexes.
 ghost use Rattle.std.specs.Prelude.{◌≡◌, true, filter};
 ghost use Rattle.sqlcolumns.specs.Numbers.{moment_column};
-ghost use Rattle.sqlderived.specs.Dues.{dues_are_right};
-ghost use Rattle.sqlderived.specs.inner.Finding.{AreDue};
+ghost use Rattle.sqlderived.specs.{Dues.dues_are_right, inner.Finding.AreDue};
 ghost use Rattle.sqlderived.specs.inner.Near as spec;
-ghost use Rattle.sqltables.specs.Contact.{contact_within_due};
-ghost use Rattle.sqltables.specs.Domain.{domain_within_due};
+ghost use Rattle.sqltables.specs.{Contact.contact_within_due, Domain.domain_within_due};
 ghost use Rattle.states.specs.States.{Finds, FindsSome};
 
 use crate::by_names::{domains_by_names, each_named};

@@ -1,7 +1,6 @@
 //! When deleted domains are due: when they are purged. PendingDelete may begin after the clock, and so
 //! under lengths that the book is opened under only later.
-ghost use Rattle.std.specs.Prelude.{◌≡◌, true, false, IfOk, Ok, Err};
-ghost use Rattle.std.specs.List.{list_all};
+ghost use Rattle.std.specs.{Prelude.{◌≡◌, true, false, IfOk, Ok, Err}, List.list_all};
 ghost use Rattle.calendar.specs.Moment.{capped};
 ghost use Rattle.lifecycle.specs.Periods.{rules_with};
 ghost use Rattle.lifecycle.specs.Phases as phases;

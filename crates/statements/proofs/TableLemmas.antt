@@ -1,9 +1,7 @@
 -- Rows are written one after another.
 use Rattle.std.proofs.Common.{◌≡◌, ℕ, ◌+◌, ℤ, ◌+ℤ◌, List, ◌∷◌, ◌++◌, drop, append_assoc, sym, ap, ◌∙◌}
-use Rattle.accounts.specs.declared.line.Line.{Line}
-use Rattle.accounts.specs.Lines.{amount}
-use Rattle.statements.specs.declared.extract.Bounds.{Bounds}
-use Rattle.statements.specs.Tables.{row_within, rows}
+use Rattle.accounts.specs.{declared.line.Line.Line, Lines.amount}
+use Rattle.statements.specs.{declared.extract.Bounds.Bounds, Tables.{row_within, rows}}
 
 pub one_more : (b : Bounds) (lines : List Line) (i : ℕ) (l : Line) (text later all : List ℕ) (balance after : ℤ) → drop i lines ≡ l ∷ drop (i + 1) lines
     → later ≡ text ++ row_within b l (balance +ℤ amount l) → after ≡ balance +ℤ amount l

@@ -1,16 +1,10 @@
 -- What a sort leaves is the bag of the same items in its order.
 use Rattle.std.proofs.Common.{◌≡◌, ℕ, ◌+◌, ◌<◌, zero, suc, Bool, true, false, cond, List, [], ◌∷◌, length, slice_index_or, slice_set, refl, sym, ap, ◌∙◌, arith}
-use Rattle.std.proofs.lemmas.Cmp.{nat_list_cmp_total}
-use Rattle.std.proofs.lemmas.List.Sorted.{IsPermutation-keeps}
-use Rattle.std.specs.Cmp.Lexicographic.{slice_cmp}
-use Rattle.std.specs.List.{swap}
-use Rattle.std.specs.List.Sorted.{IsPermutation, IsSortedBy}
-use Rattle.std.specs.Ordering.{nat_cmp, is_le, is_lt}
+use Rattle.std.proofs.lemmas.{Cmp.nat_list_cmp_total, List.Sorted.IsPermutation-keeps}
+use Rattle.std.specs.{Cmp.Lexicographic.slice_cmp, List.{swap, Sorted.{IsPermutation, IsSortedBy}}, Ordering.{nat_cmp, is_le, is_lt}}
 use Rattle.basis.specs.Bag.{IsLinear, add, bag_of, taken}
-use Rattle.basis.proofs.BagLaws.{add-add, le-itself, taken-add}
-use Rattle.basis.proofs.OrderLaws.{le_unless, linear_by_numbers}
-use Rattle.accounts.specs.declared.line.Line.{Line}
-use Rattle.accounts.specs.Lines.{in_order, numbers}
+use Rattle.basis.proofs.{BagLaws.{add-add, le-itself, taken-add}, OrderLaws.{le_unless, linear_by_numbers}}
+use Rattle.accounts.specs.{declared.line.Line.Line, Lines.{in_order, numbers}}
 use Rattle.accounts.proofs.LineLaws.{lines_in_order}
 use Rattle.statements.specs.Tables.{by_moment, place, precedes_in_time}
 

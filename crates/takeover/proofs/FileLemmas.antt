@@ -1,36 +1,26 @@
 -- What a crash leaves of the files of a takeover.
 use Rattle.std.proofs.Common.{◌≡◌, ◌⊎◌, inl, inr, true, List, [], ◌∷◌, Option, Some, None, Result, Ok, Err, IsTrue, refl, sym, ap, subst, ◌∙◌}
-use Rattle.std.proofs.Math.Logic.{∥∥₁_map}
-use Rattle.std.proofs.lemmas.Bool.{and_parts}
+use Rattle.std.proofs.{Math.Logic.∥∥₁_map, lemmas.Bool.and_parts}
 use Rattle.sqlite_disk.specs.declared.Disk.{Ghosts}
 use Rattle.sqlite_wal.specs.Recovery.{Image}
 use Rattle.sqlite_trees.specs.Tree.{Trees}
-use Rattle.sqlite_store.specs.declared.store.FileStore.{FileStore}
-use Rattle.sqlite_store.specs.FileStore.{recovers, view}
+use Rattle.sqlite_store.specs.{declared.store.FileStore.FileStore, FileStore.{recovers, view}}
 use Rattle.sqlite_store.specs.FileStore as files
 use Rattle.sqlite.specs.Held.{AreDatabases}
 use Rattle.sqlite.proofs.Theorems.{opens_again}
-use Rattle.policy.specs.declared.terms.Terms.{Terms}
-use Rattle.policy.specs.Rules.{PolicyRules}
+use Rattle.policy.specs.{declared.terms.Terms.Terms, Rules.PolicyRules}
 use Rattle.books.specs.Book.{Stored}
-use Rattle.oldrows.specs.Stored.{OldState}
+use Rattle.oldrows.specs.{Stored.OldState, inner.Stored.{CoversOld, IsLeftAsOld}}
 use Rattle.oldrows.specs.Stored as old
-use Rattle.oldrows.specs.inner.Stored.{CoversOld, IsLeftAsOld}
-use Rattle.sqltables.specs.Adoption.{IsAdopted}
-use Rattle.sqltables.specs.Content.{Content}
-use Rattle.sqltables.specs.declared.meta.MetaRow.{MetaRow}
-use Rattle.sqltables.specs.Readiness.{is_numbered, may_be_numbered}
-use Rattle.sqltables.specs.Stored as stored
+use Rattle.sqltables.specs.{Adoption.IsAdopted, Content.Content, declared.meta.MetaRow.MetaRow, Readiness.{is_numbered, may_be_numbered}}
 use Rattle.sqltables.specs.inner.Reopening.{IsContentFoundAgain, AreRowsReopened}
+use Rattle.sqltables.specs.Stored as stored
 use Rattle.sqltables.proofs.ReopeningLemmas.{reopened}
-use Rattle.sqlbook.specs.Files.{IsFoundIn}
-use Rattle.sqlbook.specs.Meaning.{are_right, stored_of}
+use Rattle.sqlbook.specs.{Files.IsFoundIn, Meaning.{are_right, stored_of}}
 use Rattle.sqlterms.specs.Terms.{terms_of_rows}
-use Rattle.states.specs.States.{Has, Remains, StateOf}
-use Rattle.states.specs.declared.readiness.Ready.{Ready}
+use Rattle.states.specs.{States.{Has, Remains, StateOf}, declared.readiness.Ready.Ready}
 use Rattle.states.proofs.LeavingLemmas.{has-alone}
-use Rattle.takeover.specs.declared.migrating.MigrateFault.{MigrateFault}
-use Rattle.takeover.specs.declared.migrating.MigrateFault.TheVariants.{Policy, Schema, Memory, Store}
+use Rattle.takeover.specs.declared.migrating.MigrateFault.{MigrateFault, TheVariants.{Policy, Schema, Memory, Store}}
 use Rattle.takeover.specs.Files.{IsAsBefore, IsThereAfter, IsFoundComplete, NewFilesHoldAllOrNothing, OldFilesStay}
 use Rattle.takeover.specs.Migrating.{IsAll, IsTried, Migrates, numbered_anew, with_days}
 

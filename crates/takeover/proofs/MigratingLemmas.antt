@@ -1,58 +1,33 @@
 -- What it is to take a registry of the schema before this one over.
 use Rattle.std.proofs.Common.{◌≡◌, ◌&&◌, inl, inr, ℤ, pos, Bool, true, false, cond, List, [], ◌∷◌, length, map, filter, Option, Some, None, Result, Ok, Err, refl, sym, ap, subst, ◌∙◌, int_eq}
-use Rattle.std.specs.FinMap.{from_entries}
-use Rattle.std.specs.List.{cons_option, filter_map, list_all}
-use Rattle.std.specs.Option.{option_map_or}
-use Rattle.std.specs.Prelude.{slice_get}
+use Rattle.std.specs.{FinMap.from_entries, List.{cons_option, filter_map, list_all}, Option.option_map_or, Prelude.slice_get}
 use Rattle.sqlite_keyed.specs.Keyed.{IsKeyedBy}
 use Rattle.sqlite_keyed.proofs.ListLemmas.{ascending-map}
 use Rattle.accounts.specs.Lines.{balance, in_order}
 use Rattle.basis.specs.Bag.{bag_of}
-use Rattle.sqlcolumns.specs.Lines.{line_of_columns}
-use Rattle.sqlcolumns.specs.Numbers.{registrar_in}
-use Rattle.policy.specs.Rules.{PolicyRules}
-use Rattle.policy.specs.declared.schedule.Schedule.{Schedule}
-use Rattle.sqltables.specs.Account.{accounts}
-use Rattle.sqltables.specs.declared.account.AccountRow.{AccountRow}
-use Rattle.sqltables.specs.Address.{addresses}
-use Rattle.sqltables.specs.Contact.{contacts}
-use Rattle.sqltables.specs.Content.{Content, no_content}
-use Rattle.sqltables.specs.declared.day.DayRow.{DayRow}
-use Rattle.sqltables.specs.Domain.{domains}
-use Rattle.sqltables.specs.Host.{hosts}
-use Rattle.sqltables.specs.Line.{line_with_account, lines}
-use Rattle.sqltables.specs.declared.line.LineRow.{LineRow}
-use Rattle.sqltables.specs.Link.{links}
-use Rattle.sqltables.specs.Message.{messages}
-use Rattle.sqltables.specs.Meta.{metas}
-use Rattle.sqltables.specs.declared.meta.MetaRow.{MetaRow}
-use Rattle.sqltables.specs.Readiness.{may_be_numbered}
-use Rattle.sqltables.specs.Transfer.{transfers}
-use Rattle.states.specs.declared.fault.BookFault.{BookFault}
-use Rattle.states.specs.declared.fault.BookFault.TheVariants as faults
-use Rattle.states.specs.declared.readiness.Ready.TheVariants.{Used}
+use Rattle.sqlcolumns.specs.{Lines.line_of_columns, Numbers.registrar_in}
+use Rattle.policy.specs.{Rules.PolicyRules, declared.schedule.Schedule.Schedule}
+use Rattle.sqltables.specs.{Account.accounts, declared.account.AccountRow.AccountRow, Address.addresses, Contact.contacts}
+use Rattle.sqltables.specs.{Content.{Content, no_content}, declared.day.DayRow.DayRow, Domain.domains, Host.hosts}
+use Rattle.sqltables.specs.{Line.{line_with_account, lines}, declared.line.LineRow.LineRow, Link.links, Message.messages, Meta.metas}
+use Rattle.sqltables.specs.{declared.meta.MetaRow.MetaRow, Readiness.may_be_numbered, Transfer.transfers}
+use Rattle.states.specs.declared.{fault.BookFault.BookFault, readiness.Ready.TheVariants.Used}
 use Rattle.states.specs.States.{Closes, Has, Keeps, LeavesSame, Reads, Remains, Starts, StateOf, Stays, holding}
+use Rattle.states.specs.declared.fault.BookFault.TheVariants as faults
 use Rattle.states.proofs.LeavingLemmas.{leaves-on}
-use Rattle.oldrows.specs.inner.Copies.{Copies, IsCopied, IsCopyLeft, put_of_all}
-use Rattle.oldrows.specs.Copies.{renumbered}
-use Rattle.oldrows.specs.inner.Stored.{IsOldContent}
+use Rattle.oldrows.specs.{inner.{Copies.{Copies, IsCopied, IsCopyLeft, put_of_all}, Stored.IsOldContent}, Copies.renumbered}
 use Rattle.oldrows.specs.Stored.{IsRead, OldState}
 use Rattle.oldrows.proofs.CopyLemmas.{asked-on, put-keyed, read-on}
 use Rattle.sqlaccounts.specs.Accounts.{account_of_row, accounts_of, balance_in, entries_of, has_right_sums, is_right, lines_under, queue_under, row_of, sums_are_right}
 use Rattle.sqldomains.specs.Domains.{domains_of}
-use Rattle.sqlderived.specs.Dues.{dues_are_right}
-use Rattle.sqlderived.specs.Held.{helds_are_right}
-use Rattle.sqlobjects.specs.Objects.{contacts_of, hosts_of}
-use Rattle.sqlobjects.specs.Sponsors.{sponsors_are_right}
-use Rattle.sqlterms.specs.Clock.{clock_in}
-use Rattle.sqlterms.specs.Terms.{terms_in}
-use Rattle.takeover.specs.declared.migrating.MigrateFault.{MigrateFault}
-use Rattle.takeover.specs.declared.migrating.MigrateFault.TheVariants.{Policy, Schema, Memory, Store}
+use Rattle.sqlderived.specs.{Dues.dues_are_right, Held.helds_are_right}
+use Rattle.sqlobjects.specs.{Objects.{contacts_of, hosts_of}, Sponsors.sponsors_are_right}
+use Rattle.sqlterms.specs.{Clock.clock_in, Terms.terms_in}
+use Rattle.takeover.specs.declared.migrating.MigrateFault.{MigrateFault, TheVariants.{Policy, Schema, Memory, Store}}
 use Rattle.takeover.specs.Graces.{with_grace_end}
-use Rattle.sqlbook.specs.Meaning.{are_right, stored_of}
 use Rattle.takeover.specs.inner.Migrating.{AreAsked, EndsAs, IsRefused, IsTakenOver, IsUnkept, TakesOver, heads, migrated_rows, others, put_lines}
 use Rattle.takeover.specs.Migrating.{AreThere, IsAll, IsMigrated, IsTried, IsUnsuited, MayBeTaken, Migrates, fault_of, lines_with_ends, numbered_anew, redated, suits, suits_in}
-use Rattle.sqlbook.specs.AsBook.{HasMade}
+use Rattle.sqlbook.specs.{Meaning.{are_right, stored_of}, AsBook.HasMade}
 
 -- ---- the number of the schema says nothing of the registry
 

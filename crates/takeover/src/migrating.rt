@@ -3,10 +3,9 @@ ghost use Rattle.std.specs.Prelude.{◌≡◌, true, false, IfOk, Ok};
 ghost use Rattle.oldrows.specs.inner.Copies.{Copies, put_of_all};
 ghost use Rattle.sqltables.specs.Content.{no_content};
 ghost use Rattle.states.specs.States.{Finds};
-ghost use Rattle.sqlbook.specs.Meaning.{are_right, stored_of};
+ghost use Rattle.sqlbook.specs.{Meaning.{are_right, stored_of}, AsBook.MakesAs};
 ghost use Rattle.takeover.specs.inner.Migrating.{AreReady, EndsAs, IsBegun, IsMigrationKept, TakesOver, heads, others, put_lines};
 ghost use Rattle.takeover.specs.Migrating.{Migrates, fault_of, redated, suits};
-ghost use Rattle.sqlbook.specs.AsBook.{MakesAs};
 
 use crate::graces::with_grace_ends;
 use oldrows::{Copied, OldRows, TableName, copy_tables, put_all};

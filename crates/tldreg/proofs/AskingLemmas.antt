@@ -1,10 +1,7 @@
 -- What is left of the words, once the options are taken out.
 use Rattle.std.proofs.Common.{◌≡◌, inl, inr, ℕ, true, false, List, [], drop, refl, map, string_bytes}
-use Rattle.tldreg.specs.declared.command_line.Task.{Task}
-use Rattle.tldreg.specs.declared.settings.Split.{Split}
-use Rattle.tldreg.specs.inner.Asking.{AsksAll, AsksWrongly, IsSplit}
-use Rattle.tldreg.specs.inner.Options.{AreTaken, is_among, taking}
-use Rattle.tldreg.specs.inner.Words.{AsksTask, options_of}
+use Rattle.tldreg.specs.{declared.{command_line.Task.Task, settings.Split.Split}, inner.Asking.{AsksAll, AsksWrongly, IsSplit}}
+use Rattle.tldreg.specs.inner.{Options.{AreTaken, is_among, taking}, Words.{AsksTask, options_of}}
 
 -- ---- words that were split
 

@@ -3,8 +3,7 @@ use Rattle.std.proofs.Common.{◌≡◌, ◌⊎◌, inl, inr, ℕ, zero, suc, tr
 use Rattle.std.specs.Prelude.{⊤}
 use Rattle.script.specs.declared.exit.Exit.{Exit}
 use Rattle.script.specs.declared.exit.Exit.TheVariants as exits
-use Rattle.tldreg.specs.declared.settings.Settings.{Settings}
-use Rattle.tldreg.specs.declared.settings.Split.{Split}
+use Rattle.tldreg.specs.declared.settings.{Settings.Settings, Split.Split}
 use Rattle.tldreg.specs.inner.Options.{AreTaken, HasWrong, IsSet, IsWrong, IsUsual, Says, SaysDays, SaysLimit, TakesNext, TakesWord, Taking, is_option, with_limit}
 
 -- how many days were said

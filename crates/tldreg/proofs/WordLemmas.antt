@@ -1,9 +1,7 @@
 -- Words that ask to serve.
 use Rattle.std.proofs.Common.{◌≡◌, ℕ, List, [], ◌∷◌, codes, string_bytes, sym, ap, ◌∙◌, get_or, nat_eq, true, false, refl, eq-eqb}
 use Rattle.std.specs.Str.Parse.{digits_value, without_leading_plus}
-use Rattle.tldreg.specs.declared.command_line.Job.{Job}
-use Rattle.tldreg.specs.declared.command_line.Job.TheVariants.{Serve, ServeBoth, Zone, Deposit, Order}
-use Rattle.tldreg.specs.declared.command_line.Task.{Task}
+use Rattle.tldreg.specs.declared.command_line.{Job.{Job, TheVariants.{Serve, ServeBoth, Zone, Deposit, Order}}, Task.Task}
 use Rattle.tldreg.specs.declared.command_line.Task.TheVariants.{Help, Version, Run, Migrate, OnDatabase}
 use Rattle.tldreg.specs.inner.Words.{AsksServing, AsksTask, IsPort}
 

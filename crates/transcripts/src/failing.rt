@@ -1,7 +1,6 @@
 //! A file that counts its calls, and fails some of them.
 ghost use Rattle.std.specs.Prelude.{◌≡◌, ◌+◌, ◌&&◌, not, false};
-ghost use Rattle.sqlite_disk.specs.Disk.{CountsFault};
-ghost use Rattle.sqlite_disk.specs.Refusal.{finds_no_room};
+ghost use Rattle.sqlite_disk.specs.{Disk.CountsFault, Refusal.finds_no_room};
 
 use sqlite_disk::{Crash, Disk, Tally};
 use std::io;

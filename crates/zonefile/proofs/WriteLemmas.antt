@@ -1,17 +1,14 @@
 -- What the writes of a text's parts join to.
 use Rattle.std.proofs.Common.{◌≡◌, ℕ, Option, List, [], ◌∷◌, ◌++◌, refl, subst, sym, ◌∙◌, append_assoc}
-use Rattle.std.proofs.KnownBytes.{Appends-trans, Appends-nil}
-use Rattle.std.proofs.lemmas.List.{append-nil}
-use Rattle.std.specs.Io.KnownBytes.{Appends}
-use Rattle.std.specs.List.{flat_map}
+use Rattle.std.proofs.{KnownBytes.{Appends-trans, Appends-nil}, lemmas.List.append-nil}
+use Rattle.std.specs.{Io.KnownBytes.Appends, List.flat_map}
 use Rattle.objects.specs.declared.zone.ZoneData.{ZoneData}
 use Rattle.policy.specs.Rules.{PolicyRules}
 use Rattle.streams.proofs.MoveLemmas.{began, less_of_back, less_of_front, went_on}
 use Rattle.streams.specs.Moves.{AppendsBeginning, AppendsLess}
-use Rattle.zonefile.specs.Lines.{soa_line}
-use Rattle.zonefile.specs.declared.fault.ZoneFault.{ZoneFault}
-use Rattle.zonefile.specs.declared.fault.ZoneFault.TheVariants as faults
+use Rattle.zonefile.specs.{Lines.soa_line, declared.fault.ZoneFault.ZoneFault}
 use Rattle.zonefile.specs.ZoneText.{StopsWithin, delegation_text, glue_text, zone_text}
+use Rattle.zonefile.specs.declared.fault.ZoneFault.TheVariants as faults
 
 -- what was written, and the rest of the text
 pub record Written (old now : Option (List ℕ)) (rest text : List ℕ) : Type 0 where

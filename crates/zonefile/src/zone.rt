@@ -1,9 +1,6 @@
 //! The whole zone.
-ghost use Rattle.std.specs.Prelude.{◌≡◌, IfErr, OnOk};
-ghost use Rattle.std.specs.Io.KnownBytes.{Appends};
-ghost use Rattle.std.specs.List.{flat_map};
-ghost use Rattle.zonefile.specs.Lines.{soa_line};
-ghost use Rattle.zonefile.specs.ZoneText.{StopsWithin, zone_text};
+ghost use Rattle.std.specs.{Prelude.{◌≡◌, IfErr, OnOk}, Io.KnownBytes.Appends, List.flat_map};
+ghost use Rattle.zonefile.specs.{Lines.soa_line, ZoneText.{StopsWithin, zone_text}};
 
 use crate::fault::ZoneFault;
 use crate::line::soa_line;

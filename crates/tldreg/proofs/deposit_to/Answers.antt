@@ -1,5 +1,4 @@
-use Rattle.std.proofs.Common.{◌≡◌, arith, to_z, of_z}
-use Rattle.std.proofs.lemmas.Int.{ints}
+use Rattle.std.proofs.{Common.{◌≡◌, arith, to_z, of_z}, lemmas.Int.ints}
 use Rattle.std.specs.Int.{w64}
 use Rattle.tldreg.proofs.deposit_to.Goals as goal
 

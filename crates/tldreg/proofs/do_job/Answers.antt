@@ -1,10 +1,8 @@
-use Rattle.std.proofs.Common.{◌≡◌, ℤ, List, ℕ, None, arith, sym, subst, to_z, of_z}
-use Rattle.std.proofs.lemmas.Int.{ints}
+use Rattle.std.proofs.{Common.{◌≡◌, ℤ, List, ℕ, None, arith, sym, subst, to_z, of_z}, lemmas.Int.ints}
 use Rattle.std.specs.Int.{w64}
 use Rattle.protocol.specs.declared.order.OperatorRequest.TheVariants as requests
 use Rattle.protocol.specs.declared.order.Order.TheVariants as orders
-use Rattle.tldreg.specs.declared.command_line.Job.{Job}
-use Rattle.tldreg.specs.inner.Ends.{EndsJob, EndsOrder, EndsRequest}
+use Rattle.tldreg.specs.{declared.command_line.Job.Job, inner.Ends.{EndsJob, EndsOrder, EndsRequest}}
 use Rattle.tldreg.proofs.do_job.Goals as goal
 
 pub returns-in-Zone-clause-ends : goal.returns-in-Zone-clause-ends

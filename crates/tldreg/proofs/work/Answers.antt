@@ -1,6 +1,5 @@
-use Rattle.std.proofs.Common.{ℕ, Option, Result, Err, ap, refl, sym, subst, ◌∙◌}
+use Rattle.std.proofs.{Common.{ℕ, Option, Result, Err, ap, refl, sym, subst, ◌∙◌}, lemmas.Result.err_from_is_err_and}
 use Rattle.std.specs.Prelude.{⊤}
-use Rattle.std.proofs.lemmas.Result.{err_from_is_err_and}
 use Rattle.policy.specs.Rules.{PolicyRules}
 use Rattle.registry.proofs.CallsKept.{follows-itself}
 use Rattle.script.specs.declared.exit.Exit.{Exit}

@@ -4,8 +4,7 @@ use Rattle.sqlite_store.specs.FileStore.{recovers, view}
 use Rattle.sqlite_trees.specs.View.{IsClean}
 use Rattle.sqlite_wal.specs.Files.{image_at}
 use Rattle.bookfiles.specs.Restarts.{book_of}
-use Rattle.bookfiles.proofs.RestartLemmas.{idle_in, taken_in}
-use Rattle.bookfiles.proofs.UnopenedLemmas.{book-taken, database-left, left-as-found}
+use Rattle.bookfiles.proofs.{RestartLemmas.{idle_in, taken_in}, UnopenedLemmas.{book-taken, database-left, left-as-found}}
 use Rattle.bookfiles.proofs.files.book_in.Goals as goal
 
 pub returns-clause-taken : goal.returns-clause-taken

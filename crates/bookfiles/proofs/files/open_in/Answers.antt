@@ -3,8 +3,7 @@ use Rattle.sqlite_std_file.specs.File.{IsFresh}
 use Rattle.sqlite_store.specs.FileStore.{recovers, view}
 use Rattle.sqlite_trees.specs.View.{IsClean}
 use Rattle.sqlite_wal.specs.Files.{image_at}
-use Rattle.bookfiles.specs.Restarts.{book_of}
-use Rattle.bookfiles.specs.Unopened.{AreLeft, IsLeftAsFound, never_for}
+use Rattle.bookfiles.specs.{Restarts.book_of, Unopened.{AreLeft, IsLeftAsFound, never_for}}
 use Rattle.bookfiles.proofs.UnopenedLemmas.{gives-back, refused-in}
 use Rattle.bookfiles.proofs.files.open_in.Goals as goal
 

@@ -1,5 +1,4 @@
-use Rattle.std.proofs.Common.{ℕ, ◌+◌, length, List}
-use Rattle.std.proofs.lemmas.Result.{on_err_weaker}
+use Rattle.std.proofs.{Common.{ℕ, ◌+◌, length, List}, lemmas.Result.on_err_weaker}
 use Rattle.std.specs.Int.{w32, to_be_bytes}
 use Rattle.streams.proofs.MoveLemmas.{less_of_back, less_of_front, OnErr-from}
 use Rattle.frames.proofs.frame.write_frame.Goals as goal

@@ -1,11 +1,8 @@
-use Rattle.std.proofs.Common.{◌≡◌, ◌∙◌, take, length, [], ◌∷◌, ◌++◌, inl, inr, refl, rules, Some, None}
-use Rattle.std.proofs.lemmas.List.{take_at}
+use Rattle.std.proofs.{Common.{◌≡◌, ◌∙◌, take, length, [], ◌∷◌, ◌++◌, inl, inr, refl, rules, Some, None}, lemmas.List.take_at}
 use Rattle.std.proofs.KnownBytes.{Appends-nil}
 use Rattle.streams.proofs.MoveLemmas.{OnErr-from}
-use Rattle.frames.specs.Frames.{frame, Takes}
-use Rattle.frames.specs.Texts.{closing_text}
-use Rattle.frames.specs.declared.session.SessionEnd.TheVariants.{End, Cut, Length, ReadFault, Lost}
-use Rattle.frames.specs.Outcomes.{end_with, outcome_of}
+use Rattle.frames.specs.{Frames.{frame, Takes}, Texts.closing_text}
+use Rattle.frames.specs.{declared.session.SessionEnd.TheVariants.{End, Cut, Length, ReadFault, Lost}, Outcomes.{end_with, outcome_of}}
 use Rattle.frames.specs.Sessions.{Turn}
 use Rattle.frames.proofs.SessionLemmas.{Run-more, frames-more, Ends-turn, ends_session, breaks_closing, breaks_turn}
 use Rattle.frames.proofs.session.serve_frames.Goals as goal

@@ -1,7 +1,6 @@
 use Rattle.std.proofs.Common.{◌≡◌, List, vec_len}
 use Rattle.std.specs.Io.KnownBytes.{Appends}
-use Rattle.frames.specs.declared.frame.TheConstants.{ROOM}
-use Rattle.frames.specs.Sessions.{Turn, Run, frames}
+use Rattle.frames.specs.{declared.frame.TheConstants.ROOM, Sessions.{Turn, Run, frames}}
 use Rattle.frames.proofs.session.serve_frames.Given as goal
 
 abbrev pub invariant-frames : goal.invariant-frames

@@ -1,8 +1,7 @@
 use Rattle.std.proofs.Common.{◌≡◌, ◌∙◌, ◌∷◌, Some, ap, sym, true, rules}
 use Rattle.std.specs.Prelude.{option_map}
 use Rattle.serde_json.specs.View.{view}
-use Rattle.jsonobjects.specs.Item.{item_value}
-use Rattle.jsonobjects.specs.Members.{are_in_order, members_with, with_some}
+use Rattle.jsonobjects.specs.{Item.item_value, Members.{are_in_order, members_with, with_some}}
 use Rattle.jsonobjects.proofs.Built.{seen, popped, put_next}
 use Rattle.jsonobjects.proofs.item.object.Goals as goal
 

@@ -1,8 +1,6 @@
 use Rattle.std.proofs.Common.{◌≡◌, ℕ, List, ◌++◌, Option, map, vec_len}
-use Rattle.jsonobjects.specs.Item.{item_value}
-use Rattle.serde_json.specs.Data.{Data}
-use Rattle.serde_json.specs.View.{members_view}
-use Rattle.jsonobjects.specs.Members.{members_with}
+use Rattle.jsonobjects.specs.{Item.item_value, Members.members_with}
+use Rattle.serde_json.specs.{Data.Data, View.members_view}
 use Rattle.jsonobjects.proofs.item.object.Given as goal
 
 abbrev pub invariant-members : goal.invariant-members

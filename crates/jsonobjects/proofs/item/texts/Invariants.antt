@@ -1,6 +1,5 @@
 use Rattle.std.proofs.Common.{◌≡◌, map, take}
-use Rattle.serde_json.specs.Data.{string}
-use Rattle.serde_json.specs.View.{view}
+use Rattle.serde_json.specs.{Data.string, View.view}
 use Rattle.jsonobjects.proofs.item.texts.Given as goal
 
 abbrev pub invariant-loop-item : goal.invariant-loop-item

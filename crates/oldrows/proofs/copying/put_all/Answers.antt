@@ -1,5 +1,4 @@
-use Rattle.std.proofs.Common.{◌+◌, List, drop, subst}
-use Rattle.std.proofs.Math.ListN.{drop_of_length-le}
+use Rattle.std.proofs.{Common.{◌+◌, List, drop, subst}, Math.ListN.drop_of_length-le}
 use Rattle.oldrows.specs.inner.Copies.{IsToPut}
 use Rattle.oldrows.proofs.CopyLemmas.{all-put, drop-there, put-more}
 use Rattle.oldrows.proofs.copying.put_all.Goals as goal

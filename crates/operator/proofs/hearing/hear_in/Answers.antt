@@ -1,7 +1,6 @@
 use Rattle.std.proofs.Common.{rules, List, ℕ, ◌≤◌, length, length-take, subst, sym, ap, arith}
 use Rattle.std.specs.Io.KnownBytes.{Consumes}
-use Rattle.operator.specs.Heard.{most_head}
-use Rattle.operator.specs.Requests.{HasHeadAsking}
+use Rattle.operator.specs.{Heard.most_head, Requests.HasHeadAsking}
 use Rattle.operator.proofs.HeardLemmas.{heard_in}
 use Rattle.operator.proofs.hearing.hear_in.Goals as goal
 

@@ -1,7 +1,5 @@
-use Rattle.std.proofs.Common.{rules, subst, sym, le_refl}
+use Rattle.std.proofs.{Common.{rules, subst, sym, le_refl}, KnownBytes.Consumes-kept, lemmas.Slice.take-put_mid_below}
 use Rattle.std.specs.Io.KnownBytes.{Consumes}
-use Rattle.std.proofs.KnownBytes.{Consumes-kept}
-use Rattle.std.proofs.lemmas.Slice.{take-put_mid_below}
 use Rattle.streams.proofs.MoveLemmas.{reads_on}
 use Rattle.operator.proofs.hearing.read_to_head.Goals as goal
 use Rattle.operator.proofs.hearing.read_to_head.Goals.{in-Ok, in-Err}

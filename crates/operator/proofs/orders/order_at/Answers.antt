@@ -1,6 +1,5 @@
 use Rattle.std.proofs.Common.{◌⊎◌, Some, inr, sym, subst}
-use Rattle.operator.specs.Operations.{IsFailedOrder, IsMalformedOrder}
-use Rattle.operator.specs.declared.answer.Outcome.{Outcome}
+use Rattle.operator.specs.{Operations.{IsFailedOrder, IsMalformedOrder}, declared.answer.Outcome.Outcome}
 use Rattle.operator.proofs.OperationLemmas.{unanswered}
 use Rattle.operator.proofs.orders.order_at.Goals as goal
 

@@ -1,5 +1,4 @@
-use Rattle.std.proofs.lemmas.Fmt.{IsAscii-from_digits}
-use Rattle.std.proofs.lemmas.Str.{IsUtf8-from_ascii}
+use Rattle.std.proofs.lemmas.{Fmt.IsAscii-from_digits, Str.IsUtf8-from_ascii}
 use Rattle.operator.proofs.request.number_of.Goals as goal
 
 pub returns-in_default : goal.returns-in_default

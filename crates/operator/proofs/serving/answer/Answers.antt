@@ -1,8 +1,5 @@
 use Rattle.std.proofs.Common.{refl, subst, sym}
-use Rattle.operator.specs.Answers.{refusal}
-use Rattle.operator.specs.Operations.{DoesAsked, IsSent}
-use Rattle.operator.specs.declared.answer.Outcome.{Outcome}
-use Rattle.operator.specs.declared.request.Asked.{Asked}
+use Rattle.operator.specs.{Answers.refusal, Operations.{DoesAsked, IsSent}, declared.{answer.Outcome.Outcome, request.Asked.Asked}}
 use Rattle.operator.proofs.serving.answer.Goals as goal
 
 pub returns-in-Refused-clause-does : goal.returns-in-Refused-clause-does

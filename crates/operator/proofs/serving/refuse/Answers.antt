@@ -1,6 +1,5 @@
 use Rattle.std.proofs.Common.{◌∙◌, List, ℕ, subst}
-use Rattle.operator.specs.Answers.{response_of_kind}
-use Rattle.operator.specs.Operations.{IsSent}
+use Rattle.operator.specs.{Answers.response_of_kind, Operations.IsSent}
 use Rattle.operator.specs.declared.answer.Kind.TheVariants as kinds
 use Rattle.operator.proofs.serving.refuse.Goals as goal
 

@@ -1,5 +1,4 @@
-use Rattle.std.proofs.Common.{ap, ◌∙◌}
-use Rattle.std.proofs.lemmas.Result.{IfOk-weaker}
+use Rattle.std.proofs.{Common.{ap, ◌∙◌}, lemmas.Result.IfOk-weaker}
 use Rattle.serde_json.specs.Written.{compact_text, has_float}
 use Rattle.rdap.proofs.Plain.{domain_plain}
 use Rattle.rdap.proofs.domain.domain_body.Goals as goal

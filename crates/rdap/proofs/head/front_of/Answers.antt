@@ -1,5 +1,4 @@
-use Rattle.std.proofs.Common.{ℕ, ap, take, ◌∙◌}
-use Rattle.std.proofs.lemmas.List.{take_min}
+use Rattle.std.proofs.{Common.{ℕ, ap, take, ◌∙◌}, lemmas.List.take_min}
 use Rattle.rdap.specs.Heads.{most_bytes}
 use Rattle.rdap.proofs.head.front_of.Goals as goal
 

@@ -1,10 +1,6 @@
-use Rattle.std.proofs.Common.{rules, Bor, ◌≡◌, ◌∙◌, List, ℕ, Some, None, ap, refl, subst, sym}
-use Rattle.std.proofs.lemmas.Result.{IfOk-weaker}
-use Rattle.matchit.specs.Params.{AllText, walk}
-use Rattle.matchit.specs.Router.{RouteOf}
-use Rattle.matchit.specs.Seek.{first}
-use Rattle.rdap.specs.Routes.{name_of, request_for, routes}
-use Rattle.rdap.specs.declared.routes.Kind.{Kind}
+use Rattle.std.proofs.{Common.{rules, Bor, ◌≡◌, ◌∙◌, List, ℕ, Some, None, ap, refl, subst, sym}, lemmas.Result.IfOk-weaker}
+use Rattle.matchit.specs.{Params.{AllText, walk}, Router.RouteOf, Seek.first}
+use Rattle.rdap.specs.{Routes.{name_of, request_for, routes}, declared.routes.Kind.Kind}
 use Rattle.rdap.proofs.RouteLemmas.{Routed, by_route, name_read, no_route}
 use Rattle.rdap.proofs.request.request_at.Goals as goal
 

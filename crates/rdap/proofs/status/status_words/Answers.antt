@@ -1,7 +1,5 @@
-use Rattle.std.proofs.Common.{◌≡◌, ◌++◌, ◌∙◌, List, ℕ, ap, map}
-use Rattle.std.proofs.lemmas.List.Filters.{dedup_is}
-use Rattle.std.specs.List.{dedup}
-use Rattle.std.specs.Str.{bytes_eq}
+use Rattle.std.proofs.{Common.{◌≡◌, ◌++◌, ◌∙◌, List, ℕ, ap, map}, lemmas.List.Filters.dedup_is}
+use Rattle.std.specs.{List.dedup, Str.bytes_eq}
 use Rattle.objects.specs.Links.{in_order}
 use Rattle.rdap.specs.StatusWords.{grace_word, status_word}
 use Rattle.rdap.proofs.status.status_words.Goals as goal

@@ -1,7 +1,5 @@
-use Rattle.registry.proofs.Words.{IsOrderCarriedOut, IsOrderStep, status_at}
+use Rattle.registry.proofs.{Words.{IsOrderCarriedOut, IsOrderStep, status_at}, PassingSteps.ordered, StepLemmas.works-then}
 use Rattle.protocol.specs.declared.order.Order.TheVariants as orders
-use Rattle.registry.proofs.PassingSteps.{ordered}
-use Rattle.registry.proofs.StepLemmas.{works-then}
 use Rattle.registry.proofs.order.set_statuses_at.Goals as goal
 
 pub returns : goal.returns

@@ -1,6 +1,5 @@
 use Rattle.std.proofs.Common.{ap}
-use Rattle.registry.specs.Crashes.{Makes}
-use Rattle.registry.specs.Execution.{IsGreetingStep, IsOrderStep, IsSettlement, IsStep}
+use Rattle.registry.specs.{Crashes.Makes, Execution.{IsGreetingStep, IsOrderStep, IsSettlement, IsStep}}
 use Rattle.runs.specs.Crashes.{asking, settling}
 use Rattle.isolation.specs.Runs.{code, command, date, dated, order, reply}
 use Rattle.runs.proofs.CrashLemmas.{carried-out, refused-opening, stepped, taken-leave-found}

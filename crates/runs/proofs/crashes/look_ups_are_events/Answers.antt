@@ -1,10 +1,8 @@
 use Rattle.std.proofs.Common.{refl}
 use Rattle.model.specs.Lapse.{lapsed}
-use Rattle.registry.specs.Crashes.{Makes}
-use Rattle.registry.specs.Faces.{IsLookUp}
+use Rattle.registry.specs.{Crashes.Makes, Faces.IsLookUp}
 use Rattle.runs.specs.Crashes.{asking}
-use Rattle.isolation.specs.Public.{public_part}
-use Rattle.isolation.specs.Runs.{inspected, inspection, look_up, shown}
+use Rattle.isolation.specs.{Public.public_part, Runs.{inspected, inspection, look_up, shown}}
 use Rattle.runs.proofs.CrashLemmas.{carried-out, stepped}
 use Rattle.runs.proofs.crashes.look_ups_are_events.Goals as goal
 

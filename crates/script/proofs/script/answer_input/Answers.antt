@@ -1,7 +1,5 @@
-use Rattle.std.proofs.Common.{ap, inr, ◌∙◌}
-use Rattle.std.proofs.lemmas.Result.{err_from_is_err_and}
-use Rattle.script.proofs.BeginLemmas.{fault_by, never_begun}
-use Rattle.script.proofs.EndLemmas.{Ends-buffered, Ends-unflushed, Ends-unwritten}
+use Rattle.std.proofs.{Common.{ap, inr, ◌∙◌}, lemmas.Result.err_from_is_err_and}
+use Rattle.script.proofs.{BeginLemmas.{fault_by, never_begun}, EndLemmas.{Ends-buffered, Ends-unflushed, Ends-unwritten}}
 use Rattle.script.specs.inner.Runs.{run_end}
 use Rattle.script.proofs.script.answer_input.Goals as goal
 

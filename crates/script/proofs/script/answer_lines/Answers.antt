@@ -1,11 +1,9 @@
 use Rattle.std.proofs.Common.{◌≡◌, ◌∙◌, ◌<◌, ◌++◌, ◌∷◌, [], inl, ap, refl, length, length-append, IfSome, arith}
-use Rattle.std.proofs.lemmas.Result.{err_from_is_err_and}
+use Rattle.std.proofs.{lemmas.Result.err_from_is_err_and, KnownBytes.{Appends-nil, Appends-trans}}
 use Rattle.std.specs.Io.BufRead.{strip_last, take_through}
 use Rattle.eppwire.proofs.FollowLemmas.{follows_on, stays_followed}
 use Rattle.script.specs.inner.Runs.{run_end}
-use Rattle.std.proofs.KnownBytes.{Appends-nil, Appends-trans}
-use Rattle.script.proofs.BeginLemmas.{Ends-between, fault_by}
-use Rattle.script.proofs.HaltLemmas.{Ends-halted}
+use Rattle.script.proofs.{BeginLemmas.{Ends-between, fault_by}, HaltLemmas.Ends-halted}
 use Rattle.script.proofs.RunLemmas.{ArePrinted-more, ArePrinted-nil, Ends-done, Reads-more, Reads-nil}
 use Rattle.script.proofs.script.answer_lines.Goals as goal
 

@@ -1,8 +1,6 @@
-use Rattle.std.proofs.Common.{◌++◌, codes, inr, refl, sym, ◌∙◌}
-use Rattle.std.proofs.lemmas.Result.{err_from_is_err_and}
+use Rattle.std.proofs.{Common.{◌++◌, codes, inr, refl, sym, ◌∙◌}, lemmas.Result.err_from_is_err_and}
 use Rattle.script.specs.declared.exit.Exit.TheVariants as exits
-use Rattle.script.proofs.AnswerLemmas.{by_told, lost_told}
-use Rattle.script.proofs.BeginLemmas.{breaks_told, fault_of_kind, pending_front}
+use Rattle.script.proofs.{AnswerLemmas.{by_told, lost_told}, BeginLemmas.{breaks_told, fault_of_kind, pending_front}}
 use Rattle.script.proofs.RunLemmas.{TellsLine-one}
 use Rattle.script.proofs.script.print_answer.Goals as goal
 

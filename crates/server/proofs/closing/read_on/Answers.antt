@@ -1,7 +1,6 @@
 use Rattle.std.proofs.Common.{rules, arith}
-use Rattle.server.proofs.ClosingLemmas.{takes_nothing, takes_more, takes_no_more}
+use Rattle.server.proofs.{ClosingLemmas.{takes_nothing, takes_more, takes_no_more}, closing.read_on.Goals.{in-Ok, in-Err}}
 use Rattle.server.proofs.closing.read_on.Goals as goal
-use Rattle.server.proofs.closing.read_on.Goals.{in-Ok, in-Err}
 
 pub reads-init : goal.reads-init
 reads-init g c = record { room = search rules; taken = takes_nothing _ }

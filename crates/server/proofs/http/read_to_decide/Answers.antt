@@ -1,12 +1,9 @@
-use Rattle.std.proofs.Common.{◌≡◌, rules, subst, sym, le_refl}
+use Rattle.std.proofs.{Common.{◌≡◌, rules, subst, sym, le_refl}, KnownBytes.Consumes-kept, lemmas.Slice.take-put_mid_below}
 use Rattle.std.specs.Io.KnownBytes.{Consumes}
-use Rattle.std.proofs.KnownBytes.{Consumes-kept}
-use Rattle.std.proofs.lemmas.Slice.{take-put_mid_below}
-use Rattle.server.proofs.HttpLemmas.{needs_more, read_nothing}
+use Rattle.server.proofs.{HttpLemmas.{needs_more, read_nothing}, http.read_to_decide.Goals.{in-Ok, in-Err}}
 use Rattle.server.specs.Http.{IsNeeded}
 use Rattle.streams.proofs.MoveLemmas.{reads_on}
 use Rattle.server.proofs.http.read_to_decide.Goals as goal
-use Rattle.server.proofs.http.read_to_decide.Goals.{in-Ok, in-Err}
 
 pub reads-preserved : goal.reads-preserved
 reads-preserved g c =

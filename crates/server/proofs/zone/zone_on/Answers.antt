@@ -1,9 +1,6 @@
-use Rattle.std.proofs.Common.{◌≡◌, ℕ, true, ◌∙◌, subst}
-use Rattle.std.proofs.KnownBytes.{Appends-nil}
-use Rattle.std.proofs.lemmas.Result.{err_from_is_err_and}
+use Rattle.std.proofs.{Common.{◌≡◌, ℕ, true, ◌∙◌, subst}, KnownBytes.Appends-nil, lemmas.Result.err_from_is_err_and}
 use Rattle.std.specs.Io.KnownBytes.{Appends}
-use Rattle.model.specs.Registry.{Registry}
-use Rattle.model.specs.Zone.{zone_data}
+use Rattle.model.specs.{Registry.Registry, Zone.zone_data}
 use Rattle.objects.specs.declared.zone.ZoneData.{ZoneData}
 use Rattle.policy.specs.Rules.{PolicyRules}
 use Rattle.registry.specs.Faces.{LooksUp}

@@ -1,9 +1,6 @@
-use Rattle.std.proofs.Common.{false, ap, sym, ◌∙◌}
-use Rattle.std.proofs.lemmas.Option.{same_Some}
+use Rattle.std.proofs.{Common.{false, ap, sym, ◌∙◌}, lemmas.Option.same_Some}
 use Rattle.std.specs.Str.{bytes_eq}
-use Rattle.sqlaccounts.proofs.Words.{dropped, Message, message_id, with_queue}
-use Rattle.sqlaccounts.proofs.CallLemmas.{then-kept}
-use Rattle.sqlaccounts.proofs.PostingLemmas.{posts-behind}
+use Rattle.sqlaccounts.proofs.{Words.{dropped, Message, message_id, with_queue}, CallLemmas.then-kept, PostingLemmas.posts-behind}
 use Rattle.sqlaccounts.proofs.StepLemmas.{ack-posted, none-to-ack}
 use Rattle.sqlaccounts.proofs.acknowledging.acknowledge.Goals as goal
 

@@ -1,6 +1,5 @@
 use Rattle.std.proofs.Common.{subst, sym, ◌∙◌}
-use Rattle.sqlaccounts.proofs.Words.{delete_where, IsConsistent, line_with_id, lines_to, then-made}
-use Rattle.sqlaccounts.proofs.CallLemmas.{then-kept}
+use Rattle.sqlaccounts.proofs.{Words.{delete_where, IsConsistent, line_with_id, lines_to, then-made}, CallLemmas.then-kept}
 use Rattle.sqlaccounts.proofs.LineLemmas.{line-left, line-taken}
 use Rattle.sqlaccounts.proofs.line.take_line.Goals as goal
 

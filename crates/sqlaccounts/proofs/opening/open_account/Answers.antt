@@ -1,7 +1,5 @@
 use Rattle.std.proofs.Common.{sym, subst}
-use Rattle.sqlaccounts.proofs.Words.{IsConsistent, opened_row}
-use Rattle.sqlaccounts.proofs.CallLemmas.{then-kept, then-put}
-use Rattle.sqlaccounts.proofs.OpeningLemmas.{opened-now, still-open}
+use Rattle.sqlaccounts.proofs.{Words.{IsConsistent, opened_row}, CallLemmas.{then-kept, then-put}, OpeningLemmas.{opened-now, still-open}}
 use Rattle.sqlaccounts.proofs.opening.open_account.Goals as goal
 
 pub returns : goal.returns

@@ -1,7 +1,6 @@
 use Rattle.std.proofs.Common.{ap, ◌∙◌}
 use Rattle.accounts.specs.Counters.{next_message}
-use Rattle.sqlaccounts.proofs.CallLemmas.{changed-too}
-use Rattle.sqlaccounts.proofs.StepLemmas.{notice-posted}
+use Rattle.sqlaccounts.proofs.{CallLemmas.changed-too, StepLemmas.notice-posted}
 use Rattle.sqlaccounts.proofs.posting.notify.Goals as goal
 
 pub returns : goal.returns

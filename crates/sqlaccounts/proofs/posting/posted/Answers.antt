@@ -1,6 +1,5 @@
 use Rattle.std.proofs.Common.{refl, sym, ◌∙◌}
-use Rattle.sqlaccounts.proofs.Words.{all_changed, nil_from_length}
-use Rattle.sqlaccounts.proofs.PostingLemmas.{at-first, at-last, refused-on, row-underway, then-one}
+use Rattle.sqlaccounts.proofs.{Words.{all_changed, nil_from_length}, PostingLemmas.{at-first, at-last, refused-on, row-underway, then-one}}
 use Rattle.sqlaccounts.proofs.posting.posted.Goals as goal
 
 pub loop-what-init : goal.loop-what-init

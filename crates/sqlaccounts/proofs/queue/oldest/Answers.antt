@@ -1,6 +1,5 @@
 use Rattle.std.proofs.Common.{pos, sym, subst, ap, ◌∙◌}
-use Rattle.sqlaccounts.proofs.Words.{Content, IsConsistent, queue_of, slice_get}
-use Rattle.sqlaccounts.proofs.ConsistencyLemmas.{parts-there}
+use Rattle.sqlaccounts.proofs.{Words.{Content, IsConsistent, queue_of, slice_get}, ConsistencyLemmas.parts-there}
 use Rattle.sqlaccounts.proofs.MessageLemmas.{first_found, none_found}
 use Rattle.sqlaccounts.proofs.queue.oldest.Goals as goal
 

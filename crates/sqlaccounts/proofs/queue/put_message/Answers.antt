@@ -1,6 +1,5 @@
 use Rattle.std.proofs.Common.{sym, ◌∙◌}
-use Rattle.sqlaccounts.proofs.Words.{appended, messages, messages_to, then-made}
-use Rattle.sqlaccounts.proofs.CallLemmas.{then-kept}
+use Rattle.sqlaccounts.proofs.{Words.{appended, messages, messages_to, then-made}, CallLemmas.then-kept}
 use Rattle.sqlaccounts.proofs.MessageLemmas.{message-posted, message-there}
 use Rattle.sqlaccounts.proofs.queue.put_message.Goals as goal
 

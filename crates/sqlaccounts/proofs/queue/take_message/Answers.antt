@@ -1,8 +1,7 @@
 use Rattle.std.proofs.Common.{ℤ, ap, subst, sym, ◌∙◌}
 use Rattle.sqlaccounts.proofs.Words.{Content, delete_where, dropped, IsConsistent, IsPosted, message_with_id, messages_to, then-made, with_queue}
+use Rattle.sqlaccounts.proofs.{CallLemmas.then-kept, MessageLemmas.{message-left, message-taken}}
 use Rattle.sqlrows.specs.Read.{rows_of}
-use Rattle.sqlaccounts.proofs.CallLemmas.{then-kept}
-use Rattle.sqlaccounts.proofs.MessageLemmas.{message-left, message-taken}
 use Rattle.sqlaccounts.proofs.queue.take_message.Goals as goal
 
 pub returns-in_default : goal.returns-in_default

@@ -1,6 +1,5 @@
 use Rattle.std.proofs.Common.{ap, subst, sym, ◌∙◌}
-use Rattle.sqlaccounts.proofs.Words.{bag_of, filter_map, in_order, IsConsistent, line_of_columns}
-use Rattle.sqlaccounts.proofs.ConsistencyLemmas.{parts-there}
+use Rattle.sqlaccounts.proofs.{Words.{bag_of, filter_map, in_order, IsConsistent, line_of_columns}, ConsistencyLemmas.parts-there}
 use Rattle.sqlaccounts.proofs.reading_lines.lines.Goals as goal
 
 pub returns : goal.returns

@@ -1,6 +1,5 @@
 use Rattle.std.proofs.Common.{ap, subst, ◌∙◌}
-use Rattle.sqlaccounts.proofs.Words.{bag_of, filter_map, in_order, IsConsistent, line_of_columns}
-use Rattle.sqlaccounts.proofs.LinesOnLemmas.{lines-read}
+use Rattle.sqlaccounts.proofs.{Words.{bag_of, filter_map, in_order, IsConsistent, line_of_columns}, LinesOnLemmas.lines-read}
 use Rattle.sqlaccounts.proofs.reading_lines.lines_on.Goals as goal
 
 pub returns : goal.returns

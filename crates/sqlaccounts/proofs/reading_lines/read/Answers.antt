@@ -1,7 +1,6 @@
 use Rattle.std.proofs.Common.{◌∙◌, ap, sym, take}
-use Rattle.sqlaccounts.proofs.Words.{add, filter_map, in_order, line_of_columns, take_more}
+use Rattle.sqlaccounts.proofs.{Words.{add, filter_map, in_order, line_of_columns, take_more}, LinesOnLemmas.read-more}
 use Rattle.basis.specs.Bag.{bag_of}
-use Rattle.sqlaccounts.proofs.LinesOnLemmas.{read-more}
 use Rattle.sqlaccounts.proofs.reading_lines.read.Goals as goal
 
 pub loop-row-init : goal.loop-row-init

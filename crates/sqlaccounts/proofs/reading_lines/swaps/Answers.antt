@@ -1,7 +1,6 @@
 use Rattle.std.proofs.Common.{◌≡◌, List, filter, ap, sym, ◌∙◌}
 use Rattle.sqlaccounts.proofs.Words.{account_of_rows, in_order, is_on, Line, LineSwap, list_all, remade, Roid, swapped_all}
-use Rattle.sqlaccounts.proofs.LinesOnLemmas.{lines-bag}
-use Rattle.sqlaccounts.proofs.SwapLemmas.{swaps-on}
+use Rattle.sqlaccounts.proofs.{LinesOnLemmas.lines-bag, SwapLemmas.swaps-on}
 use Rattle.sqlaccounts.proofs.reading_lines.swaps.Goals as goal
 
 pub returns : goal.returns

@@ -1,7 +1,5 @@
-use Rattle.std.proofs.Common.{refl, sym, ◌∙◌}
-use Rattle.std.proofs.lemmas.List.{nil_from_length}
-use Rattle.sqlaccounts.proofs.LineLemmas.{with_swaps}
-use Rattle.sqlaccounts.proofs.PostingLemmas.{at-first, at-last, refused-on, row-underway, then-one}
+use Rattle.std.proofs.{Common.{refl, sym, ◌∙◌}, lemmas.List.nil_from_length}
+use Rattle.sqlaccounts.proofs.{LineLemmas.with_swaps, PostingLemmas.{at-first, at-last, refused-on, row-underway, then-one}}
 use Rattle.sqlaccounts.proofs.swapping.swap_all.Goals as goal
 
 pub loop-swap-init : goal.loop-swap-init

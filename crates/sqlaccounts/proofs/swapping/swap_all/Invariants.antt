@@ -1,5 +1,4 @@
-use Rattle.sqlaccounts.proofs.LineLemmas.{with_swaps}
-use Rattle.sqlaccounts.proofs.PostingLemmas.{IsUnderway}
+use Rattle.sqlaccounts.proofs.{LineLemmas.with_swaps, PostingLemmas.IsUnderway}
 use Rattle.sqlaccounts.proofs.swapping.swap_all.Given as goal
 
 -- the swaps that are left lead to where all of them do

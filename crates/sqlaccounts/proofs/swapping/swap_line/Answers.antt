@@ -1,5 +1,4 @@
-use Rattle.sqlaccounts.proofs.Words.{add, in_order, taken, with_lines}
-use Rattle.sqlaccounts.proofs.PostingLemmas.{posts-then, row-posted}
+use Rattle.sqlaccounts.proofs.{Words.{add, in_order, taken, with_lines}, PostingLemmas.{posts-then, row-posted}}
 use Rattle.sqlaccounts.proofs.swapping.swap_line.Goals as goal
 
 pub add_line-requires-clause-begun : goal.add_line-requires-clause-begun

@@ -1,6 +1,4 @@
-use Rattle.sqlaccounts.proofs.Words.{swapped_all, with_lines}
-use Rattle.sqlaccounts.proofs.LineLemmas.{swaps-posted}
-use Rattle.sqlaccounts.proofs.PostingLemmas.{posts-behind}
+use Rattle.sqlaccounts.proofs.{Words.{swapped_all, with_lines}, LineLemmas.swaps-posted, PostingLemmas.posts-behind}
 use Rattle.sqlaccounts.proofs.swapping.swap_lines.Goals as goal
 
 pub returns : goal.returns

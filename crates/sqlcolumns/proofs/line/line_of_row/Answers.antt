@@ -1,7 +1,6 @@
 use Rattle.std.proofs.Common.{◌≡◌, Some, sym, ◌∙◌}
 use Rattle.sqlcolumns.specs.inner.Lines.{row_of_line}
-use Rattle.sqlcolumns.proofs.LineLemmas.{line_back, line_written}
-use Rattle.sqlcolumns.proofs.ReadLemmas.{all_read}
+use Rattle.sqlcolumns.proofs.{LineLemmas.{line_back, line_written}, ReadLemmas.all_read}
 use Rattle.sqlcolumns.proofs.line.line_of_row.Goals as goal
 
 pub returns-clause-found : goal.returns-clause-found

@@ -1,10 +1,7 @@
 use Rattle.std.proofs.Common.{rules, ◌≡◌, Some, FitsSigned, w64, to_z, of_z, to_z-of_z, sym, ap, ◌∙◌}
-use Rattle.sqlcolumns.specs.declared.origin.OriginColumns.{OriginColumns}
-use Rattle.sqlcolumns.specs.Codes.{subject_in}
-use Rattle.sqlcolumns.specs.Messages.{message_made, origin_in, row_of_message}
-use Rattle.sqlcolumns.specs.Numbers.{moment_in_column}
-use Rattle.sqlcolumns.proofs.MessageLemmas.{message_back, message_written}
-use Rattle.sqlcolumns.proofs.ReadLemmas.{all_read}
+use Rattle.sqlcolumns.specs.{declared.origin.OriginColumns.OriginColumns, Codes.subject_in}
+use Rattle.sqlcolumns.specs.{Messages.{message_made, origin_in, row_of_message}, Numbers.moment_in_column}
+use Rattle.sqlcolumns.proofs.{MessageLemmas.{message_back, message_written}, ReadLemmas.all_read}
 use Rattle.sqlcolumns.proofs.message.message_of_row.Goals as goal
 
 pub returns-clause-value : goal.returns-clause-value

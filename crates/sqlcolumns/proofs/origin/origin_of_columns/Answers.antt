@@ -1,8 +1,6 @@
 use Rattle.std.proofs.Common.{rules, ◌≡◌, Some, FitsSigned, w64, to_z-of_z, sym, ap, ◌∙◌}
-use Rattle.sqlcolumns.specs.Messages.{command_notice_in, lapse_notice_in, origin_columns, origin_made}
-use Rattle.sqlcolumns.specs.Numbers.{exact_in}
-use Rattle.sqlcolumns.proofs.MessageLemmas.{origin_back, origin_written}
-use Rattle.sqlcolumns.proofs.ReadLemmas.{all_read}
+use Rattle.sqlcolumns.specs.{Messages.{command_notice_in, lapse_notice_in, origin_columns, origin_made}, Numbers.exact_in}
+use Rattle.sqlcolumns.proofs.{MessageLemmas.{origin_back, origin_written}, ReadLemmas.all_read}
 use Rattle.sqlcolumns.proofs.origin.origin_of_columns.Goals as goal
 
 pub returns-clause-value : goal.returns-clause-value

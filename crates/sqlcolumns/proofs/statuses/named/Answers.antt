@@ -1,6 +1,5 @@
 use Rattle.std.proofs.Common.{◌≡◌, ◌==◌, ◌<◌, ℕ, List, length, get_or, map, Some, lit<, sym, ap, ◌∙◌}
-use Rattle.std.proofs.lemmas.Iterator.Consumers.{YieldsList-end, YieldsList-turn}
-use Rattle.std.proofs.lemmas.Iterator.Splits.{YieldsList-from_str_split}
+use Rattle.std.proofs.lemmas.Iterator.{Consumers.{YieldsList-end, YieldsList-turn}, Splits.YieldsList-from_str_split}
 use Rattle.std.specs.List.{slice_split}
 use Rattle.objects.specs.StatusTexts.{status_named, status_text}
 use Rattle.sqlcolumns.proofs.TextLemmas.{all_named, empty_in, filled_in, named_more, none_named}

@@ -1,7 +1,6 @@
 use Rattle.std.proofs.Common.{◌≡◌, sym, ap, ◌∙◌}
 use Rattle.sqlcolumns.specs.Transfers.{row_of_transfer, transfer_of_columns}
-use Rattle.sqlcolumns.proofs.ReadLemmas.{all_read}
-use Rattle.sqlcolumns.proofs.TransferLemmas.{transfer_back, transfer_written}
+use Rattle.sqlcolumns.proofs.{ReadLemmas.all_read, TransferLemmas.{transfer_back, transfer_written}}
 use Rattle.sqlcolumns.proofs.transfer.transfer_of_row.Goals as goal
 
 pub returns-clause-found : goal.returns-clause-found

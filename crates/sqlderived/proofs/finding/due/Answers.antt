@@ -1,6 +1,5 @@
 use Rattle.std.proofs.Common.{◌≡◌}
-use Rattle.sqlderived.proofs.Words.{AreDue, contacts_until, domains_until, due_by, objects_in}
-use Rattle.sqlderived.proofs.AnswerLemmas.{if-right, with-days}
+use Rattle.sqlderived.proofs.{Words.{AreDue, contacts_until, domains_until, due_by, objects_in}, AnswerLemmas.{if-right, with-days}}
 use Rattle.sqlderived.proofs.DueLemmas.{all-due}
 use Rattle.sqlderived.proofs.finding.due.Goals as goal
 

@@ -1,6 +1,5 @@
 use Rattle.std.proofs.Common.{rules, ap, subst, sym, ◌∙◌, nat_le, FitsSigned, w64, to_z-of_z}
-use Rattle.sqlderived.proofs.Words.{exact_in, IsConsistent}
-use Rattle.sqlderived.proofs.HeldLemmas.{count-found}
+use Rattle.sqlderived.proofs.{Words.{exact_in, IsConsistent}, HeldLemmas.count-found}
 use Rattle.sqlderived.proofs.holding.is_at_holding_limit.Goals as goal
 
 pub returns-in-Some : goal.returns-in-Some

@@ -1,5 +1,4 @@
-use Rattle.std.proofs.Common.{rules, filter, ap, ◌∙◌}
-use Rattle.std.proofs.lemmas.Fn.{filter_same}
+use Rattle.std.proofs.{Common.{rules, filter, ap, ◌∙◌}, lemmas.Fn.filter_same}
 use Rattle.sqlcolumns.specs.Numbers.{moment_column}
 use Rattle.sqltables.specs.Contact.{contact_within_due}
 use Rattle.sqlderived.proofs.near.contacts_until.Goals as goal

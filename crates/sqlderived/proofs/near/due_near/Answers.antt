@@ -1,8 +1,6 @@
 use Rattle.std.proofs.Common.{◌≡◌, [], false, Ok, subst, sym, ◌∙◌}
-use Rattle.sqlderived.proofs.Words.{AreDue, IsConsistent, reads-on}
+use Rattle.sqlderived.proofs.{Words.{AreDue, IsConsistent, reads-on}, AnswerLemmas.with-days, NearLemmas.{near-found, nothing-due}}
 use Rattle.sqlderived.specs.inner.Near.{HasAllNear, contacts_near, domains_near, is_behind}
-use Rattle.sqlderived.proofs.AnswerLemmas.{with-days}
-use Rattle.sqlderived.proofs.NearLemmas.{near-found, nothing-due}
 use Rattle.sqlderived.proofs.near.due_near.Goals as goal
 
 pub returns-then-not-behind : goal.returns-then-not-behind

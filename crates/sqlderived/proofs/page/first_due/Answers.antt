@@ -1,6 +1,5 @@
 use Rattle.std.proofs.Common.{take}
-use Rattle.sqlderived.proofs.Words.{Content, due_by, dues_are_right, objects_in}
-use Rattle.sqlderived.proofs.PageLemmas.{asked-after}
+use Rattle.sqlderived.proofs.{Words.{Content, due_by, dues_are_right, objects_in}, PageLemmas.asked-after}
 use Rattle.sqlderived.proofs.page.first_due.Goals as goal
 
 pub returns-in-None : goal.returns-in-None

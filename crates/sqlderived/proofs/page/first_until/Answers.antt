@@ -1,6 +1,5 @@
 use Rattle.std.proofs.Common.{take, sym, ◌∙◌}
-use Rattle.sqlderived.proofs.Words.{Content, due_by, dues_are_right, objects_in}
-use Rattle.sqlderived.proofs.PageLemmas.{asked-after, full-page}
+use Rattle.sqlderived.proofs.{Words.{Content, due_by, dues_are_right, objects_in}, PageLemmas.{asked-after, full-page}}
 use Rattle.sqlderived.proofs.page.first_until.Goals as goal
 
 pub returns-then-is_full : goal.returns-then-is_full

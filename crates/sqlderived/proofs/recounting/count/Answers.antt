@@ -1,8 +1,7 @@
 use Rattle.std.proofs.Common.{refl, sym, subst, subst₂}
-use Rattle.sqlderived.proofs.Words.{counts_one, counts_own, IsCountedAnew, IsHeldCounted}
+use Rattle.sqlderived.proofs.{Words.{counts_one, counts_own, IsCountedAnew, IsHeldCounted}, RecountLemmas.own-counted}
 use Rattle.sqlaccounts.proofs.CallLemmas.{then-put}
 use Rattle.sqlaccounts.specs.inner.Posting.{with_row}
-use Rattle.sqlderived.proofs.RecountLemmas.{own-counted}
 use Rattle.sqlderived.proofs.recounting.count.Goals as goal
 
 pub returns : goal.returns

@@ -1,7 +1,6 @@
 use Rattle.std.proofs.Common.{subst, sym}
 use Rattle.sqlderived.proofs.Words.{Content, counts_own, IsCountedAnew, IsRecounted, registrar_of, then-became, with_unwritten}
-use Rattle.sqlderived.proofs.LeavingLemmas.{recounted}
-use Rattle.sqlderived.proofs.RecountLemmas.{anew-after, anew-on}
+use Rattle.sqlderived.proofs.{LeavingLemmas.recounted, RecountLemmas.{anew-after, anew-on}}
 use Rattle.sqlderived.proofs.recounting.recount.Goals as goal
 
 pub returns : goal.returns

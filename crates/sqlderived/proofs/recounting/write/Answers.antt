@@ -1,9 +1,8 @@
 use Rattle.std.proofs.Common.{refl, sym, ap, subst, subst₂}
 use Rattle.sqlderived.proofs.Words.{Content, counts_one, counts_own, IsCountedAnew, IsHeldCounted, IsUnwritten, reads-same, registrar_of}
-use Rattle.sqlderived.proofs.Words.{with_unwritten}
+use Rattle.sqlderived.proofs.{Words.with_unwritten, RecountLemmas.own-written}
 use Rattle.sqlaccounts.proofs.CallLemmas.{then-put}
 use Rattle.sqlaccounts.specs.inner.Posting.{with_row}
-use Rattle.sqlderived.proofs.RecountLemmas.{own-written}
 use Rattle.sqlderived.proofs.recounting.write.Goals as goal
 
 pub returns : goal.returns

@@ -1,6 +1,5 @@
 use Rattle.std.proofs.Common.{◌≡◌, true, List, sym, ap, subst, ◌∙◌}
-use Rattle.sqlderived.proofs.Words.{DomainRow, is_end, is_timed, list_all}
-use Rattle.sqlderived.proofs.RedateLemmas.{all-timed}
+use Rattle.sqlderived.proofs.{Words.{DomainRow, is_end, is_timed, list_all}, RedateLemmas.all-timed}
 use Rattle.sqlderived.proofs.redating.ends_are.Goals as goal
 
 pub returns-then-all_timed : goal.returns-then-all_timed

@@ -1,5 +1,4 @@
-use Rattle.std.proofs.Common.{rules, ◌≡◌}
-use Rattle.std.proofs.lemmas.List.Sorted.{answers_always}
+use Rattle.std.proofs.{Common.{rules, ◌≡◌}, lemmas.List.Sorted.answers_always}
 use Rattle.statements.specs.Tables.{place}
 use Rattle.statements.proofs.TimeLemmas.{sorted_lines}
 use Rattle.statements.proofs.in_time.by_moment.Goals as goal

@@ -1,5 +1,4 @@
-use Rattle.std.proofs.Common.{◌≡◌, ◌∙◌, ◌∷◌, ◌+◌, ap, sym, drop, string_bytes}
-use Rattle.std.proofs.lemmas.List.{drop_more}
+use Rattle.std.proofs.{Common.{◌≡◌, ◌∙◌, ◌∷◌, ◌+◌, ap, sym, drop, string_bytes}, lemmas.List.drop_more}
 use Rattle.accounts.specs.declared.line.Line.{Line}
 use Rattle.statements.proofs.TableLemmas.{one_more}
 use Rattle.statements.proofs.table.table.Goals as goal

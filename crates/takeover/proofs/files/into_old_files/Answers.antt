@@ -3,10 +3,8 @@ use Rattle.sqlite_trees.proofs.Doubt.{no_doubt}
 use Rattle.sqlite_trees.specs.View.{IsClean}
 use Rattle.sqlite_pool.proofs.StateLemmas.{clean_is, may_leave_is}
 use Rattle.sqlite_store.specs.FileStore.{recovers, view}
-use Rattle.sqlite_wal.specs.Files.{outcomes}
-use Rattle.sqlite_wal.specs.Reads.{AreClean}
-use Rattle.sqlite.specs.Files.{file_state}
-use Rattle.sqlite.specs.State.{HasCleanDisk}
+use Rattle.sqlite_wal.specs.{Files.outcomes, Reads.AreClean}
+use Rattle.sqlite.specs.{Files.file_state, State.HasCleanDisk}
 use Rattle.oldrows.specs.inner.Stored.{CoversOld}
 use Rattle.sqltables.proofs.StandingLemmas.{clean-of}
 use Rattle.takeover.proofs.FileLemmas.{old-found}

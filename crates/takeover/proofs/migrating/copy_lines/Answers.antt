@@ -1,9 +1,7 @@
 use Rattle.std.proofs.Common.{ap, ◌∙◌}
 use Rattle.oldrows.proofs.CopyLemmas.{copied-so}
 use Rattle.oldrows.specs.inner.Copies.{put_rows}
-use Rattle.sqltables.specs.Content.{Content}
-use Rattle.sqltables.specs.inner.Content.{lines_to}
-use Rattle.sqltables.specs.Line.{lines}
+use Rattle.sqltables.specs.{Content.Content, inner.Content.lines_to, Line.lines}
 use Rattle.takeover.specs.Migrating.{lines_with_ends}
 use Rattle.takeover.proofs.migrating.copy_lines.Goals as goal
 

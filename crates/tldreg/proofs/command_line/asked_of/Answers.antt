@@ -1,5 +1,4 @@
-use Rattle.std.proofs.Common.{inr, rules, refl}
-use Rattle.std.proofs.lemmas.Result.{err_from_is_err_and}
+use Rattle.std.proofs.{Common.{inr, rules, refl}, lemmas.Result.err_from_is_err_and}
 use Rattle.tldreg.proofs.AskingLemmas.{all_asked, nothing_asked, too_much_asked}
 use Rattle.tldreg.proofs.command_line.asked_of.Goals as goal
 

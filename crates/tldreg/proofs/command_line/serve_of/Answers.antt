@@ -1,5 +1,4 @@
-use Rattle.std.proofs.Common.{◌≡◌, List, ℕ, ◌∷◌, string_bytes, rules, ◌∙◌}
-use Rattle.std.proofs.lemmas.Result.{err_from_is_err_and}
+use Rattle.std.proofs.{Common.{◌≡◌, List, ℕ, ◌∷◌, string_bytes, rules, ◌∙◌}, lemmas.Result.err_from_is_err_and}
 use Rattle.tldreg.specs.inner.Words.{IsPort, texts}
 use Rattle.tldreg.proofs.WordLemmas.{no_serving}
 use Rattle.tldreg.proofs.command_line.serve_of.Goals as goal

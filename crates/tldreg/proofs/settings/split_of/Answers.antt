@@ -1,9 +1,7 @@
-use Rattle.std.proofs.Common.{◌≡◌, List, ℕ, [], ◌∷◌, arith, refl, ap, sym, subst, map, string_bytes}
-use Rattle.std.proofs.lemmas.List.{length-map}
-use Rattle.std.specs.Vec.Iter.{into_iter_items}
+use Rattle.std.proofs.{Common.{◌≡◌, List, ℕ, [], ◌∷◌, arith, refl, ap, sym, subst, map, string_bytes}, lemmas.List.length-map}
 use Rattle.std.proofs.lemmas.Result.{err_from_is_err_and}
-use Rattle.tldreg.specs.inner.Options.{TakesNext, taking}
-use Rattle.tldreg.specs.inner.Words.{texts}
+use Rattle.std.specs.Vec.Iter.{into_iter_items}
+use Rattle.tldreg.specs.inner.{Options.{TakesNext, taking}, Words.texts}
 use Rattle.tldreg.proofs.OptionLemmas.{fewer, gone_wrong, more_taken, no_more, none_taken}
 use Rattle.tldreg.proofs.settings.split_of.Goals as goal
 

@@ -1,6 +1,5 @@
 use Rattle.std.proofs.Common.{◌+◌, ◌≤◌, length}
-use Rattle.tldreg.specs.inner.Options.{AreTaken, taking}
-use Rattle.tldreg.specs.inner.Words.{texts}
+use Rattle.tldreg.specs.inner.{Options.{AreTaken, taking}, Words.texts}
 use Rattle.tldreg.proofs.settings.split_of.Given as goal
 
 abbrev pub invariant-words : goal.invariant-words

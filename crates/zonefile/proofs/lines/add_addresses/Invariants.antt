@@ -1,7 +1,6 @@
 use Rattle.std.proofs.Common.{◌≡◌, ◌++◌, filter, drop}
 use Rattle.std.specs.List.{flat_map}
-use Rattle.zonefile.specs.Lines.{address_line, is_type_of}
-use Rattle.zonefile.specs.ZoneText.{address_lines}
+use Rattle.zonefile.specs.{Lines.{address_line, is_type_of}, ZoneText.address_lines}
 use Rattle.zonefile.proofs.lines.add_addresses.Given as goal
 
 -- the records so far and those of the addresses that are left

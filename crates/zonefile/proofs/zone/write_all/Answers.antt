@@ -1,6 +1,4 @@
-use Rattle.std.proofs.Common.{◌≡◌, ℕ, ◌+◌, ◌∷◌, rules, drop, ap, sym, ◌∙◌}
-use Rattle.std.proofs.lemmas.List.{drop_more}
-use Rattle.std.proofs.lemmas.Result.{err_from_is_err_and}
+use Rattle.std.proofs.{Common.{◌≡◌, ℕ, ◌+◌, ◌∷◌, rules, drop, ap, sym, ◌∙◌}, lemmas.{List.drop_more, Result.err_from_is_err_and}}
 use Rattle.zonefile.proofs.WriteLemmas.{one_more, stopped_at}
 use Rattle.zonefile.proofs.zone.write_all.Goals as goal
 

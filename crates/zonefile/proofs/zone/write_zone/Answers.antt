@@ -1,7 +1,5 @@
-use Rattle.std.proofs.Common.{subst}
-use Rattle.std.proofs.lemmas.Result.{IfErr-weaker, err_from_is_err_and, on_ok_weaker}
-use Rattle.std.specs.Io.KnownBytes.{Appends}
-use Rattle.std.specs.List.{flat_map}
+use Rattle.std.proofs.{Common.subst, lemmas.Result.{IfErr-weaker, err_from_is_err_and, on_ok_weaker}}
+use Rattle.std.specs.{Io.KnownBytes.Appends, List.flat_map}
 use Rattle.zonefile.specs.ZoneText.{StopsWithin, delegation_text, glue_text}
 use Rattle.zonefile.proofs.WriteLemmas.{all_written, delegations_begun, glue_begun, soa_begun}
 use Rattle.zonefile.proofs.zone.write_zone.Goals as goal

@@ -1,6 +1,5 @@
 use Rattle.std.proofs.Common.{◌≡◌, length, true, false, map, sym, ap, ◌∙◌}
-use Rattle.std.specs.Prelude.{◌&&◌}
-use Rattle.std.specs.List.{list_all}
+use Rattle.std.specs.{Prelude.◌&&◌, List.list_all}
 use Rattle.serde_json.specs.View.{view}
 use Rattle.eppforms.specs.Kind.{text_within, within}
 use Rattle.eppforms.proofs.Items.{of_items-found, list_all-map, length-map_view}

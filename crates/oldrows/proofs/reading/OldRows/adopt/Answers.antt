@@ -1,7 +1,5 @@
-use Rattle.std.proofs.Common.{◌≡◌, inl}
-use Rattle.std.proofs.lemmas.Result.{IfErr-weaker, err_from_is_err_and}
-use Rattle.sqlite.specs.Held.{state}
-use Rattle.sqlite.specs.State.{HasCleanDisk, State}
+use Rattle.std.proofs.{Common.{◌≡◌, inl}, lemmas.Result.{IfErr-weaker, err_from_is_err_and}}
+use Rattle.sqlite.specs.{Held.state, State.{HasCleanDisk, State}}
 use Rattle.sqltables.specs.inner.Adoption.{IsReread}
 use Rattle.oldrows.proofs.reading.OldRows.adopt.Goals as goal
 

@@ -1,7 +1,6 @@
 use Rattle.std.proofs.Common.{[], sym, subst, ◌∙◌}
 use Rattle.sqlite.specs.Held.{state}
-use Rattle.oldrows.specs.inner.Stored.{FindsOld, old_leaves, as_found}
-use Rattle.oldrows.specs.Stored.{Answers, IsRead, OldState}
+use Rattle.oldrows.specs.{inner.Stored.{FindsOld, old_leaves, as_found}, Stored.{Answers, IsRead, OldState}}
 use Rattle.oldrows.proofs.AskingLemmas.{asked, kept, reads-stood, stood-left, stood-shown}
 use Rattle.oldrows.proofs.reading.OldRows.ask.Goals as goal
 

@@ -1,14 +1,11 @@
 use Rattle.std.proofs.Common.{◌≡◌, ◌&&◌, Bool, true, Result, OnOk, sym, ap, subst, ◌∙◌}
-use Rattle.sqlite.specs.Held.{state}
-use Rattle.sqlite.specs.State.{HasCleanDisk}
+use Rattle.sqlite.specs.{Held.state, State.HasCleanDisk}
 use Rattle.sqlrows.specs.inner.Calls.{StaysOrUndoes}
 use Rattle.sqltables.proofs.StandingLemmas.{honest, prepared}
 use Rattle.states.specs.declared.fault.BookFault.{BookFault}
-use Rattle.oldrows.specs.inner.Stored.{old_leaves, as_found}
-use Rattle.oldrows.specs.Stored.{IsRead, OldState}
-use Rattle.oldrows.proofs.AskingLemmas.{fits-stood, guards-on, reads-stood}
+use Rattle.oldrows.specs.{inner.Stored.{old_leaves, as_found}, Stored.{IsRead, OldState}}
+use Rattle.oldrows.proofs.{AskingLemmas.{fits-stood, guards-on, reads-stood}, reading.OldRows.look.Goals.{in-Ok, in-Err}}
 use Rattle.oldrows.proofs.reading.OldRows.look.Goals as goal
-use Rattle.oldrows.proofs.reading.OldRows.look.Goals.{in-Ok, in-Err}
 
 pub invariant_of-self : goal.invariant_of-self
 invariant_of-self g c =

@@ -1,6 +1,5 @@
 use Rattle.std.proofs.Common.{inr, sym, ◌∙◌, arith}
-use Rattle.sqlite.specs.Held.{state}
-use Rattle.sqlite.specs.State.{HasCleanDisk}
+use Rattle.sqlite.specs.{Held.state, State.HasCleanDisk}
 use Rattle.sqltables.proofs.StandingLemmas.{clean-of}
 use Rattle.oldrows.proofs.AdoptedLemmas.{left-alone}
 use Rattle.oldrows.proofs.reading.OldRows.numbered.Goals as goal

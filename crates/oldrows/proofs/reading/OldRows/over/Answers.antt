@@ -1,11 +1,8 @@
 use Rattle.std.proofs.Common.{inl, List, sym, ap, subst, ◌∙◌, arith}
-use Rattle.sqlite.specs.Effect.{Database}
-use Rattle.sqlite.specs.Held.{state}
-use Rattle.sqlite.specs.State.{HasCleanDisk}
+use Rattle.sqlite.specs.{Effect.Database, Held.state, State.HasCleanDisk}
 use Rattle.sqltables.specs.Content.{Content}
 use Rattle.states.specs.States.{Remains}
-use Rattle.oldrows.specs.inner.Adoption.{IsSeen}
-use Rattle.oldrows.specs.inner.Stored.{GuardsOld, as_found}
+use Rattle.oldrows.specs.inner.{Adoption.IsSeen, Stored.{GuardsOld, as_found}}
 use Rattle.oldrows.proofs.AdoptedLemmas.{fits_found, guards_found, seen-alone, shown}
 use Rattle.oldrows.proofs.reading.OldRows.over.Goals as goal
 

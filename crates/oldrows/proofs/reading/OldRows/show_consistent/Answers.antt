@@ -1,7 +1,6 @@
 use Rattle.std.proofs.Common.{◌≡◌, true, subst}
 use Rattle.sqlite.specs.Held.{state}
-use Rattle.oldrows.specs.inner.Stored.{IsOldContent}
-use Rattle.oldrows.specs.Stored.{OldState}
+use Rattle.oldrows.specs.{inner.Stored.IsOldContent, Stored.OldState}
 use Rattle.oldrows.proofs.AdoptedLemmas.{consistent_of}
 use Rattle.oldrows.proofs.reading.OldRows.show_consistent.Goals as goal
 

@@ -1,7 +1,5 @@
 use Rattle.std.proofs.Common.{ap}
-use Rattle.registry.proofs.Words.{AreChangesMade, IsStep, Stored}
-use Rattle.registry.proofs.PassingSteps.{executed}
-use Rattle.registry.proofs.StepLemmas.{only-read, within-on, works-then}
+use Rattle.registry.proofs.{Words.{AreChangesMade, IsStep, Stored}, PassingSteps.executed, StepLemmas.{only-read, within-on, works-then}}
 use Rattle.registry.proofs.command.CommandWorkWork.work.Goals as goal
 
 pub returns : goal.returns

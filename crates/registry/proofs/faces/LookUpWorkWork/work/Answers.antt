@@ -1,6 +1,4 @@
-use Rattle.registry.proofs.Words.{IsLookUp, lapsing}
-use Rattle.registry.proofs.PassingSteps.{looked-up}
-use Rattle.registry.proofs.StepLemmas.{finds-then}
+use Rattle.registry.proofs.{Words.{IsLookUp, lapsing}, PassingSteps.looked-up, StepLemmas.finds-then}
 use Rattle.registry.proofs.faces.LookUpWorkWork.work.Goals as goal
 
 pub returns : goal.returns

@@ -1,10 +1,7 @@
-use Rattle.std.proofs.Common.{◌≡◌, arith, to_z, of_z}
+use Rattle.std.proofs.{Common.{◌≡◌, arith, to_z, of_z}, lemmas.Int.ints}
 use Rattle.std.specs.Int.{w64}
-use Rattle.std.proofs.lemmas.Int.{ints}
-use Rattle.registry.proofs.Words.{deposit_decision, IsOrderCarriedOut, IsOrderStep}
+use Rattle.registry.proofs.{Words.{deposit_decision, IsOrderCarriedOut, IsOrderStep}, PassingSteps.deposited, StepLemmas.works-then}
 use Rattle.protocol.specs.declared.order.Order.TheVariants as orders
-use Rattle.registry.proofs.PassingSteps.{deposited}
-use Rattle.registry.proofs.StepLemmas.{works-then}
 use Rattle.registry.proofs.order.OrderWorkWork.work.Goals as goal
 
 pub returns-in_ok-now-in-Deposit : goal.returns-in_ok-now-in-Deposit

@@ -1,6 +1,5 @@
 use Rattle.std.proofs.Common.{refl}
-use Rattle.server.proofs.HttpLemmas.{shown_by}
-use Rattle.server.proofs.PassingLemmas.{passes_by}
+use Rattle.server.proofs.{HttpLemmas.shown_by, PassingLemmas.passes_by}
 use Rattle.server.proofs.at_moment.AtMomentFaceSource.host.Goals as goal
 
 pub returns : goal.returns
