@@ -1,30 +1,16 @@
 -- What time enters into accounts commutes.
 use Rattle.std.proofs.Common.{◌≡◌, ℕ, Bool, true, false, not, cond, ◌&&◌, List, [], ◌∷◌, map, Option, Some, None, refl, sym, ap, ◌∙◌, arith}
-use Rattle.std.proofs.lemmas.Bool.Decides.{nat_tests}
-use Rattle.std.proofs.lemmas.Cmp.{alike_right, nat_cmp_total}
-use Rattle.std.specs.BTreeSet.{insert_key}
-use Rattle.std.specs.Cmp.{IsTotalOrder}
-use Rattle.std.specs.FinMap.{FinMap, IsAntisymmetric, nat_cmp-IsAntisymmetric}
-use Rattle.std.specs.Ordering.{nat_cmp, ordering_reverse}
-use Rattle.std.specs.declared.cmp.Ordering.{Ordering}
-use Rattle.std.specs.declared.cmp.Ordering.TheVariants.{Less, Equal, Greater}
+use Rattle.std.proofs.lemmas.{Bool.Decides.nat_tests, Cmp.{alike_right, nat_cmp_total}}
+use Rattle.std.specs.{BTreeSet.insert_key, Cmp.IsTotalOrder, FinMap.{FinMap, IsAntisymmetric, nat_cmp-IsAntisymmetric}}
+use Rattle.std.specs.{Ordering.{nat_cmp, ordering_reverse}, declared.cmp.Ordering.{Ordering, TheVariants.{Less, Equal, Greater}}}
 use Rattle.basis.specs.Bag.{bag_of, remade}
-use Rattle.basis.proofs.BagLaws.{add-add, remade-add, remade-bag_of}
-use Rattle.basis.proofs.ChangeLaws.{change_at-commutes}
-use Rattle.accounts.specs.declared.account.Account.{Account}
-use Rattle.accounts.specs.declared.entries.LapseEntry.{LapseEntry}
-use Rattle.accounts.specs.declared.entries.LapseEntry.TheVariants.{Renewal, Start, Notice}
-use Rattle.accounts.specs.declared.entries.Posting.{Posting}
-use Rattle.accounts.specs.declared.line.Line.{Line}
-use Rattle.accounts.specs.declared.line.TransferStart.{TransferStart}
-use Rattle.accounts.specs.declared.message.Message.{Message}
-use Rattle.accounts.specs.Account.{empty_account}
-use Rattle.accounts.specs.Entries.{entered, posted, renewal_line}
-use Rattle.accounts.specs.Lines.{begins_by, in_order, is_for_transfer, transfer_started}
-use Rattle.accounts.specs.MessageOrder.{message_cmp_total}
+use Rattle.basis.proofs.{BagLaws.{add-add, remade-add, remade-bag_of}, ChangeLaws.change_at-commutes}
+use Rattle.accounts.specs.declared.{account.Account.Account, entries.LapseEntry.{LapseEntry, TheVariants.{Renewal, Start, Notice}}}
+use Rattle.accounts.specs.declared.{entries.Posting.Posting, line.{Line.Line, TransferStart.TransferStart}, message.Message.Message}
+use Rattle.accounts.specs.{Account.empty_account, Entries.{entered, posted, renewal_line}}
+use Rattle.accounts.specs.{Lines.{begins_by, in_order, is_for_transfer, transfer_started}, MessageOrder.message_cmp_total}
 use Rattle.accounts.specs.Messages.{message_cmp}
-use Rattle.accounts.proofs.LineLaws.{lines_in_order}
-use Rattle.accounts.proofs.MessageLaws.{message_cmp_only}
+use Rattle.accounts.proofs.{LineLaws.lines_in_order, MessageLaws.message_cmp_only}
 
 -- ---- an ordered set: two items put in, in either order
 

@@ -1,34 +1,17 @@
 -- The bag of lines that are kept by their domains.
 use Rattle.std.proofs.Common.{◌≡◌, ℕ, ◌+◌, ◌<◌, ◌==◌, suc, Bool, true, false, cond, not, ◌&&◌, ◌||◌, List, [], ◌∷◌, ◌++◌, map, length, Option, Some, None, Result, Ok, Err, refl, sym, ap, subst, ◌∙◌, arith, ℤ, ◌+ℤ◌, ◌-ℤ◌}
-use Rattle.std.specs.Prelude.{unwrap_or}
-use Rattle.std.proofs.lemmas.Bool.Decides.{nat_tests}
-use Rattle.std.proofs.lemmas.Cmp.{nat_list_cmp_total}
-use Rattle.std.proofs.lemmas.Int.{ints}
-use Rattle.std.proofs.lemmas.List.{append-nil, map-append}
-use Rattle.std.proofs.lemmas.List.Elements.{filter-append}
-use Rattle.std.proofs.lemmas.List.Folds.{list_any-append}
-use Rattle.std.proofs.lemmas.Map.{NonePasses, none_passes_from_lookup}
-use Rattle.std.proofs.lemmas.Map.Entries.{none_past_head}
-use Rattle.std.proofs.lemmas.Map.Steps.{set_value_same}
-use Rattle.std.proofs.lemmas.Map.Keys.{IsDistinct-from_sorted, IsDistinct-tail}
-use Rattle.std.specs.BTreeMap.{insert_entry, is_at}
-use Rattle.std.specs.Cmp.{Equal-is, IsEquivalence, eq_by_cmp_equiv}
-use Rattle.std.specs.Cmp.Lexicographic.{slice_cmp}
-use Rattle.std.specs.FinMap.{nat_cmp-IsAntisymmetric, slice_cmp-IsAntisymmetric}
-use Rattle.std.specs.List.{AllByRecursion, IsDistinct, filter, list_any}
-use Rattle.std.specs.List.Sorted.{IsStrictlySortedBy}
-use Rattle.std.specs.Int.{saturate_signed, w128}
-use Rattle.std.specs.Result.{OnErr, OnOk}
-use Rattle.std.specs.Map.{keys_of, lookup, set_value}
-use Rattle.std.specs.Ordering.{eq_by_cmp, is_eq, nat_cmp, ordering_then}
-use Rattle.std.specs.declared.cmp.Ordering.{Ordering}
-use Rattle.std.specs.declared.cmp.Ordering.TheVariants.{Less, Equal, Greater}
+use Rattle.std.proofs.lemmas.{Bool.Decides.nat_tests, Cmp.nat_list_cmp_total, Int.ints, List.{append-nil, map-append}}
+use Rattle.std.proofs.lemmas.{List.{Elements.filter-append, Folds.list_any-append}, Map.{NonePasses, none_passes_from_lookup}}
+use Rattle.std.proofs.lemmas.Map.{Entries.none_past_head, Steps.set_value_same, Keys.{IsDistinct-from_sorted, IsDistinct-tail}}
+use Rattle.std.specs.{Prelude.unwrap_or, BTreeMap.{insert_entry, is_at}, Cmp.{Equal-is, IsEquivalence, eq_by_cmp_equiv}}
+use Rattle.std.specs.{Cmp.Lexicographic.slice_cmp, FinMap.{nat_cmp-IsAntisymmetric, slice_cmp-IsAntisymmetric}}
+use Rattle.std.specs.{List.{AllByRecursion, IsDistinct, filter, list_any, Sorted.IsStrictlySortedBy}, Int.{saturate_signed, w128}}
+use Rattle.std.specs.{Result.{OnErr, OnOk}, Map.{keys_of, lookup, set_value}, Ordering.{eq_by_cmp, is_eq, nat_cmp, ordering_then}}
+use Rattle.std.specs.declared.cmp.Ordering.{Ordering, TheVariants.{Less, Equal, Greater}}
 use Rattle.basis.specs.Bag.{add, bag_of, remade, same, taken}
 use Rattle.basis.proofs.BagLaws.{add-add, any-bag_of, filter-bag_of, remade-bag_of, taken-absent, taken-add, taken-bag_of, taken-before, taken-behind, taken-present}
 use Rattle.objects.specs.declared.roid.Roid.{Roid}
-use Rattle.accounts.specs.declared.line.Line.{Line}
-use Rattle.accounts.specs.Groups.{IsBounded, IsGroup, IsGrouped, IsUnder, all_lines}
-use Rattle.accounts.specs.declared.line.LineSwap.{LineSwap}
+use Rattle.accounts.specs.{declared.line.{Line.Line, LineSwap.LineSwap}, Groups.{IsBounded, IsGroup, IsGrouped, IsUnder, all_lines}}
 use Rattle.accounts.specs.Lines.{balance, in_order, is_line, is_of, is_on, object_rank, roid_numbers, swapped_all, swaps_of}
 use Rattle.accounts.proofs.LineLaws.{balance-bag_of, bounded-cons, bounded-small, fits, line-told, lines_in_order, same-in_order}
 

@@ -1,20 +1,14 @@
 -- Lines stand in an order, and balances are sums.
 use Rattle.std.proofs.Common.{◌≡◌, ℕ, ◌+◌, ◌<◌, ◌==◌, Bool, true, false, cond, ◌&&◌, nat_eq, List, [], ◌∷◌, ◌++◌, Option, Some, None, is_some, refl, sym, ap, ◌∙◌, arith, ℤ, pos, negsuc, ◌+ℤ◌, ◌-ℤ◌, ◌≤ℤ◌}
-use Rattle.std.specs.Int.{saturate_signed, w128}
-use Rattle.std.specs.List.{AllByRecursion}
-use Rattle.std.proofs.lemmas.Bool.Decides.{nat_tests}
-use Rattle.std.proofs.lemmas.Int.{ints}
+use Rattle.std.proofs.lemmas.{Bool.Decides.nat_tests, Int.ints}
+use Rattle.std.specs.{Int.{saturate_signed, w128}, List.AllByRecursion}
 use Rattle.basis.specs.Bag.{IsLinear, add, bag_of, same}
-use Rattle.basis.proofs.BagLaws.{le-itself, same-is}
-use Rattle.basis.proofs.OrderLaws.{linear_by_numbers}
-use Rattle.objects.specs.declared.roid.ObjectKind.{ObjectKind}
+use Rattle.basis.proofs.{BagLaws.{le-itself, same-is}, OrderLaws.linear_by_numbers}
+use Rattle.objects.specs.declared.roid.{ObjectKind.ObjectKind, Roid.Roid}
 use Rattle.objects.specs.declared.roid.ObjectKind.TheVariants as objects
-use Rattle.objects.specs.declared.roid.Roid.{Roid}
-use Rattle.accounts.specs.declared.line.Line.{Line}
-use Rattle.accounts.specs.declared.line.LineKind.{LineKind}
-use Rattle.accounts.specs.declared.line.LineKind.TheVariants as kinds
-use Rattle.accounts.specs.Groups.{IsBounded, IsSmall}
+use Rattle.accounts.specs.{declared.line.{Line.Line, LineKind.LineKind}, Groups.{IsBounded, IsSmall}}
 use Rattle.accounts.specs.Lines.{amount, amount_of, balance, in_order, is_kind, is_line, is_line_for, is_same_domain, is_same_number, is_same_roid, kind_rank, maybe_number, numbers, object_rank, roid_numbers}
+use Rattle.accounts.specs.declared.line.LineKind.TheVariants as kinds
 
 -- ---- the numbers tell a line
 

@@ -1,19 +1,12 @@
 -- Messages that tie in their order are one message.
 use Rattle.std.proofs.Common.{◌≡◌, ℕ, nat_eq, cond, refl, sym, ap, ◌∙◌, arith}
-use Rattle.std.specs.FinMap.{IsAntisymmetric, nat_cmp-IsAntisymmetric, slice_cmp-IsAntisymmetric}
-use Rattle.std.specs.Ordering.{ordering_then}
-use Rattle.std.specs.declared.cmp.Ordering.{Ordering}
-use Rattle.std.specs.declared.cmp.Ordering.TheVariants.{Less, Equal, Greater}
-use Rattle.accounts.specs.declared.message.CommandNotice.{CommandNotice}
-use Rattle.accounts.specs.declared.message.CommandNotice.TheVariants as commands
-use Rattle.accounts.specs.declared.message.LapseNotice.{LapseNotice}
-use Rattle.accounts.specs.declared.message.LapseNotice.TheVariants.{RenewedAutomatically, Purged, TransferApproved}
-use Rattle.accounts.specs.declared.message.Message.{Message}
-use Rattle.accounts.specs.declared.message.Origin.{Origin}
-use Rattle.accounts.specs.declared.message.Origin.TheVariants.{Lapse, Command}
-use Rattle.accounts.specs.declared.message.Subject.{Subject}
-use Rattle.accounts.specs.declared.message.Subject.TheVariants.{Contact, Domain}
+use Rattle.std.specs.{FinMap.{IsAntisymmetric, nat_cmp-IsAntisymmetric, slice_cmp-IsAntisymmetric}, Ordering.ordering_then}
+use Rattle.std.specs.declared.cmp.Ordering.{Ordering, TheVariants.{Less, Equal, Greater}}
+use Rattle.accounts.specs.declared.message.{CommandNotice.CommandNotice, LapseNotice.LapseNotice}
+use Rattle.accounts.specs.declared.message.{LapseNotice.TheVariants.{RenewedAutomatically, Purged, TransferApproved}, Message.Message}
+use Rattle.accounts.specs.declared.message.{Origin.{Origin, TheVariants.{Lapse, Command}}, Subject.{Subject, TheVariants.{Contact, Domain}}}
 use Rattle.accounts.specs.Messages.{class_of, command_rank, letter_rank, message_cmp, number_of, subject_rank, tie_of}
+use Rattle.accounts.specs.declared.message.CommandNotice.TheVariants as commands
 
 -- ---- messages that tie are one
 

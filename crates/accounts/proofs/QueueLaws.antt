@@ -1,14 +1,9 @@
 -- A message that was put where it wasn't is dropped, and one that was dropped is put back, and all is
 -- as before.
 use Rattle.std.proofs.Common.{◌≡◌, Bool, true, false, cond, ◌||◌, true≢false, List, [], ◌∷◌, refl, sym, ap, ◌∙◌}
-use Rattle.std.specs.List.{AllByRecursion}
-use Rattle.std.specs.List.Sorted.{IsStrictlySortedBy}
-use Rattle.std.specs.Ordering.{is_eq, match_ordering}
-use Rattle.std.specs.declared.cmp.Ordering.{Ordering}
+use Rattle.std.specs.{List.{AllByRecursion, Sorted.IsStrictlySortedBy}, Ordering.{is_eq, match_ordering}, declared.cmp.Ordering.Ordering}
 use Rattle.std.specs.declared.cmp.Ordering.TheVariants.{Less, Equal, Greater}
-use Rattle.accounts.specs.declared.message.Message.{Message}
-use Rattle.accounts.specs.MessageOrder.{message_cmp_total, message_eq_equiv}
-use Rattle.accounts.specs.Messages.{message_cmp}
+use Rattle.accounts.specs.{declared.message.Message.Message, MessageOrder.{message_cmp_total, message_eq_equiv}, Messages.message_cmp}
 use Rattle.accounts.specs.Queue.{dropped, has, put}
 use Rattle.accounts.proofs.MessageLaws.{message_cmp_only}
 

@@ -2,9 +2,8 @@
 ghost use Rattle.std.specs.Prelude.{◌≡◌, ◌<◌, ◌++◌, ◌∷◌, [], length, true, false, IfOk, IfSome, OnOk, OnErr};
 ghost use Rattle.std.specs.List.{filter, list_any, position};
 ghost use Rattle.basis.specs.Bag.{add, bag_of, remade, same, taken};
-ghost use Rattle.accounts.specs.Groups.{IsBounded, IsSmall, all_lines};
+ghost use Rattle.accounts.specs.{Groups.{IsBounded, IsSmall, all_lines}, Lines.in_order};
 ghost use Rattle.accounts.specs.Lines as spec;
-ghost use Rattle.accounts.specs.Lines.{in_order};
 
 use crate::line::{Line, LineChange, LineSwap, object_rank};
 use objects::Roid;

@@ -1,6 +1,5 @@
 //! The lines of an account as contracts see them: a bag, whatever the order in which they came.
-ghost use Rattle.std.specs.Prelude.{◌≡◌, [], true, IfOk, OnOk, OnErr};
-ghost use Rattle.std.specs.List.{filter, list_any};
+ghost use Rattle.std.specs.{Prelude.{◌≡◌, [], true, IfOk, OnOk, OnErr}, List.{filter, list_any}};
 ghost use Rattle.basis.specs.Bag.{add, bag_of, remade, same, taken};
 ghost use Rattle.accounts.specs.Lines as spec;
 ghost use Rattle.accounts.specs.Lines.{in_order};

@@ -1,12 +1,9 @@
 -- What one entry gives, apart from the others.
 use Rattle.std.proofs.Common.{◌≡◌, Bool, true, false, cond, not, ◌&&◌, T, subst, List, [], ◌∷◌, ◌++◌, Option, Some, None, refl, sym, ap, ◌∙◌}
-use Rattle.std.specs.Prelude.{fold}
-use Rattle.std.specs.declared.cmp.Ordering.{Ordering}
-use Rattle.std.specs.declared.cmp.Ordering.TheVariants.{Less, Equal, Greater}
+use Rattle.std.specs.{Prelude.fold, declared.cmp.Ordering.{Ordering, TheVariants.{Less, Equal, Greater}}}
 use Rattle.std.specs.Cmp.{IsTotalOrder, Equal-is, tied_itself}
 use Rattle.std.specs.FinMap.{FinMap, is_sorted, entries_sorted, find, entries, get, get-entries, insert, remove, get-insert, get-remove, same_map, IsAntisymmetric}
-use Rattle.std.specs.FinMap.Entries.{below_all, where_key, find-where_key, is_sorted-where_key, same_entries}
-use Rattle.std.specs.Option.{option_map_or}
+use Rattle.std.specs.{FinMap.Entries.{below_all, where_key, find-where_key, is_sorted-where_key, same_entries}, Option.option_map_or}
 use Rattle.std.specs.Ordering.{eq_by_cmp, is_lt, is_eq}
 use Rattle.basis.specs.Sweeps.{kept_list, kept, given_list, given}
 use Rattle.basis.proofs.SweepLaws.{fold_append, swap, entries-kept}

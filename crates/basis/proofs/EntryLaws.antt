@@ -1,13 +1,8 @@
 -- What holds of each value of a map holds of each entry.
 use Rattle.std.proofs.Common.{◌≡◌, Bool, true, false, cond, ◌||◌, T, subst, List, [], ◌∷◌, ◌++◌, map, Option, Some, None, refl, sym, ap, ◌∙◌}
-use Rattle.std.specs.Prelude.{⊤}
-use Rattle.std.specs.declared.cmp.Ordering.{Ordering}
-use Rattle.std.specs.Cmp.{IsTotalOrder}
+use Rattle.std.specs.{Prelude.⊤, declared.cmp.Ordering.Ordering, Cmp.IsTotalOrder}
 use Rattle.std.specs.FinMap.{FinMap, is_sorted, entries_sorted, find, entries, get, get-entries, values, from_entries, IsAntisymmetric}
-use Rattle.std.specs.FinMap.Entries.{below_all}
-use Rattle.std.specs.List.{list_any}
-use Rattle.std.specs.Option.{option_map_or}
-use Rattle.std.specs.Ordering.{eq_by_cmp}
+use Rattle.std.specs.{FinMap.Entries.below_all, List.list_any, Option.option_map_or, Ordering.eq_by_cmp}
 use Rattle.basis.specs.Sweeps.{kept_list, kept, given_list, given}
 use Rattle.basis.proofs.ApartLaws.{tied, itself, missing, first, second}
 

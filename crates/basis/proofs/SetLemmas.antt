@@ -1,21 +1,13 @@
 -- A finite set kept as a list that rises: what a search in the list finds, and what the list has.
 use Rattle.std.proofs.Common.{◌≡◌, ◌<◌, ◌≤◌, ℕ, Bool, true, false, ◌||◌, cond, List, [], ◌∷◌, map, length, get_or, Option, Some, None, is_some, Result, Ok, Err, is_ok, refl, sym, ap, subst, ◌∙◌, arith}
-use Rattle.std.proofs.lemmas.Bool.Decides.{Decides-and, Decides-like, same_from_decides}
-use Rattle.std.proofs.lemmas.List.Folds.{list_any_at, list_any_none}
-use Rattle.std.proofs.lemmas.List.Sorted.{list_any-IsPermutation}
-use Rattle.std.proofs.lemmas.Map.Keys.{Less-from_sorted}
-use Rattle.std.proofs.lemmas.Slice.Eq.{bytes_eq-Decides}
-use Rattle.std.specs.Bool.{Decides}
-use Rattle.std.specs.Cmp.{IsTotalOrder, alike_right, both_ways}
-use Rattle.std.specs.Cmp.Lexicographic.{slice_cmp, nat_list_cmp_total}
-use Rattle.std.specs.FinMap.{find}
+use Rattle.std.proofs.lemmas.{Bool.Decides.{Decides-and, Decides-like, same_from_decides}, List.Folds.{list_any_at, list_any_none}}
+use Rattle.std.proofs.lemmas.{List.Sorted.list_any-IsPermutation, Map.Keys.Less-from_sorted, Slice.Eq.bytes_eq-Decides}
+use Rattle.std.specs.{Bool.Decides, Cmp.{IsTotalOrder, alike_right, both_ways, Lexicographic.{slice_cmp, nat_list_cmp_total}}, FinMap.find}
 use Rattle.std.specs.FinMap.Entries.{same_entries, is_some-find}
 use Rattle.std.specs.FinSet.{contains, from_list, contains-from_list, contains-is_subset, is_subset-contains, same_set}
 use Rattle.std.specs.List.{dedup, dedup_from, list_any}
 use Rattle.std.specs.List.Sorted.{IsBinarySearchResult, IsNonDecreasingBy, IsPermutation, IsSearchInRange, IsStrictlySortedBy}
-use Rattle.std.specs.Ordering.{eq_by_cmp, is_eq, nat_cmp, ordering_index, ordering_reverse}
-use Rattle.std.specs.Str.{bytes_eq}
-use Rattle.std.specs.declared.cmp.Ordering.{Ordering}
+use Rattle.std.specs.{Ordering.{eq_by_cmp, is_eq, nat_cmp, ordering_index, ordering_reverse}, Str.bytes_eq, declared.cmp.Ordering.Ordering}
 use Rattle.std.specs.declared.cmp.Ordering.TheVariants.{Less, Equal, Greater}
 use Rattle.basis.proofs.MapLemmas.{is_sorted-from_ordered, names_apart}
 use Rattle.basis.specs.Sets.{Names, is_same_set}

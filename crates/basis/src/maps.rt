@@ -1,9 +1,8 @@
 //! Ordered maps as contracts see them: finite maps.
-ghost use Rattle.std.specs.Prelude.{◌≡◌, List, ℕ, IfOk, OnOk, OnErr, None};
-ghost use Rattle.std.specs.Borrow.{sem};
+ghost use Rattle.std.specs.{Prelude.{◌≡◌, List, ℕ, IfOk, OnOk, OnErr, None}, Borrow.sem};
 ghost use Rattle.std.specs.Option.{option_copied, option_copied_mut};
-ghost use Rattle.std.specs.FinMap as map;
 ghost use Rattle.std.specs.Map.Iter.{ShowsInOrder, deref, deref_pair};
+ghost use Rattle.std.specs.FinMap as map;
 ghost use Rattle.basis.specs.Lending.{LendsValue};
 
 use crate::registrar::RegistrarNo;

@@ -1,8 +1,6 @@
 //! Ordered sets as contracts see them: finite sets.
-ghost use Rattle.std.specs.Prelude.{◌≡◌};
-ghost use Rattle.std.specs.Cmp.Lexicographic.{slice_cmp};
+ghost use Rattle.std.specs.{Prelude.◌≡◌, Cmp.Lexicographic.slice_cmp, Ordering.nat_cmp};
 ghost use Rattle.std.specs.FinSet as set;
-ghost use Rattle.std.specs.Ordering.{nat_cmp};
 ghost use Rattle.basis.specs.Sets.{is_same_set};
 
 use crate::text::Text;

@@ -1,6 +1,5 @@
 //! Texts as contracts see them: by their bytes.
-ghost use Rattle.std.specs.Prelude.{◌≡◌, IfOk, string_bytes};
-ghost use Rattle.std.specs.Str.{bytes_eq};
+ghost use Rattle.std.specs.{Prelude.{◌≡◌, IfOk, string_bytes}, Str.bytes_eq};
 
 use std::alloc::{AllocError, Global};
 use std::cmp::Ordering;

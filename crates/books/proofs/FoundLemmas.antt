@@ -1,8 +1,7 @@
 -- What is found in records, one question after another.
 use Rattle.std.proofs.Common.{◌≡◌, true, ap, ◌∙◌}
 use Rattle.model.specs.Registry.{Registry}
-use Rattle.books.specs.Book.{Stored}
-use Rattle.books.specs.Records.{RecordsState}
+use Rattle.books.specs.{Book.Stored, Records.RecordsState}
 use Rattle.states.specs.States.{Reads}
 use Rattle.states.proofs.CallLemmas.{reads-on}
 

@@ -1,25 +1,17 @@
 -- Changes of an account commute with those of others and of objects, so they may stand together, before or behind them.
 use Rattle.std.proofs.Common.{◌≡◌, ◌⊎◌, inl, inr, ℕ, ◌<◌, suc, length, arith, eq-eqb, eqb-true, Bool, true, false, cond, not, List, [], ◌∷◌, ◌++◌, Option, Some, None, option_to_list, refl, sym, ap, ◌∙◌}
-use Rattle.std.specs.Prelude.{nat_eq, unwrap_or}
-use Rattle.std.specs.Cmp.{nat_cmp_total}
-use Rattle.std.specs.FinMap.{FinMap, nat_cmp-IsAntisymmetric}
-use Rattle.std.specs.Option.{option_eq, option_or}
-use Rattle.std.specs.Ordering.{nat_cmp}
 use Rattle.std.proofs.lemmas.List.Sums.{count_by-le-length, fold-append, length-filter}
-use Rattle.accounts.specs.declared.account.Account.{Account}
-use Rattle.accounts.specs.Account.{empty_account}
+use Rattle.std.specs.{Prelude.{nat_eq, unwrap_or}, Cmp.nat_cmp_total, FinMap.{FinMap, nat_cmp-IsAntisymmetric}}
+use Rattle.std.specs.{Option.{option_eq, option_or}, Ordering.nat_cmp}
+use Rattle.accounts.specs.{declared.account.Account.Account, Account.empty_account}
 use Rattle.basis.proofs.ChangeLaws.{change_at-commutes}
-use Rattle.lifecycle.specs.Changes.{all_changed, changed as account_changed}
-use Rattle.lifecycle.specs.declared.change.AccountChange.{AccountChange}
+use Rattle.lifecycle.specs.{Changes.{all_changed, changed as account_changed}, declared.change.AccountChange.AccountChange}
 use Rattle.model.specs.Registry.{Registry, account_of}
 use Rattle.objects.specs.declared.host.Host.{Host}
 use Rattle.policy.specs.Rules.{PolicyRules}
-use Rattle.decisions.specs.Changes.{changed, changed_all, host_renamed, may_rename, with_account}
-use Rattle.decisions.specs.declared.change.Change.{Change}
+use Rattle.decisions.specs.{Changes.{changed, changed_all, host_renamed, may_rename, with_account}, declared.change.Change.Change}
 use Rattle.decisions.specs.declared.change.Change.TheVariants.{MoveClock, OpenAccount, PutContact, DropContact, PutDomain, DropDomain, PutHost, DropHost, RenameHost, LapseContact, LapseDomain, Post}
-use Rattle.books.specs.Book.{Stored, with_changes}
-use Rattle.books.specs.Tables.{posted_all, posted_to}
-use Rattle.books.specs.declared.grouping.Parted.{Parted}
+use Rattle.books.specs.{Book.{Stored, with_changes}, Tables.{posted_all, posted_to}, declared.grouping.Parted.Parted}
 use Rattle.books.specs.inner.Grouping.{account_of_change, done_by, first_account, is_of_account, others, posts_of}
 use Rattle.books.proofs.PutLemmas.{changed-put}
 

@@ -1,8 +1,6 @@
 -- What a refusal is counted as.
 use Rattle.std.proofs.Common.{◌≡◌, ℕ, Bool, true, false}
-use Rattle.books.specs.Book.{HasRefused}
-use Rattle.books.specs.Kept.{book_state, state_of}
-use Rattle.books.specs.Records.{RecordsState}
+use Rattle.books.specs.{Book.HasRefused, Kept.{book_state, state_of}, Records.RecordsState}
 
 -- where it can refuse, a refusal that was counted is a refusal of the book
 pub counts : (s t : RecordsState) (refuses : Bool) (was is : ℕ) → refuses ≡ true

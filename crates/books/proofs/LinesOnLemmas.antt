@@ -1,25 +1,15 @@
 -- Graces and refunds hang on the lines of the domain alone.
 use Rattle.std.proofs.Common.{◌≡◌, ℕ, ◌+◌, Bool, true, false, cond, ◌||◌, List, [], ◌∷◌, Option, refl, sym, ap, ◌∙◌, arith}
-use Rattle.std.specs.List.{filter, list_any, sum_by}
 use Rattle.std.proofs.lemmas.List.Sums.{sum_by-cons}
-use Rattle.accounts.specs.declared.line.Line.{Line}
-use Rattle.accounts.specs.declared.line.LineKind.{LineKind}
+use Rattle.std.specs.List.{filter, list_any, sum_by}
+use Rattle.accounts.specs.{declared.line.{Line.Line, LineKind.LineKind}, LineChanges.unasked, Lines.{is_kind, is_on}}
 use Rattle.accounts.specs.declared.line.LineKind.TheVariants as kinds
-use Rattle.accounts.specs.LineChanges.{unasked}
-use Rattle.accounts.specs.Lines.{is_kind, is_on}
-use Rattle.lifecycle.specs.declared.change.RunningRefund.{RunningRefund}
-use Rattle.lifecycle.specs.declared.refund.GivenBack.{GivenBack}
-use Rattle.lifecycle.specs.Graces.{graces, gives, standing}
-use Rattle.lifecycle.specs.Phases.{phase}
-use Rattle.lifecycle.specs.Refunds.{cents_back, given_back, refund_at, years_back}
-use Rattle.model.specs.Registry.{account_of}
-use Rattle.model.specs.Standing.{standing_of}
-use Rattle.objects.specs.declared.domain.Domain.{Domain}
-use Rattle.objects.specs.declared.grace.Standing.{Standing}
-use Rattle.objects.specs.declared.roid.Roid.{Roid}
+use Rattle.lifecycle.specs.{declared.{change.RunningRefund.RunningRefund, refund.GivenBack.GivenBack}, Graces.{graces, gives, standing}}
+use Rattle.lifecycle.specs.{Phases.phase, Refunds.{cents_back, given_back, refund_at, years_back}}
+use Rattle.model.specs.{Registry.account_of, Standing.standing_of}
+use Rattle.objects.specs.declared.{domain.Domain.Domain, grace.Standing.Standing, roid.Roid.Roid}
 use Rattle.policy.specs.Rules.{PolicyRules}
-use Rattle.books.specs.Book.{Stored}
-use Rattle.books.specs.Records.{RecordsState}
+use Rattle.books.specs.{Book.Stored, Records.RecordsState}
 use Rattle.states.specs.States.{Reads}
 use Rattle.states.proofs.CallLemmas.{reads-on}
 

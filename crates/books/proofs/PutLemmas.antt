@@ -1,12 +1,10 @@
 -- Values at keys, one put after another.
 use Rattle.std.proofs.Common.{◌≡◌, ℕ, Bool, true, false, cond, Option, Some, None, refl, sym, ap, ◌∙◌}
-use Rattle.std.specs.Prelude.{option_map, unwrap_or}
-use Rattle.std.specs.declared.cmp.Ordering.{Ordering}
+use Rattle.std.specs.{Prelude.{option_map, unwrap_or}, declared.cmp.Ordering.Ordering}
 use Rattle.std.specs.Cmp.{IsTotalOrder, Equal-is, eq_by_cmp_equiv, nat_cmp_total}
 use Rattle.std.specs.FinMap.{FinMap, IsAntisymmetric, get, insert, get-insert, get-remove, same_map, nat_cmp-IsAntisymmetric}
 use Rattle.std.specs.Ordering.{eq_by_cmp, nat_cmp}
-use Rattle.accounts.specs.declared.account.Account.{Account}
-use Rattle.accounts.specs.Account.{empty_account}
+use Rattle.accounts.specs.{declared.account.Account.Account, Account.empty_account}
 use Rattle.basis.specs.Sweeps.{change_at}
 use Rattle.books.specs.Ledgers.{changed_if_there, entry_set}
 

@@ -2,8 +2,7 @@
 use Rattle.std.proofs.Common.{◌≡◌, ℕ, Bool, true, false, cond, List, sym, ap}
 use Rattle.objects.specs.declared.host.Host.{Host}
 use Rattle.decisions.specs.Changes.{host_renamed as registry_renamed, may_rename}
-use Rattle.books.specs.Book.{Stored}
-use Rattle.books.specs.Tables.{host_moved, host_renamed_if_there}
+use Rattle.books.specs.{Book.Stored, Tables.{host_moved, host_renamed_if_there}}
 
 module _ (from : List ℕ) (h : Host) (s : Stored) where
   abbrev by : Bool → Stored

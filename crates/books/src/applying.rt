@@ -1,9 +1,9 @@
 //! How changes are made in records.
 ghost use Rattle.std.specs.Prelude.{◌≡◌, ◌∷◌, [], None, Some, max, option_to_list, true};
 ghost use Rattle.books.specs.Book.{with_changes};
+ghost use Rattle.books.specs.Tables.{clock_set, contact_left, contact_set, domain_left, domain_set, maybe_posted, posted_all, posted_to};
 ghost use Rattle.states.specs.States.{Makes};
 ghost use Rattle.lifecycle.specs.Changes.{all_changed};
-ghost use Rattle.books.specs.Tables.{clock_set, contact_left, contact_set, domain_left, domain_set, maybe_posted, posted_all, posted_to};
 
 use crate::grouping::{add_done, first_account, part};
 use crate::records::{Posts, Records};

@@ -3,14 +3,11 @@ ghost use Rattle.std.specs.Prelude.{◌≡◌, Bool, true, false, None};
 ghost use Rattle.books.specs.Book.{BookBegins, BookEnds, BookFinds, BookFindsIn, BookMakesOf};
 ghost use Rattle.books.specs.Book.{Follows, IsBack, LeavesHeld, BookLeavesSame, NoRefusal};
 ghost use Rattle.books.specs.Book.{with_changes, with_terms};
-ghost use Rattle.concerns.specs.Names.{named_by, named_of};
-ghost use Rattle.concerns.specs.DueFor.{due_for};
 ghost use Rattle.books.specs.Faces.{contact_face_at, domain_face_at, host_face_at};
 ghost use Rattle.books.specs.Lookups.{first_due};
+ghost use Rattle.concerns.specs.{Names.{named_by, named_of}, DueFor.due_for};
 ghost use Rattle.facts.specs.Facts.{facts};
-ghost use Rattle.model.specs.Objects.{object_at};
-ghost use Rattle.model.specs.Registry.{account_of};
-ghost use Rattle.model.specs.Zone.{zone_data};
+ghost use Rattle.model.specs.{Objects.object_at, Registry.account_of, Zone.zone_data};
 
 use accounts::Lines;
 use basis::list::Seq;

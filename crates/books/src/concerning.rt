@@ -1,11 +1,10 @@
 //! What of that which is due concerns a registrar and some names, as it is found in records.
-ghost use Rattle.std.specs.Prelude.{◌≡◌, ◌||◌, None, option_map, IfOk};
+ghost use Rattle.std.specs.{Prelude.{◌≡◌, ◌||◌, None, option_map, IfOk}, List.filter};
 ghost use Rattle.std.specs.FinMap as finmap;
 ghost use Rattle.concerns.specs.Concerns as spec;
 ghost use Rattle.concerns.specs.Names as names;
 ghost use Rattle.objects.specs.Links.{has_name};
 ghost use Rattle.protocol.specs.Requests.{holds_of};
-ghost use Rattle.std.specs.List.{filter};
 ghost use Rattle.concerns.specs.DueFor as dues;
 ghost use Rattle.states.specs.States.{Finds};
 

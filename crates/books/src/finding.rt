@@ -1,15 +1,12 @@
 //! The facts of a command, as they are found in records.
 ghost use Rattle.std.specs.Prelude.{◌≡◌, ◌&&◌, if◌then◌else◌, [], false, map, nat_le, not, option_map, option_and_then, None, IfOk};
-ghost use Rattle.std.specs.List.{list_any};
+ghost use Rattle.std.specs.{List.list_any, Option.option_copied};
 ghost use Rattle.std.specs.FinMap as finmap;
-ghost use Rattle.std.specs.Option.{option_copied};
 ghost use Rattle.accounts.specs.Lines.{balance};
 ghost use Rattle.facts.specs.Facts as facts;
 ghost use Rattle.lifecycle.specs.Refunds as refunds;
 ghost use Rattle.model.specs.Objects as objects;
-ghost use Rattle.model.specs.Registry.{account_of};
-ghost use Rattle.model.specs.Standing.{standing_of};
-ghost use Rattle.model.specs.View.{domain_sight};
+ghost use Rattle.model.specs.{Registry.account_of, Standing.standing_of, View.domain_sight};
 ghost use Rattle.names.specs.RequestedName.{name_of};
 ghost use Rattle.objects.specs.Sight.{contact_as};
 ghost use Rattle.protocol.specs.Requests as requests;

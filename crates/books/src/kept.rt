@@ -1,8 +1,7 @@
 //! A book that is made of records.
 ghost use Rattle.std.specs.Prelude.{◌≡◌, ◌≤◌};
-ghost use Rattle.books.specs.Book.{HasRefused};
+ghost use Rattle.books.specs.{Book.HasRefused, Kept.{GaveUp, book_state, state_of}};
 ghost use Rattle.books.specs.Kept as spec;
-ghost use Rattle.books.specs.Kept.{GaveUp, book_state, state_of};
 
 use crate::book::Book;
 use crate::records::Records;

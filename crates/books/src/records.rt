@@ -1,15 +1,14 @@
 //! What a book keeps, by key.
 ghost use Rattle.std.specs.Prelude.{◌≡◌, Bool, true, false, nat_le, length, slice_get, Some, None};
-ghost use Rattle.std.specs.FinMap as finmap;
 ghost use Rattle.std.specs.List.{filter};
+ghost use Rattle.std.specs.FinMap as finmap;
 ghost use Rattle.accounts.specs.Lines as lines;
 ghost use Rattle.facts.specs.Facts as facts;
-ghost use Rattle.model.specs.Registry.{account_of};
+ghost use Rattle.model.specs.{Registry.account_of, Zone.{delegations, host_addresses_at}};
 ghost use Rattle.books.specs.Book.{with_terms};
-ghost use Rattle.model.specs.Zone.{delegations, host_addresses_at};
-ghost use Rattle.accounts.specs.Counters.{counters_of};
 ghost use Rattle.books.specs.Lookups.{first_due, has_contact, has_host, superordinate_at};
 ghost use Rattle.books.specs.Records.{FindsIn, FindsSomeIn, IsDueNear, MakesOf};
+ghost use Rattle.accounts.specs.Counters.{counters_of};
 ghost use Rattle.states.specs.States.{Begins, Closes, Ends, Finds};
 ghost use Rattle.books.specs.Tables as tables;
 

@@ -1,6 +1,5 @@
 //! What a zone has of a registry, as it is found in records.
-ghost use Rattle.std.specs.Prelude.{◌≡◌, IfOk, OnOk, filter, fold};
-ghost use Rattle.std.specs.FinMap.{keys};
+ghost use Rattle.std.specs.{Prelude.{◌≡◌, IfOk, OnOk, filter, fold}, FinMap.keys};
 ghost use Rattle.model.specs.Zone as spec;
 ghost use Rattle.states.specs.States.{Finds};
 

@@ -1,14 +1,9 @@
 -- What spells a date.
 use Rattle.std.proofs.Common.{◌≡◌, ℕ, ◌/◌, Bool, true, false, List, Option, Some, None, refl, sym, ap, ◌∙◌, arith}
-use Rattle.std.proofs.lemmas.Bool.Decides.{nat_tests}
-use Rattle.std.proofs.lemmas.Slice.Eq.{bytes_eq-Decides}
+use Rattle.std.proofs.lemmas.{Bool.Decides.nat_tests, Slice.Eq.bytes_eq-Decides}
 use Rattle.std.specs.Str.{bytes_eq}
-use Rattle.calendar.specs.Calendar.{date_of}
-use Rattle.calendar.specs.Moment.{IsMoment}
-use Rattle.calendar.specs.Text.{date_text, is_date}
-use Rattle.calendar.specs.Reading.{date_fields}
-use Rattle.calendar.proofs.ReadLemmas.{date_fields-again, date_found}
-use Rattle.calendar.proofs.TextLemmas.{IsShort, IsShort-moment}
+use Rattle.calendar.specs.{Calendar.date_of, Moment.IsMoment, Text.{date_text, is_date}, Reading.date_fields}
+use Rattle.calendar.proofs.{ReadLemmas.{date_fields-again, date_found}, TextLemmas.{IsShort, IsShort-moment}}
 
 -- the three numbers that a moment's date spells
 again : (m : ℕ) → IsMoment m → (bs : List ℕ) → bs ≡ date_text (date_of (m / 86_400)) → date_fields bs ≡ Some ((date_of (m / 86_400)).year, (date_of (m / 86_400)).month, (date_of (m / 86_400)).day)

@@ -1,10 +1,8 @@
 -- The moment that a text names is the one whose text it is.
 use Rattle.std.proofs.Common.{◌≡◌, ◌≢◌, ℕ, zero, suc, ◌+◌, ◌≤◌, ◌<◌, Bool, true, false, cond, List, Option, Some, None, refl, sym, ap, ◌∙◌, true≢false, arith}
-use Rattle.std.specs.Str.{bytes_eq}
 use Rattle.std.proofs.lemmas.Slice.Eq.{bytes_eq-Decides}
-use Rattle.calendar.specs.Moment.{IsMoment}
-use Rattle.calendar.specs.Text.{moment_text}
-use Rattle.calendar.specs.Named.{first_from, moment_named}
+use Rattle.std.specs.Str.{bytes_eq}
+use Rattle.calendar.specs.{Moment.IsMoment, Text.moment_text, Named.{first_from, moment_named}}
 
 none_left : (test : ℕ → Bool) (first : ℕ) → first_from test first 0 ≡ None
 unfolding first_from

@@ -1,9 +1,7 @@
 -- Ranks are in the order of time.
 use Rattle.std.proofs.Common.{◌≡◌, ℕ, suc, ◌+◌, ◌-◌, ◌*◌, ◌/◌, ◌%◌, ◌<◌, ◌≤◌, nat_lt, inl, inr, refl, ap, ◌∙◌, arith}
-use Rattle.std.proofs.lemmas.Bool.{cases_lt}
-use Rattle.std.proofs.lemmas.Bool.Decides.{nat_tests}
-use Rattle.calendar.specs.Calendar.{Date, date_of, day_number, days_of_months, days_of_years}
-use Rattle.calendar.specs.Moment.{years_later, plus_years}
+use Rattle.std.proofs.lemmas.Bool.{cases_lt, Decides.nat_tests}
+use Rattle.calendar.specs.{Calendar.{Date, date_of, day_number, days_of_months, days_of_years}, Moment.{years_later, plus_years}}
 use Rattle.calendar.specs.Ranks.{rank}
 use Rattle.calendar.proofs.CalendarLemmas.{IsReal, IsReal-date_of, day_number-parts, days_of_months-suc, month_length_high}
 use Rattle.calendar.proofs.YearLaws.{IsReal-years_later, day_number-year, days_of_months-mono, days_of_years-mono}

@@ -2,12 +2,9 @@
 ghost use Rattle.std.specs.Prelude.{◌≡◌, ◌/◌, ◌%◌, ℕ, Some, pos, max, nat_lt, IfOk, IfSome, string_bytes};
 ghost use Rattle.std.specs.Str.{bytes_eq};
 ghost use Rattle.jiff.specs.Words.{civil_seconds};
-ghost use Rattle.calendar.specs.Calendar.{date_of, is_leap, month_length};
-ghost use Rattle.calendar.specs.Ranks.{rank};
-ghost use Rattle.calendar.specs.Shown.{Shows};
-ghost use Rattle.calendar.specs.Text.{date_text, is_date, moment_text, parts_of};
-ghost use Rattle.calendar.specs.Reading.{AreShort};
-ghost use Rattle.calendar.specs.Named.{moment_named};
+ghost use Rattle.calendar.specs.{Calendar.{date_of, is_leap, month_length}, Ranks.rank};
+ghost use Rattle.calendar.specs.{Shown.Shows, Text.{date_text, is_date, moment_text, parts_of}};
+ghost use Rattle.calendar.specs.{Reading.AreShort, Named.moment_named};
 ghost use Rattle.calendar.specs.Moment.{IsMoment, capped, checked, checked_signed, plus_days, plus_years, years_later};
 
 use crate::reading::{Parts, date_fields, parts_in};

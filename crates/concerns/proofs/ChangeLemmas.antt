@@ -1,67 +1,40 @@
 -- What a command changes may be changed before the rest of what is due lapses, or afterwards.
 use Rattle.std.proofs.Common.{◌≡◌, ◌⊎◌, ⊎_elim, ℕ, Bool, true, false, cond, not, ◌&&◌, List, [], ◌∷◌, ◌++◌, map, Option, Some, None, is_some, option_map, refl, sym, ap, subst, ◌∙◌, arith}
-use Rattle.std.specs.Prelude.{fold}
-use Rattle.std.specs.Cmp.{nat_cmp_total}
-use Rattle.std.specs.Cmp.Lexicographic.{slice_cmp, nat_list_cmp_total}
-use Rattle.std.specs.FinMap.{FinMap, entries, get, insert, remove, get-insert, get-remove, nat_cmp-IsAntisymmetric, same_map}
-use Rattle.std.specs.Option.{option_map_or}
-use Rattle.std.specs.Ordering.{eq_by_cmp, nat_cmp}
 use Rattle.std.proofs.lemmas.Bool.{cond_both, not-false, true≢false}
-use Rattle.accounts.specs.declared.account.Account.{Account}
-use Rattle.accounts.specs.declared.entries.LapseEntry.{LapseEntry}
-use Rattle.accounts.specs.declared.entries.LapseEntry.TheVariants.{Notice, Renewal, Start}
-use Rattle.accounts.specs.declared.entries.Posting.{Posting}
-use Rattle.accounts.specs.declared.line.Line.{Line}
-use Rattle.accounts.specs.declared.line.LineKind.TheVariants as lines
-use Rattle.accounts.specs.declared.line.TransferRefund.{TransferRefund}
-use Rattle.accounts.specs.declared.line.TransferStart.{TransferStart}
-use Rattle.accounts.specs.declared.message.Message.{Message}
-use Rattle.accounts.specs.Account.{empty_account, saturating_next}
+use Rattle.std.specs.{Prelude.fold, Cmp.{nat_cmp_total, Lexicographic.{slice_cmp, nat_list_cmp_total}}}
+use Rattle.std.specs.FinMap.{FinMap, entries, get, insert, remove, get-insert, get-remove, nat_cmp-IsAntisymmetric, same_map}
+use Rattle.std.specs.{Option.option_map_or, Ordering.{eq_by_cmp, nat_cmp}}
+use Rattle.accounts.specs.declared.{account.Account.Account, entries.LapseEntry.{LapseEntry, TheVariants.{Notice, Renewal, Start}}}
+use Rattle.accounts.specs.declared.{entries.Posting.Posting, line.{Line.Line, TransferRefund.TransferRefund, TransferStart.TransferStart}}
+use Rattle.accounts.specs.{declared.message.Message.Message, Account.{empty_account, saturating_next}}
 use Rattle.accounts.specs.Entries.{entered, posted, renewal_line}
 use Rattle.accounts.specs.LineChanges.{refund-elsewhere, refund-stays, start-elsewhere, start-stays}
 use Rattle.accounts.specs.Lines.{begins_by, in_order, is_kind, is_of, is_on, is_same_roid, transfer_refunded, transfer_started}
-use Rattle.accounts.specs.MessageOrder.{message_cmp_total}
-use Rattle.accounts.specs.Messages.{message_cmp}
-use Rattle.accounts.proofs.EntryLaws.{entries-swap, insert_key-swap, postings_commute}
-use Rattle.accounts.proofs.LineLaws.{lines_in_order}
+use Rattle.accounts.specs.{MessageOrder.message_cmp_total, Messages.message_cmp}
+use Rattle.accounts.specs.declared.line.LineKind.TheVariants as lines
+use Rattle.accounts.proofs.{EntryLaws.{entries-swap, insert_key-swap, postings_commute}, LineLaws.lines_in_order}
 use Rattle.accounts.proofs.MessageLaws.{message_cmp_only}
-use Rattle.basis.specs.Bag.{add, bag_of, remade}
-use Rattle.basis.specs.Maps.{map_values}
-use Rattle.basis.specs.Sweeps.{change_at, given, given_list, kept}
-use Rattle.basis.proofs.ApartLaws.{get-kept, given_apart, given_insert}
-use Rattle.basis.proofs.BagLaws.{add-add, remade-add, remade-bag_of}
-use Rattle.basis.proofs.ChangeLaws.{change_at-commutes}
-use Rattle.basis.proofs.MapLemmas.{entries-map_values, get-map_values, names_apart}
-use Rattle.basis.proofs.SweepLaws.{fold_append}
+use Rattle.basis.specs.{Bag.{add, bag_of, remade}, Maps.map_values, Sweeps.{change_at, given, given_list, kept}}
+use Rattle.basis.proofs.{ApartLaws.{get-kept, given_apart, given_insert}, BagLaws.{add-add, remade-add, remade-bag_of}}
+use Rattle.basis.proofs.{ChangeLaws.change_at-commutes, MapLemmas.{entries-map_values, get-map_values, names_apart}, SweepLaws.fold_append}
 use Rattle.lifecycle.specs.declared.change.AccountChange.{AccountChange}
 use Rattle.lifecycle.specs.declared.change.AccountChange.TheVariants.{Charge, RefundRunning, RefundTransfer, Lapse, Notify, Ack, CountCommand, TakeSerial}
-use Rattle.lifecycle.specs.declared.change.Notification.{Notification}
-use Rattle.lifecycle.specs.declared.lapsed.Lapsed.{Lapsed}
+use Rattle.lifecycle.specs.declared.{change.Notification.Notification, lapsed.Lapsed.Lapsed}
 use Rattle.lifecycle.specs.Changes.{changed as account_changed, numbered}
-use Rattle.lifecycle.specs.Lapse.{due_by, lapse, lapse_by, lapse_contact, leaves, lived, purged, renewals}
-use Rattle.lifecycle.specs.Turns.{turns}
-use Rattle.objects.specs.declared.contact.Contact.{Contact}
-use Rattle.objects.specs.declared.domain.Deletion.{Deletion}
-use Rattle.objects.specs.declared.domain.Domain.{Domain}
-use Rattle.objects.specs.declared.host.Host.{Host}
-use Rattle.objects.specs.declared.roid.Roid.{Roid}
+use Rattle.lifecycle.specs.{Lapse.{due_by, lapse, lapse_by, lapse_contact, leaves, lived, purged, renewals}, Turns.turns}
+use Rattle.objects.specs.declared.{contact.Contact.Contact, domain.{Deletion.Deletion, Domain.Domain}, host.Host.Host, roid.Roid.Roid}
 use Rattle.objects.specs.declared.transfer.Transfer.{Transfer}
 use Rattle.policy.specs.Rules.{PolicyRules}
-use Rattle.model.specs.Lapse.{Choice, accounts_at, at, lapse as lapse_registry, lapse_if, lapse_some, now, postings}
-use Rattle.model.specs.LapseLaws.{HasAllDue}
+use Rattle.model.specs.{Lapse.{Choice, accounts_at, at, lapse as lapse_registry, lapse_if, lapse_some, now, postings}, LapseLaws.HasAllDue}
 use Rattle.model.specs.Registry.{Registry}
-use Rattle.model.proofs.LapseLaws.{all-due-lapse-as-all, lapses-on-from-some}
-use Rattle.model.proofs.SweepLemmas.{gives, left, registry}
+use Rattle.model.proofs.{LapseLaws.{all-due-lapse-as-all, lapses-on-from-some}, SweepLemmas.{gives, left, registry}}
 use Rattle.decisions.specs.declared.change.Change.{Change}
 use Rattle.decisions.specs.declared.change.Change.TheVariants.{MoveClock, OpenAccount, PutContact, DropContact, PutDomain, DropDomain, PutHost, DropHost, RenameHost, LapseContact, LapseDomain, Post}
 use Rattle.decisions.specs.Changes.{changed, changed_all, host_renamed, may_rename, with_host_renamed}
-use Rattle.concerns.specs.declared.given.Names.{Names}
-use Rattle.concerns.specs.Concerns.{IsSettledIn, concerned, is_about, without}
-use Rattle.concerns.proofs.PostedLemmas.{IsElsewhere, contact-elsewhere, domain-elsewhere, post-weaker}
-use Rattle.concerns.proofs.ConcernLemmas.{is_in}
+use Rattle.concerns.specs.{declared.given.Names.Names, Concerns.{IsSettledIn, concerned, is_about, without}}
+use Rattle.concerns.proofs.{PostedLemmas.{IsElsewhere, contact-elsewhere, domain-elsewhere, post-weaker}, ConcernLemmas.is_in}
 use Rattle.concerns.proofs.FactsLemmas.{contact-not-about, domain-not-about, roid-off}
-use Rattle.decisions.proofs.LineEntryLemmas.{AllOff, IsOff, on-one}
-use Rattle.decisions.proofs.LineTimeLemmas.{completed-off, domain-off}
+use Rattle.decisions.proofs.{LineEntryLemmas.{AllOff, IsOff, on-one}, LineTimeLemmas.{completed-off, domain-off}}
 use Rattle.decisions.proofs.PostingLemmas.{AllPosted, posted-both, posted-given}
 use Rattle.decisions.proofs.NamedLemmas.{drop-cases, put-cases, remade-cases, same_name}
 

@@ -1,50 +1,29 @@
 -- A command and an order change what they concern, and other accounts so that it makes no difference to
 -- what time enters into them.
 use Rattle.std.proofs.Common.{◌≡◌, inl, inr, ℕ, Bool, true, false, cond, List, [], Option, Some, None, option_and_then, option_map, refl, sym, ap, subst, ◌∙◌}
-use Rattle.std.specs.FinMap.{get}
-use Rattle.std.specs.Str.{bytes_eq}
-use Rattle.facts.specs.declared.facts.ContactFacts.{ContactFacts}
-use Rattle.facts.specs.declared.facts.DomainFacts.{DomainFacts}
-use Rattle.facts.specs.declared.facts.Facts.{Facts}
+use Rattle.std.specs.{FinMap.get, Str.bytes_eq}
+use Rattle.facts.specs.declared.facts.{ContactFacts.ContactFacts, DomainFacts.DomainFacts, Facts.Facts}
 use Rattle.facts.specs.Facts.{contact_facts, domain_facts, facts, host_seen, lookups}
 use Rattle.names.specs.RequestedName.{RequestedName, name_of}
-use Rattle.objects.specs.declared.contact.Contact.{Contact}
-use Rattle.objects.specs.declared.contact.ContactFace.{ContactFace}
-use Rattle.objects.specs.declared.domain.Domain.{Domain}
-use Rattle.objects.specs.declared.domain.DomainFace.{DomainFace}
-use Rattle.objects.specs.declared.domain.FullDomain.{FullDomain}
-use Rattle.objects.specs.declared.host.Host.{Host}
-use Rattle.objects.specs.declared.sight.Seen.{Seen}
-use Rattle.objects.specs.declared.sight.Seen.TheVariants.{Full, TransferParty, Public}
-use Rattle.objects.specs.declared.transfer.Transfer.{Transfer}
-use Rattle.objects.specs.Sight.{contact_as}
+use Rattle.objects.specs.declared.{contact.{Contact.Contact, ContactFace.ContactFace}, domain.{Domain.Domain, DomainFace.DomainFace}}
+use Rattle.objects.specs.declared.{domain.FullDomain.FullDomain, host.Host.Host, sight.Seen.Seen}
+use Rattle.objects.specs.{declared.{sight.Seen.TheVariants.{Full, TransferParty, Public}, transfer.Transfer.Transfer}, Sight.contact_as}
 use Rattle.policy.specs.Rules.{PolicyRules}
-use Rattle.protocol.specs.declared.command.Command.{Command}
-use Rattle.protocol.specs.declared.command.Command.TheVariants.{Asked, Bad}
-use Rattle.protocol.specs.declared.command.HostUpdate.{HostUpdate}
-use Rattle.protocol.specs.declared.command.Request.{Request}
+use Rattle.protocol.specs.declared.command.{Command.{Command, TheVariants.{Asked, Bad}}, HostUpdate.HostUpdate, Request.Request}
+use Rattle.protocol.specs.{declared.transfer.TransferOp.TransferOp, Requests.{contacts_asked, domains_asked, presented, presented_contact}}
 use Rattle.protocol.specs.declared.command.Request.TheVariants as requests
-use Rattle.protocol.specs.declared.transfer.TransferOp.{TransferOp}
 use Rattle.protocol.specs.declared.transfer.TransferOp.TheVariants as ops
-use Rattle.protocol.specs.Requests.{contacts_asked, domains_asked, presented, presented_contact}
-use Rattle.model.specs.Lapse.{Choice, now}
-use Rattle.model.specs.Registry.{Registry}
-use Rattle.model.specs.View.{domain_sight}
-use Rattle.decisions.specs.declared.change.Change.{Change}
-use Rattle.decisions.specs.declared.decision.Decision.{Decision}
-use Rattle.decisions.specs.Changes.{changed_all}
-use Rattle.concerns.specs.declared.given.Names.{Names}
-use Rattle.concerns.specs.Concerns.{IsSettledIn, concerned, contact_name, domain_name}
-use Rattle.concerns.specs.Names.{named_by}
+use Rattle.model.specs.{Lapse.{Choice, now}, Registry.Registry, View.domain_sight}
+use Rattle.decisions.specs.{declared.{change.Change.Change, decision.Decision.Decision}, Changes.changed_all}
 use Rattle.decisions.specs.Decisions.{changes_after, changes_of, contact_changes, decided, deletion_at, deletion_changes, domain_changes, ending, host_changes, renaming, renewal_changes, report_changes, restore_changes, updated_host}
 use Rattle.decisions.specs.Steps.{answer, decision, effect, reply_of}
 use Rattle.decisions.specs.Transfers.{contact_transfer_changes, contact_transferred_if, domain_transfer_changes, domain_transferred_if}
+use Rattle.concerns.specs.{declared.given.Names.Names, Concerns.{IsSettledIn, concerned, contact_name, domain_name}, Names.named_by}
 use Rattle.concerns.proofs.ChangeLemmas.{AllSuit, IsNamedRoid, Suits, changed-now, suits-if}
-use Rattle.decisions.proofs.CommandLemmas.{at-itself, contact-full, domain-full}
 use Rattle.concerns.proofs.ConcernLemmas.{in-first, in-itself, is_in, meant-borne, meant-named}
 use Rattle.concerns.proofs.FactsLemmas.{account-now, contacts-acted, facts-now}
-use Rattle.rules.specs.Deletion.{goes_at_once}
-use Rattle.rules.specs.Transfers.{transfer_after}
+use Rattle.decisions.proofs.CommandLemmas.{at-itself, contact-full, domain-full}
+use Rattle.rules.specs.{Deletion.goes_at_once, Transfers.transfer_after}
 
 -- ---- commands
 

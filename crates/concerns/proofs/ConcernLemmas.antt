@@ -1,32 +1,19 @@
 -- Once what a command concerns has lapsed, nothing is due that it concerns.
 use Rattle.std.proofs.Common.{◌≡◌, ⊎_elim, ◌<◌, ℕ, Bool, true, false, ◌||◌, List, [], ◌∷◌, ◌++◌, Option, Some, None, option_map, refl, sym, ap, ◌∙◌}
-use Rattle.std.specs.Cmp.Lexicographic.{bytes_decides, slice_cmp, nat_list_cmp_total}
-use Rattle.std.specs.FinMap.{FinMap, get}
-use Rattle.std.specs.List.{cons_option}
-use Rattle.std.specs.List.{filter_map, list_any}
-use Rattle.std.specs.Str.{bytes_eq}
-use Rattle.std.specs.Option.{option_map_or}
-use Rattle.std.specs.Ordering.{nat_cmp}
-use Rattle.std.proofs.lemmas.Bool.{or_cases, or_from, or_left, or_parts, or_right, true_from_ne_false, true≢false}
-use Rattle.std.proofs.lemmas.Option.{same_Some}
+use Rattle.std.proofs.lemmas.{Bool.{or_cases, or_from, or_left, or_parts, or_right, true_from_ne_false, true≢false}, Option.same_Some}
 use Rattle.std.proofs.lemmas.List.Folds.{list_any-append}
+use Rattle.std.specs.{Cmp.Lexicographic.{bytes_decides, slice_cmp, nat_list_cmp_total}, FinMap.{FinMap, get}, List.cons_option}
+use Rattle.std.specs.{List.{filter_map, list_any}, Str.bytes_eq, Option.option_map_or, Ordering.nat_cmp}
 use Rattle.accounts.specs.Lines.{is_same_roid}
 use Rattle.basis.specs.Sweeps.{kept}
-use Rattle.basis.proofs.ApartLaws.{get-kept}
-use Rattle.basis.proofs.MapLemmas.{names_apart}
-use Rattle.lifecycle.specs.declared.lapsed.Lapsed.{Lapsed}
-use Rattle.lifecycle.specs.Lapse.{due_at, due_by, lapse, lapse_contact}
-use Rattle.lifecycle.proofs.ContactLaws.{is_contact_lapse}
-use Rattle.lifecycle.proofs.DueLaws.{lapse-due}
-use Rattle.objects.specs.declared.contact.Contact.{Contact}
-use Rattle.objects.specs.declared.domain.Domain.{Domain}
-use Rattle.objects.specs.Links.{has_name, names_contact, names_host}
+use Rattle.basis.proofs.{ApartLaws.get-kept, MapLemmas.names_apart}
+use Rattle.lifecycle.specs.{declared.lapsed.Lapsed.Lapsed, Lapse.{due_at, due_by, lapse, lapse_contact}}
+use Rattle.lifecycle.proofs.{ContactLaws.is_contact_lapse, DueLaws.lapse-due}
+use Rattle.objects.specs.{declared.{contact.Contact.Contact, domain.Domain.Domain}, Links.{has_name, names_contact, names_host}}
 use Rattle.policy.specs.Rules.{PolicyRules}
 use Rattle.protocol.specs.Requests.{holds_of}
-use Rattle.model.specs.Lapse.{Choice, at, lapse_if, lapse_some}
-use Rattle.model.specs.Registry.{Registry}
-use Rattle.model.proofs.LapseLaws.{left-of}
-use Rattle.model.proofs.SweepLemmas.{left}
+use Rattle.model.specs.{Lapse.{Choice, at, lapse_if, lapse_some}, Registry.Registry}
+use Rattle.model.proofs.{LapseLaws.left-of, SweepLemmas.left}
 use Rattle.concerns.specs.declared.given.Names.{Names}
 use Rattle.concerns.specs.Concerns.{HasConcerned, IsSettledIn, concerned, contact_name, domain_name, domain_roid, is_about, is_concerned, meant, read_at}
 use Rattle.decisions.proofs.LapsedLemmas.{contact-left, domain-left}

@@ -1,66 +1,36 @@
 -- What a command is judged by is the same whether all that is due has lapsed, or what it concerns.
 use Rattle.std.proofs.Common.{◌≡◌, ⊎_elim, ℕ, Bool, true, false, not, ◌&&◌, ◌||◌, List, [], ◌∷◌, map, Option, Some, None, is_some, option_and_then, option_map, refl, sym, ap, subst, ◌∙◌}
-use Rattle.std.specs.Cmp.Lexicographic.{slice_cmp, nat_list_cmp_total}
-use Rattle.std.specs.FinMap.{entries, get, values}
-use Rattle.std.specs.List.{list_any}
-use Rattle.std.specs.Str.{bytes_eq}
-use Rattle.std.specs.Option.{option_map_or}
-use Rattle.std.specs.Ordering.{nat_cmp}
 use Rattle.std.proofs.lemmas.Bool.{cases_Bool, false_from_ne_true, or_parts, or_right}
-use Rattle.accounts.specs.declared.entries.LapseEntry.TheVariants.{Notice, Renewal, Start}
-use Rattle.accounts.specs.declared.entries.Posting.{Posting}
-use Rattle.accounts.specs.declared.line.Line.{Line}
-use Rattle.accounts.specs.declared.line.LineKind.{LineKind}
-use Rattle.accounts.specs.declared.line.LineKind.TheVariants as lines
-use Rattle.accounts.specs.Entries.{renewal_line}
-use Rattle.accounts.specs.LineChanges.{unasked}
+use Rattle.std.specs.{Cmp.Lexicographic.{slice_cmp, nat_list_cmp_total}, FinMap.{entries, get, values}, List.list_any, Str.bytes_eq}
+use Rattle.std.specs.{Option.option_map_or, Ordering.nat_cmp}
+use Rattle.accounts.specs.declared.{entries.{LapseEntry.TheVariants.{Notice, Renewal, Start}, Posting.Posting}, line.Line.Line}
+use Rattle.accounts.specs.{declared.line.LineKind.LineKind, Entries.renewal_line, LineChanges.unasked}
 use Rattle.accounts.specs.Lines.{in_order, is_kind, is_on, is_same_roid}
-use Rattle.basis.specs.Bag.{add}
-use Rattle.basis.specs.Sweeps.{kept_list}
-use Rattle.basis.proofs.ApartLaws.{get-kept}
-use Rattle.basis.proofs.BagLaws.{any-add}
-use Rattle.basis.proofs.EntryLaws.{Each, each_entry}
-use Rattle.basis.proofs.MapLemmas.{names_apart}
-use Rattle.basis.proofs.SweepLaws.{entries-kept}
+use Rattle.accounts.specs.declared.line.LineKind.TheVariants as lines
+use Rattle.basis.specs.{Bag.add, Sweeps.kept_list}
+use Rattle.basis.proofs.{ApartLaws.get-kept, BagLaws.any-add, EntryLaws.{Each, each_entry}, MapLemmas.names_apart, SweepLaws.entries-kept}
 use Rattle.facts.specs.Facts.{Lookups, contact_facts, domain_facts, domain_facts_of, facts, facts_by, held, host_facts, is_linked_contact, is_linked_host, lookups, superordinate_of_domain}
 use Rattle.facts.specs.declared.facts.HostFacts.{HostFacts}
-use Rattle.lifecycle.specs.declared.lapsed.Lapsed.{Lapsed}
-use Rattle.lifecycle.specs.Graces.{gives, graces, runs_from, period_of}
-use Rattle.lifecycle.specs.Lapse.{contact_completed, due_by, lapse, lapse_contact, leaves}
-use Rattle.lifecycle.specs.Phases.{phase}
-use Rattle.lifecycle.specs.Refunds.{given_back, refund_at}
+use Rattle.lifecycle.specs.{declared.lapsed.Lapsed.Lapsed, Graces.{gives, graces, runs_from, period_of}}
+use Rattle.lifecycle.specs.{Lapse.{contact_completed, due_by, lapse, lapse_contact, leaves}, Phases.phase, Refunds.{given_back, refund_at}}
 use Rattle.lifecycle.proofs.DueLaws.{lapse-stays}
-use Rattle.model.specs.Lapse.{Choice, accounts_at, contacts_at, domains_at, now, postings}
-use Rattle.model.specs.Registry.{Registry, account_of}
-use Rattle.model.specs.Standing.{graces_of}
-use Rattle.model.specs.View.{domain_sight}
-use Rattle.model.proofs.LineLemmas.{count, count-cons, one_if}
-use Rattle.model.proofs.SweepLemmas.{left}
+use Rattle.model.specs.{Lapse.{Choice, accounts_at, contacts_at, domains_at, now, postings}, Registry.{Registry, account_of}}
+use Rattle.model.specs.{Standing.graces_of, View.domain_sight}
+use Rattle.model.proofs.{LineLemmas.{count, count-cons, one_if}, SweepLemmas.left}
 use Rattle.names.specs.Zone.{last_two_of}
-use Rattle.objects.specs.declared.contact.Contact.{Contact}
-use Rattle.objects.specs.declared.domain.Domain.{Domain}
-use Rattle.objects.specs.declared.domain.DomainFace.{DomainFace}
-use Rattle.objects.specs.declared.domain.FullDomain.{FullDomain}
-use Rattle.objects.specs.declared.grace.Graces.{Graces}
-use Rattle.objects.specs.declared.roid.Roid.{Roid}
-use Rattle.objects.specs.declared.sight.Seen.{Seen}
-use Rattle.objects.specs.declared.transfer.Transfer.{Transfer}
-use Rattle.objects.specs.Links.{has_name, names_contact, names_host}
-use Rattle.objects.specs.Sight.{contact_as, domain_as, is_party}
+use Rattle.objects.specs.declared.{contact.Contact.Contact, domain.{Domain.Domain, DomainFace.DomainFace, FullDomain.FullDomain}}
+use Rattle.objects.specs.declared.{grace.Graces.Graces, roid.Roid.Roid, sight.Seen.Seen, transfer.Transfer.Transfer}
+use Rattle.objects.specs.{Links.{has_name, names_contact, names_host}, Sight.{contact_as, domain_as, is_party}}
 use Rattle.policy.specs.Rules.{PolicyRules}
-use Rattle.protocol.specs.declared.command.Command.{Command}
-use Rattle.protocol.specs.declared.command.Command.TheVariants.{Asked, Bad}
-use Rattle.protocol.specs.declared.command.Request.{Request}
+use Rattle.protocol.specs.declared.command.{Command.{Command, TheVariants.{Asked, Bad}}, Request.Request}
 use Rattle.protocol.specs.Requests.{asked, asks_of, contacts_asked, domains_asked, holds_of, hosts_asked, new_host_asked, presented, presented_contact, reads_associations}
 use Rattle.concerns.specs.declared.given.Names.{Names}
 use Rattle.concerns.specs.Concerns.{IsSettledIn, concerned, contact_name, domain_name, domain_roid, is_about, is_concerned, meant, read_at}
 use Rattle.concerns.specs.Names.{contacts_in, hosts_in, listed, named_by}
 use Rattle.concerns.proofs.PostedLemmas.{IsElsewhere, contact-elsewhere, domain-elsewhere, elsewhere-posted, not-party, requester-off}
 use Rattle.concerns.proofs.ConcernLemmas.{any-in, any-read, in-filter_map, in-first, in-itself, in-second, is_in, meant-named}
-use Rattle.decisions.proofs.LapsedLemmas.{domain-left}
-use Rattle.decisions.proofs.LineEntryLemmas.{AllOff, IsKeptOff, IsOff, keep-posted, off-keep}
-use Rattle.decisions.proofs.LineTimeLemmas.{completed-off, domain-off}
-use Rattle.decisions.proofs.PostingLemmas.{AllPosted, postings-posted}
+use Rattle.decisions.proofs.{LapsedLemmas.domain-left, LineEntryLemmas.{AllOff, IsKeptOff, IsOff, keep-posted, off-keep}}
+use Rattle.decisions.proofs.{LineTimeLemmas.{completed-off, domain-off}, PostingLemmas.{AllPosted, postings-posted}}
 use Rattle.decisions.proofs.TransferLemmas.{graces-elsewhere}
 
 -- ---- tests of what is left

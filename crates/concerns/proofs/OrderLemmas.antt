@@ -2,30 +2,18 @@
 -- has lapsed or what an info of its object concerns.
 use Rattle.std.proofs.Common.{◌≡◌, inr, ℕ, true, false, List, [], ◌∷◌, Option, Some, None, option_and_then, option_map, refl, sym, ap, ◌∙◌, ℤ}
 use Rattle.std.specs.FinMap.{get}
-use Rattle.objects.specs.declared.contact.Contact.{Contact}
-use Rattle.objects.specs.declared.domain.Domain.{Domain}
-use Rattle.objects.specs.declared.host.Host.{Host}
-use Rattle.objects.specs.declared.roid.ObjectKind.{ObjectKind}
+use Rattle.objects.specs.declared.{contact.Contact.Contact, domain.Domain.Domain, host.Host.Host, roid.ObjectKind.ObjectKind}
 use Rattle.objects.specs.declared.roid.ObjectKind.TheVariants as kinds
 use Rattle.policy.specs.Rules.{PolicyRules, place_of}
 use Rattle.protocol.specs.declared.order.Order.TheVariants as orders
-use Rattle.protocol.specs.declared.order.StatusOrder.{StatusOrder}
-use Rattle.protocol.specs.Codes.{is_accepted}
-use Rattle.protocol.specs.Orders.{name_ordered}
-use Rattle.model.specs.declared.object.Object.{Object}
+use Rattle.protocol.specs.{declared.order.StatusOrder.StatusOrder, Codes.is_accepted, Orders.name_ordered, Requests.holds_of}
+use Rattle.model.specs.{declared.object.Object.Object, Lapse.now, Objects.object_at, Registry.Registry}
 use Rattle.model.specs.declared.object.Object.TheVariants as objects
-use Rattle.model.specs.Lapse.{now}
-use Rattle.model.specs.Objects.{object_at}
-use Rattle.model.specs.Registry.{Registry}
-use Rattle.decisions.specs.declared.order.OrderDecision.{OrderDecision}
-use Rattle.decisions.specs.Changes.{changed_all}
-use Rattle.protocol.specs.Requests.{holds_of}
-use Rattle.concerns.specs.Concerns.{IsSettledIn, concerned, contact_name, domain_name}
-use Rattle.concerns.specs.ConcernLaws.{IsSettledFor}
-use Rattle.concerns.specs.Names.{named_of, no_names}
+use Rattle.decisions.specs.{declared.order.OrderDecision.OrderDecision, Changes.changed_all}
 use Rattle.decisions.specs.Orders.{cents_of, decided_order, deposited, deposited_to, order_answer, order_changes, order_effect, status_decision}
-use Rattle.concerns.proofs.ChangeLemmas.{AllSuit, changed-now, suits-if}
-use Rattle.concerns.proofs.ConcernLemmas.{in-itself, meant-borne}
+use Rattle.concerns.specs.{Concerns.{IsSettledIn, concerned, contact_name, domain_name}, ConcernLaws.IsSettledFor}
+use Rattle.concerns.specs.Names.{named_of, no_names}
+use Rattle.concerns.proofs.{ChangeLemmas.{AllSuit, changed-now, suits-if}, ConcernLemmas.{in-itself, meant-borne}}
 use Rattle.concerns.proofs.FactsLemmas.{contact-at, domain-at}
 use Rattle.rules.specs.Orders.{order_code}
 

@@ -1,24 +1,17 @@
 -- What the lapse of an object posts goes to its sponsor and to the parties of its transfer alone.
 use Rattle.std.proofs.Common.{◌≡◌, ◌≢◌, ℕ, ◌==◌, Bool, true, false, cond, nat_le, ◌&&◌, ◌||◌, List, [], ◌∷◌, Option, Some, None, refl, sym, ap, subst, ◌∙◌, arith}
-use Rattle.std.specs.Prelude.{fold}
-use Rattle.std.specs.Ordering.{eq_by_cmp, nat_cmp}
-use Rattle.std.proofs.lemmas.Bool.{and_parts, false_from_ne_true, or_parts}
-use Rattle.std.proofs.lemmas.Bool.Decides.{nat_tests}
-use Rattle.accounts.specs.declared.entries.Posting.{Posting}
-use Rattle.accounts.specs.Entries.{entered, posted}
+use Rattle.std.proofs.lemmas.Bool.{and_parts, false_from_ne_true, or_parts, Decides.nat_tests}
+use Rattle.std.specs.{Prelude.fold, Ordering.{eq_by_cmp, nat_cmp}}
+use Rattle.accounts.specs.{declared.entries.Posting.Posting, Entries.{entered, posted}}
 use Rattle.lifecycle.specs.Lapse.{due_by, lapse, lapse_contact}
-use Rattle.objects.specs.declared.contact.Contact.{Contact}
-use Rattle.objects.specs.declared.domain.Domain.{Domain}
-use Rattle.objects.specs.declared.transfer.Transfer.{Transfer}
-use Rattle.objects.specs.Sight.{is_party}
+use Rattle.objects.specs.{declared.{contact.Contact.Contact, domain.Domain.Domain, transfer.Transfer.Transfer}, Sight.is_party}
 use Rattle.objects.specs.Transfers.{is_incoming, is_pending_state, names}
 use Rattle.policy.specs.Rules.{PolicyRules}
 use Rattle.model.specs.Registry.{Registry, account_of}
 use Rattle.decisions.specs.Changes.{with_account}
 use Rattle.concerns.specs.Concerns.{is_about, is_at_stake}
 use Rattle.decisions.proofs.PostingLemmas.{AllPosted, contact-posted, domain-posted, due-is}
-use Rattle.decisions.proofs.ViewLemmas.{account_of-with_account, same_number}
-use Rattle.decisions.proofs.Words.{cond_some}
+use Rattle.decisions.proofs.{ViewLemmas.{account_of-with_account, same_number}, Words.cond_some}
 
 module _ (P Q : Posting → Type 0) (weaker : (e : Posting) → P e → Q e) where
   pub post-weaker : (es : List Posting) → AllPosted P es → AllPosted Q es

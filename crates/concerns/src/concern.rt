@@ -1,6 +1,5 @@
 //! Whether an object concerns a registrar and some names.
-ghost use Rattle.std.specs.Prelude.{◌≡◌};
-ghost use Rattle.std.specs.List.{list_any};
+ghost use Rattle.std.specs.{Prelude.◌≡◌, List.list_any};
 ghost use Rattle.accounts.specs.Lines as lines;
 ghost use Rattle.objects.specs.Links.{names_contact, names_host};
 ghost use Rattle.concerns.specs.Concerns as spec;

@@ -1,6 +1,5 @@
 //! What a command names.
-ghost use Rattle.std.specs.Prelude.{◌≡◌, ◌++◌, IfOk};
-ghost use Rattle.std.specs.Option.{option_copied};
+ghost use Rattle.std.specs.{Prelude.{◌≡◌, ◌++◌, IfOk}, Option.option_copied};
 ghost use Rattle.concerns.specs.Names as spec;
 ghost use Rattle.protocol.specs.Requests.{asks_of};
 

@@ -1,5 +1,6 @@
 -- What holds of no change, and of what each command changes that isn't refused, holds of what a command changes.
 use Rattle.std.proofs.Common.{◌≡◌, ◌≢◌, ◌⊎◌, inl, inr, ℕ, Bool, true, false, not, ◌&&◌, ◌||◌, nat_lt, List, [], ◌∷◌, Option, Some, None, is_none, is_some, option_and_then, option_map, refl, sym, ap, ap₂, subst, ◌∙◌, if◌then◌else◌}
+use Rattle.std.proofs.Common.{◌+◌, ◌≤◌, length, cond, arith}
 use Rattle.decisions.proofs.Words.{ClientCancelled, domain_seen, is_pending_state, PendingTransfer, restored_domain, restoring_domain, superordinate_of_domain}
 use Rattle.decisions.proofs.Words.{ClientApproved, ClientRejected, deleted_domain, domain_sponsor, DomainFacts, renewed_domain, transfer_after, updated_domain}
 use Rattle.decisions.proofs.Words.{Asked, ContactFacts, ContactUpdate, domain_sight, PendingDelete, RefundRunning, RequestedName, Superordinate, TransferState}
@@ -8,12 +9,16 @@ use Rattle.decisions.proofs.Words.{charge_of, Full, is_pending, keeps_host, new_
 use Rattle.decisions.proofs.Words.{Ack, DropHost, eqb-false, HostFacts, is_locked, NewDomain, not-false, presented, PutDomain, refund_at, requested, unrefused}
 use Rattle.decisions.proofs.Words.{charge, Contact, holds_of, is_empty, LineKind, list_any, lookups, name_of, or_parts, Registry, StandsIn, table_of, Transfer}
 use Rattle.decisions.proofs.Words.{Domain, ended, Facts, facts, get, Host, judged, NewHost, Post, PutHost, Request, Roid}
+use Rattle.decisions.proofs.CommandLemmas.{ContactSight, Covers, DomainSight, IsTaken, contact-at, domain-at, domain-full, host-at, known, owned, where-contact, where-domain}
+use Rattle.decisions.proofs.Words.{cents_of, Charge, cond_both, deposit_line, deposited, deposited_to, has_id, is_accepted}
+use Rattle.decisions.proofs.Words.{IsRegistrar, ltb-true, ObjectKind, Order, order_changes, order_decision, ordered, place_of, position_or_len}
 use Rattle.accounts.specs.declared.line.LineKind.TheVariants as lines
 use Rattle.facts.specs.Facts.{domain_at, domain_facts, host_facts, host_seen, is_inside, is_linked_contact, is_linked_host, subordinate}
 use Rattle.objects.specs.declared.roid.ObjectKind.TheVariants as kinds
 use Rattle.protocol.specs.declared.command.Request.TheVariants as requests
 use Rattle.protocol.specs.declared.transfer.TransferOp.TheVariants as ops
 use Rattle.protocol.specs.Requests.{asks_of, domains_asked, final_name, hosts_asked, of_domain, of_host}
+use Rattle.protocol.specs.{declared.order.StatusOrder.StatusOrder, Orders.name_ordered}
 use Rattle.decisions.specs.Decisions.{changes_after, changes_of, contact_changes, deletion_at, deletion_changes, domain_changes, ending, external_sponsor_after, host_changes, new_contact, new_host, new_roid, renaming, renewal_changes, report_changes, restore_changes, updated_contact, updated_host}
 use Rattle.decisions.specs.Transfers.{contact_transfer_changes, contact_transferred, contact_transferred_if, contact_with_transfer}
 use Rattle.decisions.specs.Transfers.{domain_transfer_changes, domain_transferred, domain_transferred_if, domain_with_transfer, give_back, tell}
@@ -21,20 +26,13 @@ use Rattle.accounts.specs.declared.message.CommandNotice.{CommandNotice}
 use Rattle.accounts.specs.declared.message.CommandNotice.TheVariants as notices
 use Rattle.accounts.specs.declared.message.Subject.TheVariants as subjects
 use Rattle.decisions.proofs.{AcceptedLemmas.where-accepted, NamedLemmas.none-is}
-use Rattle.decisions.proofs.CommandLemmas.{ContactSight, Covers, DomainSight, IsTaken, contact-at, domain-at, domain-full, host-at, known, owned, where-contact, where-domain}
 use Rattle.rules.specs.declared.rules.Condition.{Condition}
-use Rattle.rules.specs.declared.rules.Condition.TheVariants as conditions
 use Rattle.rules.specs.Conditions.{any_host_refused, are_too_long, contact_is_linked, domain_has, domain_in_full, domain_is_over, domain_is_refused, domain_seen_shows, domain_transfer, has_no_superordinate, holds, host_has, host_is_over, host_is_refused, is_anothers, is_own, is_shown, last_seen, leaves_too_many, list_repeats, renewed_expiry, superordinate_is_deleted}
-use Rattle.std.proofs.Common.{◌+◌, ◌≤◌, length, cond, arith}
-use Rattle.decisions.proofs.Words.{cents_of, Charge, cond_both, deposit_line, deposited, deposited_to, has_id, is_accepted}
-use Rattle.decisions.proofs.Words.{IsRegistrar, ltb-true, ObjectKind, Order, order_changes, order_decision, ordered, place_of, position_or_len}
-use Rattle.model.specs.declared.object.Object.{Object}
-use Rattle.model.specs.declared.object.Object.TheVariants as objects
-use Rattle.model.specs.Objects.{object_at, object_ordered}
-use Rattle.protocol.specs.declared.order.Order.TheVariants as orders
-use Rattle.protocol.specs.declared.order.StatusOrder.{StatusOrder}
-use Rattle.protocol.specs.Orders.{name_ordered}
 use Rattle.rules.specs.Orders.{order_code}
+use Rattle.rules.specs.declared.rules.Condition.TheVariants as conditions
+use Rattle.model.specs.{declared.object.Object.Object, Objects.{object_at, object_ordered}}
+use Rattle.model.specs.declared.object.Object.TheVariants as objects
+use Rattle.protocol.specs.declared.order.Order.TheVariants as orders
 
 -- ---- what holds of no change, and of what each order changes that is carried out, holds of what an order changes
 

@@ -4,9 +4,9 @@ use Rattle.decisions.proofs.Words.{bytes_decides, contact_face_of, ContactFacts,
 use Rattle.decisions.proofs.Words.{account_of, authorizes, cond_both, contact_as, ContactFace, domain_seen, DomainFacts, is_anothers, PolicyRules, standing_of}
 use Rattle.decisions.proofs.Words.{bytes_eq, DomainFace, Full, FullDomain, is_party, not-false, or_parts, presented, refusal_of, Registry, Transfer}
 use Rattle.decisions.proofs.Words.{Asked, balance, Command, Contact, Domain, face_of, Facts, facts, get, lookups, name_of, names, Public, Request, Seen}
+use Rattle.decisions.proofs.SightLemmas.{full_as}
 use Rattle.facts.specs.Facts.{contact_at, contact_facts, contact_seen, domain_at, domain_facts, host_at, host_facts}
 use Rattle.protocol.specs.Requests.{contacts_asked, domains_asked, hosts_asked, presented_contact}
-use Rattle.decisions.proofs.SightLemmas.{full_as}
 
 -- ---- what is seen in full is the object itself
 

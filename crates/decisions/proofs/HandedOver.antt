@@ -1,8 +1,7 @@
 -- A domain that is handed over by a pending transfer begins with the grace of the transfer alone (RFC
 -- 3915, 3.1; RFC 5730, 2.9.3.4).
 use Rattle.std.proofs.Common.{◌≡◌, ◌≢◌, ℕ, ◌≤◌, ◌<◌, ◌==◌, Bool, true, false, cond, not, ◌&&◌, List, Option, Some, None, is_some, refl, ap, subst, ◌∙◌, arith, eqb-true}
-use Rattle.std.proofs.Common.{⊎_elim}
-use Rattle.std.proofs.lemmas.Bool.{and_cases, and_left, and_parts, and_right}
+use Rattle.std.proofs.{Common.⊎_elim, lemmas.Bool.{and_cases, and_left, and_parts, and_right}}
 use Rattle.decisions.proofs.Words.{account_of, and-false, any-of-one, begins_after, begins_by, day-count, Domain, get, gives, Graces, graces, IfSome}
 use Rattle.decisions.proofs.Words.{in_order, is_begun_after, is_for_transfer, is_kind, is_on, is_pending_state, IsLater, IsSound, IsStandardRequest}
 use Rattle.decisions.proofs.Words.{IsTransferRecord, kind_rank, Line, LineKind, list_any, MeetsStandards, nat_tests, none-remade, period_of, PolicyRules}

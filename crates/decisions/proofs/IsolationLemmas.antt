@@ -3,9 +3,9 @@
 use Rattle.std.proofs.Common.{◌≡◌, ℕ, ◌≤◌, max, sym, ap, subst, ◌∙◌}
 use Rattle.decisions.proofs.Words.{account_of, answer, changed_all, Command, decided, decision, effect, facts, IsSound, lapsed, lapsed-is-settled, last_clock}
 use Rattle.decisions.proofs.Words.{MeetsStandards, now, PolicyRules, registries-meet-standards, Registry, reply_of, settled-is-now, view, view_for}
+use Rattle.decisions.proofs.ViewLemmas.{AllMeet, same_facts, same_view, same_changed_all}
 use Rattle.decisions.specs.Isolation.{IsIsolated}
 use Rattle.decisions.proofs.{RegistryLemmas.registry-lapsed, TransferLemmas.meets-decided, SettledLemmas.settled-effect}
-use Rattle.decisions.proofs.ViewLemmas.{AllMeet, same_facts, same_view, same_changed_all}
 use Rattle.protocol.specs.declared.reply.Reply.{Reply}
 
 same_decision : (p : PolicyRules) (r : ℕ) (c : Command) (s t : Registry) → view_for p r c s ≡ view_for p r c t → decision p r c s ≡ decision p r c t

@@ -7,8 +7,8 @@ use Rattle.decisions.proofs.Words.{HasObjects, Host, host_roid, insert, IsContac
 use Rattle.decisions.proofs.Words.{names_contact, names_host, nat_cmp, nat_cmp-IsAntisymmetric, nat_cmp_total, PolicyRules, precedes, PutContact, PutDomain}
 use Rattle.decisions.proofs.Words.{PutHost, Registry, remove, renamed, RenameHost, Roid, slice_cmp, superordinate_of, with_account, with_host_renamed}
 use Rattle.decisions.proofs.GrowthLemmas.{Grows, contact-grown, domain-grown, host-grown, host-grown-below}
-use Rattle.decisions.proofs.{LinkLemmas.has_name-filter, NamedLemmas.at-put, ViewLemmas.account-keep}
 use Rattle.decisions.proofs.NamedLemmas.{drop-cases, drop-keeps, drop-there, is-there, put-cases, put-is, put-keeps, put-there, remade-cases, remade-keeps}
+use Rattle.decisions.proofs.{LinkLemmas.has_name-filter, NamedLemmas.at-put, ViewLemmas.account-keep}
 
 -- ---- the clock and the accounts
 

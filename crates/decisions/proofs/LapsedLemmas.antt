@@ -5,12 +5,12 @@ use Rattle.decisions.proofs.Words.{account_of, approved, AreApart, Contact, cont
 use Rattle.decisions.proofs.Words.{due_by, FinMap, fold, get, HasObjects, IsContactOf, IsDeletion, IsDomainOf, IsTransfer, lapse, lapse_by, lapse_contact}
 use Rattle.decisions.proofs.Words.{Lapsed, lapsed, left, left-of, lived, moved, names_apart, nat_cmp, nat_list_cmp_total, PolicyRules, posted}
 use Rattle.decisions.proofs.Words.{postings, raised, Registry, Roid, same_Some, slice_cmp, superordinate_of, Transfer, turns}
+use Rattle.decisions.proofs.GrowthLemmas.{Grows, contact-grown, domain-grown, host-grown-below}
+use Rattle.decisions.proofs.PostingLemmas.{due-is, due-transfer, kept-posted, postings-to, serial-posted, lapse-cases}
 use Rattle.basis.specs.Sweeps.{kept}
 use Rattle.basis.proofs.ApartLaws.{get-kept}
 use Rattle.model.specs.Lapse.{accounts_at, contacts_at, domains_at, lapse as lapse_registry}
-use Rattle.decisions.proofs.GrowthLemmas.{Grows, contact-grown, domain-grown, host-grown-below}
 use Rattle.decisions.proofs.{KeepingLemmas.kept-grown, NamedLemmas.is-there, NamedLemmas.there-is}
-use Rattle.decisions.proofs.PostingLemmas.{due-is, due-transfer, kept-posted, postings-to, serial-posted, lapse-cases}
 
 -- ---- what is left of a domain
 

@@ -9,13 +9,13 @@ use Rattle.decisions.proofs.Words.{is_pending_state, is_same_roid, IsDeletion, I
 use Rattle.decisions.proofs.Words.{list_any, name_of, new_domain, NewDomain, none-by, Order, order_decision, order_effect, PolicyRules, Post, Status}
 use Rattle.decisions.proofs.Words.{PutDomain, recursion_from_All, Registry, renewed_domain, Request, restored_domain, restoring_domain, Roid, same-roids}
 use Rattle.decisions.proofs.Words.{same_Some, TakeSerial, Transfer, updated_domain, waits, WasGiven, with_account, with_command}
+use Rattle.decisions.proofs.WellFormedLemmas.{has-given, kept-counted, ungiven}
+use Rattle.decisions.proofs.LineKeepingLemmas.{AllFitLines, in_place, IsChargeIn, IsCharged, begun-by, lines-changed_all, lines-counted, lines-stay, on-again, on-same, rises}
+use Rattle.decisions.proofs.LineTransferLemmas.{asked-kept, lines-ended, lines-handed-over, post}
 use Rattle.accounts.specs.declared.line.LineKind.TheVariants as lines
 use Rattle.lifecycle.specs.Lapse.{completes_at, due_at, due_of, earlier}
 use Rattle.objects.specs.declared.roid.ObjectKind.TheVariants as kinds
 use Rattle.protocol.specs.declared.command.Request.TheVariants as requests
-use Rattle.decisions.proofs.WellFormedLemmas.{has-given, kept-counted, ungiven}
-use Rattle.decisions.proofs.LineKeepingLemmas.{AllFitLines, in_place, IsChargeIn, IsCharged, begun-by, lines-changed_all, lines-counted, lines-stay, on-again, on-same, rises}
-use Rattle.decisions.proofs.LineTransferLemmas.{asked-kept, lines-ended, lines-handed-over, post}
 
 -- ---- a charge for a domain that is the registrar's own
 

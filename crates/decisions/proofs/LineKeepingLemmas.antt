@@ -6,10 +6,9 @@ use Rattle.decisions.proofs.Words.{HasLines, HasLinesOn, in_order, is_begun_afte
 use Rattle.decisions.proofs.Words.{Lapse, LapseContact, LapseDomain, Line, list_any, MoveClock, nat_tests, OpenAccount, PolicyRules, Post, PutDomain}
 use Rattle.decisions.proofs.Words.{recursion_from_All, refunded_by, RefundRunning, RefundTransfer, Registry, remade, RenameHost, Roid, RunningRefund, runs}
 use Rattle.decisions.proofs.Words.{TakeSerial, Transfer, waits, WasGiven, with_account, with_host_renamed, with_lines}
+use Rattle.decisions.proofs.{GrowthLemmas.{Grows, been-grown, roid-grown, AllFit, all-kept}, NamedLemmas.{drop-cases, remade-cases, at-put}}
 use Rattle.decisions.specs.Changes.{itself}
-use Rattle.decisions.proofs.GrowthLemmas.{Grows, been-grown, roid-grown, AllFit, all-kept}
 use Rattle.decisions.proofs.{LineEntryLemmas.begins-asks, LineEntryLemmas.waits-asks, ViewLemmas.account-keep, ViewLemmas.serial-rises}
-use Rattle.decisions.proofs.NamedLemmas.{drop-cases, remade-cases, at-put}
 use Rattle.model.proofs.LineLemmas.{all-add, all-remade, all-weaker, and-false, awaited-carried, count, count-add-none, count-remade, none-add, none-remade}
 
 -- ---- the clock and serials grow, and lines stay

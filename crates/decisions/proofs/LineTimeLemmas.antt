@@ -1,9 +1,9 @@
 -- A registry that lapses keeps what a well-formed one says of lines.
 use Rattle.std.proofs.Common.{◌≡◌, ◌≢◌, ⊎_elim, ℕ, ◌+◌, ◌≤◌, Bool, true, false, not, ◌||◌, List, ◌++◌, Option, Some, None, refl, sym, ap, subst, ◌∙◌, arith}
-use Rattle.decisions.proofs.Lemmas.{domain-left, domain-posted, drop-cases, due-is, Grows, line-grown, own-account, lapse-cases, postings-posted}
-use Rattle.decisions.proofs.Lemmas.{put-cases, renewal-by, renewal-waits-not, serial-posted, started-waits-not}
 use Rattle.std.proofs.Common.{zero, suc, ◌<◌, cond, nat_le, ◌&&◌, ◌∷◌}
 use Rattle.std.proofs.lemmas.Bool.{false_from_ne_true, and_cases, and_left, and_parts, and_right}
+use Rattle.decisions.proofs.Lemmas.{domain-left, domain-posted, drop-cases, due-is, Grows, line-grown, own-account, lapse-cases, postings-posted}
+use Rattle.decisions.proofs.Lemmas.{put-cases, renewal-by, renewal-waits-not, serial-posted, started-waits-not}
 use Rattle.decisions.proofs.Words.{All-from_recursion, contact_completed, get, IsAwaitedIfPending, nat_list_cmp_total, recursion_from_All, some-lapse-together}
 use Rattle.decisions.proofs.Words.{AllByRecursion, charges_waiting, eq_by_cmp_equiv, is_begun_after, is_pending_state, transfer_started, TransferApproved}
 use Rattle.decisions.proofs.Words.{begins_after, domain_notice, HasLines, is_same_roid, lapse_contact, one-or-other, renewal_line, TransferStart, with_account}
@@ -11,12 +11,12 @@ use Rattle.decisions.proofs.Words.{account_of, AutoRenewal, HasLinesOn, HasObjec
 use Rattle.decisions.proofs.Words.{Account, cond_some, in_order, IsAwaited, IsLineOf, list_any, nat_tests, postings, Registry, same_Some, slice_cmp, turns-are}
 use Rattle.decisions.proofs.Words.{Contact, Domain, due_by, entered, FinMap, gained, HasRoid, IsLater, left-of, nat_cmp, Posting, Renewal, renewals, Transfer}
 use Rattle.decisions.proofs.Words.{fold, given, is_on, lapse, Lapsed, Line, lived, moved, posted, raised, Roid, Start, turn, turns, waits}
+use Rattle.decisions.proofs.LineEntryLemmas.{AllKeep, AllOff, IsKeptOff, IsOff, Keeps, begins-asks, count-kept-off, keep-both, keep-given, keep-posted, lines-kept, none-kept-off, off-keep, waits-asks}
 use Rattle.accounts.specs.declared.message.Subject.TheVariants as subjects
 use Rattle.objects.specs.declared.roid.ObjectKind.TheVariants as kinds
 use Rattle.model.specs.Lapse.{Choice, accounts_at, at, domains_at, is_named, lapse as lapse_registry, lapse_if, lapse_one, lapse_some, only, put_or_drop, with_domain_lapsed}
 use Rattle.model.proofs.LineLemmas.{all-weaker, awaited-carried, count, count-add-none, count-none-remade, none-add}
 use Rattle.model.proofs.OneByOneLemmas.{one-lapses}
-use Rattle.decisions.proofs.LineEntryLemmas.{AllKeep, AllOff, IsKeptOff, IsOff, Keeps, begins-asks, count-kept-off, keep-both, keep-given, keep-posted, lines-kept, none-kept-off, off-keep, waits-asks}
 use Rattle.basis.proofs.SweepLaws.{fold_append}
 
 -- ---- a transfer that is due is pending

@@ -7,11 +7,10 @@ use Rattle.decisions.proofs.Words.{is_kind, is_of, is_on, is_pending, is_pending
 use Rattle.decisions.proofs.Words.{Line, list_any, locked_since, nat_tests, Notification, notified, PolicyRules, PutDomain, recursion_from_All}
 use Rattle.decisions.proofs.Words.{refund-elsewhere, refund-stays, Registry, remade, Request, requested, Roid, same-roids, same_Some, Start, start-elsewhere}
 use Rattle.decisions.proofs.Words.{start-stays, Transfer, transfer_line, transfer_refunded, transfer_started, TransferRefund, TransferStart, waits, WasGiven}
-use Rattle.decisions.proofs.Words.{with_account, with_command, with_lines}
-use Rattle.model.proofs.LineLemmas.{and-false, all-add, all-remade, count, count-add, count-add-none, count-none-remade, count-remade, itself, none-add, none-by, none-remade, not-itself, one-or-other, one_if}
-use Rattle.decisions.proofs.Lemmas.{Grows, own-account, put-cases, put-is}
+use Rattle.decisions.proofs.{Words.{with_account, with_command, with_lines}, Lemmas.{Grows, own-account, put-cases, put-is}}
 use Rattle.decisions.proofs.LineEntryLemmas.{AsksFor, begins-asks, lines-kept, started-waits-not, test-elsewhere, waits-asks}
 use Rattle.decisions.proofs.LineKeepingLemmas.{account-grows, begun-by, each-kept, lines-counted, lines-keep, on-carried}
+use Rattle.model.proofs.LineLemmas.{and-false, all-add, all-remade, count, count-add, count-add-none, count-none-remade, count-remade, itself, none-add, none-by, none-remade, not-itself, one-or-other, one_if}
 use Rattle.decisions.proofs.{LineKeepingLemmas.refund-begins, LineKeepingLemmas.refund-line, CommandCases.IsAskable}
 use Rattle.accounts.specs.declared.line.LineKind.TheVariants as lines
 use Rattle.objects.specs.declared.roid.ObjectKind.TheVariants as kinds

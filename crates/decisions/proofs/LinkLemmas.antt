@@ -1,8 +1,7 @@
 -- What a domain is to name is there: the lists of its links, in order or amended, name what commands
 -- and the domain named before.
 use Rattle.std.proofs.Common.{◌≡◌, ⊎_elim, ℕ, Bool, true, false, not, ◌||◌, List, [], ◌∷◌, ◌++◌, map, Option, Some, None, refl, sym, ap, ◌∙◌}
-use Rattle.std.proofs.Math.Bool.{or-false, or_assoc, or_comm}
-use Rattle.std.proofs.Common.{◌&&◌, filter, fold}
+use Rattle.std.proofs.{Math.Bool.{or-false, or_assoc, or_comm}, Common.{◌&&◌, filter, fold}}
 use Rattle.std.proofs.lemmas.Bool.{and_parts, not-false, or_cases, or_left, or_parts, or_right}
 use Rattle.decisions.proofs.Words.{amended, bytes_decides, bytes_eq, DomainUpdate, has_name, holds_of, Links, list_any, name_of, names_contact, RequestedName}
 use Rattle.decisions.proofs.Words.{add, any-add, any-filter_same, names_host, nat_cmp, NewDomain, precedes, slice_cmp}

@@ -1,17 +1,16 @@
 -- Changes of a registry, and the money of its accounts: what commands and orders charge and give back.
 use Rattle.std.proofs.Common.{⊎_elim, ◌≡◌, ◌⊎◌, inl, inr, ℕ, nat_lt, true, false, ◌&&◌, List, Option, Some, refl, sym, subst, ◌∙◌, arith, ℤ, pos, int_lt, ◌+ℤ◌, ◌-ℤ◌, ◌≤ℤ◌}
-use Rattle.std.proofs.Common.{◌≤◌, None}
-use Rattle.std.proofs.lemmas.Int.{ints}
+use Rattle.std.proofs.{Common.{◌≤◌, None}, lemmas.Int.ints}
 use Rattle.decisions.proofs.Words.{Account, account_changed, account_of, AccountChange, amount, and_cases, Asked, Bad, balance, Change, changed, changed_all}
 use Rattle.decisions.proofs.Words.{changes_after, Charge, ClientCancelled, ClientRejected, Command, cond_both, decision, Domain, domain_with_transfer, ended}
 use Rattle.decisions.proofs.Words.{Facts, facts, get, host_renamed, IsRefundable, Lapse, Line, may_rename, name_of, nat_tests, Notice, Notify, OpenAccount}
 use Rattle.decisions.proofs.Words.{Order, order_decision, PolicyRules, Post, refunded_by, RefundRunning, RefundTransfer, Registry, RenameHost, Renewal, runs}
 use Rattle.decisions.proofs.Words.{Start, Transfer, transfer_refunded, transfer_started, TransferState, waits, with_account, with_command, with_serial}
+use Rattle.decisions.proofs.CommandCases.{CommandCases, IsDeletable, request-cases}
+use Rattle.decisions.proofs.Lemmas.{all-kept, AllFit, Covers, lines-keep, lines-stay, order-cases, put-is}
 use Rattle.model.proofs.MoneyChangeLemmas.{in-grace, turned-down, Follows, follows-changed, follows-charge}
 use Rattle.model.proofs.MoneyChangeLemmas.{running-given-back, transfer-begun, transfer-given-back}
 use Rattle.decisions.specs.Changes.{itself}
-use Rattle.decisions.proofs.CommandCases.{CommandCases, IsDeletable, request-cases}
-use Rattle.decisions.proofs.Lemmas.{all-kept, AllFit, Covers, lines-keep, lines-stay, order-cases, put-is}
 
 -- a line that is nothing or more, or that these lines cover
 abbrev pub IsPaid : Line → List Line → Type 0

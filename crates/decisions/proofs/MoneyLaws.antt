@@ -5,10 +5,10 @@ use Rattle.decisions.proofs.Words.{account_of, AccountAges, AccountFollows, acco
 use Rattle.decisions.proofs.Words.{IsSound, lapse, lapse_contact, lapse_registry, lapsed, lapsed-is-settled, lapses-on, last_clock, Line, MoneyFollows, moved}
 use Rattle.decisions.proofs.Words.{NoRefund, now, Order, order_decision, order_effect, PolicyRules, Posting, postings, raised, Registry, settled-is-now}
 use Rattle.decisions.proofs.Words.{transfer-begun, transfer_started, TransferStart, turn, turns}
-use Rattle.model.proofs.MoneyChangeLemmas.{Follows, follows-itself, ages-changed, ages-itself, ages-renewal}
 use Rattle.decisions.proofs.MoneyCommandLemmas.{command-lawful, order-lawful, changes-follow}
-use Rattle.decisions.proofs.{RegistryLemmas.registry-lapsed, SettledLemmas.settled-effect, SettledLemmas.settled-order, LineTimeLemmas.renewal_at}
 use Rattle.decisions.proofs.Lemmas.{AllPosted, contact-posted, domain-posted, due-is, keep-posted, Keeps, postings-posted}
+use Rattle.model.proofs.MoneyChangeLemmas.{Follows, follows-itself, ages-changed, ages-itself, ages-renewal}
+use Rattle.decisions.proofs.{RegistryLemmas.registry-lapsed, SettledLemmas.settled-effect, SettledLemmas.settled-order, LineTimeLemmas.renewal_at}
 
 -- ---- as time passes
 

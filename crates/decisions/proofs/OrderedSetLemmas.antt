@@ -6,8 +6,8 @@ use Rattle.std.specs.declared.{cmp.Ordering.Ordering, cmp.Ordering.TheVariants.L
 use Rattle.decisions.proofs.Words.{adds_what_is_there, AllByRecursion, false_from_ne_true, IsOrderedSet, list_any-append, nat_list_cmp_total, ordering_reverse}
 use Rattle.decisions.proofs.Words.{and_right, bytes_decides, bytes_eq, cond_both, has_name, has_twice, is_among, length-map, names_apart, nat_tests, slice_cmp}
 use Rattle.decisions.proofs.Words.{add, amended, any-add, is_le, is_over, itself, kept, list_any, nat_cmp, or_from, or_parts, precedes, renamed}
-use Rattle.objects.specs.Links.{in_order}
 use Rattle.decisions.proofs.LinkLemmas.{has_name-filter}
+use Rattle.objects.specs.Links.{in_order}
 
 abbrev Text : Type 0
 Text = List ℕ

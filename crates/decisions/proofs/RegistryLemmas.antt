@@ -6,13 +6,13 @@ use Rattle.decisions.proofs.Words.{HasCome, HasLines, HasMessages, host_renamed,
 use Rattle.decisions.proofs.Words.{lapse_contact, lapse_registry, lapsed, LapseEntry, lapses-on, last_clock, Line, may_rename, nat_tests, Notice}
 use Rattle.decisions.proofs.Words.{Notify, now, numbered, OpenAccount, Order, order_decision, order_effect, PolicyRules, Post, posted, Posting, postings}
 use Rattle.decisions.proofs.Words.{recursion_from_All, registries-meet-standards, Registry, RenameHost, Renewal, saturating_next, with_account}
-use Rattle.decisions.specs.Changes.{itself}
 use Rattle.decisions.proofs.Lemmas.{account-keep, all-kept, FitsLines, kept-lapse, Meets, clock-stays}
 use Rattle.decisions.proofs.LineCommandLemmas.{lines-effect, lines-order, fits-order}
-use Rattle.decisions.proofs.{LineTimeLemmas.lines-lapse, WellFormedLemmas.kept-effect, WellFormedLemmas.kept-order, TransferLemmas.meets-decided}
 use Rattle.decisions.proofs.MoneyCommandLemmas.{command-lawful, order-lawful, AllFitMoney, FitsAccount, FitsMoney}
 use Rattle.decisions.proofs.ShapeCommandLemmas.{shapes-effect, shapes-order, shapes-lapse}
 use Rattle.decisions.proofs.PostingLemmas.{AllPosted, contact-posted, domain-posted, due-is, postings-posted}
+use Rattle.decisions.specs.Changes.{itself}
+use Rattle.decisions.proofs.{LineTimeLemmas.lines-lapse, WellFormedLemmas.kept-effect, WellFormedLemmas.kept-order, TransferLemmas.meets-decided}
 use Rattle.accounts.specs.declared.message.Message.{Message}
 use Rattle.accounts.specs.{Messages.message_cmp, Messages.message_id, Queue.acked}
 

@@ -6,10 +6,10 @@ use Rattle.decisions.proofs.Words.{changes_after, completes_at, day-count, DropC
 use Rattle.decisions.proofs.Words.{DropDomain, handed_over, is_pending, IsDeletion, LapseDomain, last_clock, plus_years, PolicyRules, PutContact, RenameHost}
 use Rattle.decisions.proofs.Words.{cases_lt, decision, Deletion, earlier, IsSettled, MoveClock, nat_tests, purge_at, PutDomain, Registry, requested, turns-are}
 use Rattle.decisions.proofs.Words.{Domain, due_at, due_by, due_of, effect, end, ended, expiry, gained, get, IsSound, later, name_of, Order, Transfer, turns}
-use Rattle.calendar.proofs.YearLaws.{plus_years-lt, plus_years-zero}
-use Rattle.policy.specs.declared.days.Period.TheVariants as periods
 use Rattle.decisions.proofs.Lemmas.{all-kept, AllFit, CommandCases, order-cases, request-cases, clock-stays}
 use Rattle.decisions.proofs.NamedLemmas.{drop-cases, remade-cases, at-put}
+use Rattle.calendar.proofs.YearLaws.{plus_years-lt, plus_years-zero}
+use Rattle.policy.specs.declared.days.Period.TheVariants as periods
 
 -- ---- a domain that another stands in for
 

@@ -10,14 +10,14 @@ use Rattle.decisions.proofs.Words.{lapse_registry, LapseDomain, last_clock, left
 use Rattle.decisions.proofs.Words.{NewHost, or_else, or_parts, Order, order_decision, order_effect, plus_years, PolicyRules, PutDomain, PutHost}
 use Rattle.decisions.proofs.Words.{raised, Registry, remove, RenameHost, renewed_domain, requested, RequestedName, restored_domain, restoring_domain, Transfer}
 use Rattle.decisions.proofs.Words.{turns, turns-are, updated_domain, with_account, with_command, with_host_renamed, years_later, ZoneRules}
+use Rattle.decisions.proofs.CommandCases.{AreListsFit, CommandCases, IsHostUpdateOf, IsUpdateOf, host_with, request-cases}
+use Rattle.decisions.proofs.Lemmas.{all-kept, AllFit, domain-lapsed, due-is, known, order-cases, OrderCases, transferred_by}
+use Rattle.decisions.proofs.OrderedSetLemmas.{set-amended, set-in_order, set-texts, within-amended, within-items}
 use Rattle.model.specs.Shapes.{HasShapes, IsDomainName, IsHostName, IsSetWithin, IsShaped, IsShapedHost, end_of_expiries}
 use Rattle.names.specs.Canonical.{IsCanonical}
 use Rattle.objects.specs.Links.{in_order}
 use Rattle.protocol.specs.declared.command.Request.TheVariants as requests
 use Rattle.protocol.specs.declared.lists.TheConstants.{MOST_ADDRESSES, MOST_CONTACTS, MOST_HOSTS}
-use Rattle.decisions.proofs.CommandCases.{AreListsFit, CommandCases, IsHostUpdateOf, IsUpdateOf, host_with, request-cases}
-use Rattle.decisions.proofs.Lemmas.{all-kept, AllFit, domain-lapsed, due-is, known, order-cases, OrderCases, transferred_by}
-use Rattle.decisions.proofs.OrderedSetLemmas.{set-amended, set-in_order, set-texts, within-amended, within-items}
 use Rattle.decisions.proofs.{OrderedSetLemmas.within-texts, OrderedSetLemmas.set-renamed, OrderedSetLemmas.within-renamed, NamedLemmas.drop-cases}
 use Rattle.decisions.proofs.{NamedLemmas.remade-cases, NamedLemmas.at-put, SettledLemmas.years-ahead}
 use Rattle.calendar.specs.Calendar.{Date, date_of, day_number, days_of_years}

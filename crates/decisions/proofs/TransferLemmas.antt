@@ -1,8 +1,7 @@
 -- What a command changes meets what is asked of changes: transfers leave graces that no one else sees, and a face that
 -- can be told by who hands a domain over.
 use Rattle.std.proofs.Common.{◌≡◌, ◌≢◌, inl, inr, ℕ, Bool, true, false, cond, not, ◌&&◌, ◌||◌, map, List, [], ◌∷◌, Option, Some, None, is_some, refl, sym, ap, ◌∙◌}
-use Rattle.std.proofs.Common.{⊎_elim, option_map}
-use Rattle.std.proofs.lemmas.Bool.{not-true}
+use Rattle.std.proofs.{Common.{⊎_elim, option_map}, lemmas.Bool.not-true}
 use Rattle.decisions.proofs.Words.{Domain, domain_with_transfer, false_from_ne_true, is_pending_state, nat_list_cmp_total, restoring_domain, transfer_refunded}
 use Rattle.decisions.proofs.Words.{account_changed, ClientApproved, eq_by_cmp_equiv, is_for_transfer, Line, restored_domain, start-elsewhere, transfer_started}
 use Rattle.decisions.proofs.Words.{deleted_domain, get-map_values, handed_over, MeetsStandards, RefundTransfer, renewed_domain, TransferRefund, updated_domain}
@@ -11,11 +10,10 @@ use Rattle.decisions.proofs.Words.{account_of, and_parts, any-bag_of, cases_Bool
 use Rattle.decisions.proofs.Words.{and_right, cond_both, eq_by_cmp, graces_of, in_order, LineKind, period_of, Post, PutDomain, requested, runs_from, slice_cmp}
 use Rattle.decisions.proofs.Words.{Account, changed, Command, entered, gained, is_kind, IsSound, list_any, name_of, nat_cmp, Registry, Roid, Transfer, unasked}
 use Rattle.decisions.proofs.Words.{Asked, Bad, ended, get, gives, graces, is_on, Lapse, remade, Start, view, waits}
-use Rattle.accounts.specs.declared.line.LineKind.TheVariants as kinds
 use Rattle.decisions.proofs.HandedOver.{graces-handed-over, transfer_alone}
 use Rattle.decisions.proofs.Lemmas.{AllMeet, AsksFor, CommandCases, graces-seen, graces_kept, graces_put, known, own-account, request-cases}
-use Rattle.decisions.proofs.Lemmas.{sponsor-seen, test-elsewhere, none-is}
-use Rattle.decisions.proofs.ViewLemmas.{KeepsGraces, Meets, lines-kept, own, same_number}
+use Rattle.decisions.proofs.{Lemmas.{sponsor-seen, test-elsewhere, none-is}, ViewLemmas.{KeepsGraces, Meets, lines-kept, own, same_number}}
+use Rattle.accounts.specs.declared.line.LineKind.TheVariants as kinds
 
 -- ---- the graces of a domain that is put can be told from what is seen
 

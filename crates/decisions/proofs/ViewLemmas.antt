@@ -8,11 +8,11 @@ use Rattle.decisions.proofs.Words.{Lookups, lookups, map_values, MoveClock, name
 use Rattle.decisions.proofs.Words.{nat_list_cmp_total, OpenAccount, option_map, phase, PolicyRules, Post, presented, presented_contact, PutContact, PutDomain}
 use Rattle.decisions.proofs.Words.{PutHost, refund_at, Registry, remove, RenameHost, same_map, Seen, slice_cmp, Standing, standing_of, subordinate}
 use Rattle.decisions.proofs.Words.{superordinate_of_domain, unwrap_or, values, view, with_account, with_host_renamed, with_serial, ◌||◌}
+use Rattle.decisions.proofs.SightLemmas.{domain_again, forget, forget-domain, forget-contact, graces_seen, holds_seen, holds-seen, links-seen, Regrace, regraced, regraced-seen, relinked_seen, seen-relinked, sponsor_seen, superordinate_seen, superordinate-seen}
 use Rattle.basis.proofs.MapLemmas.{names_apart, entries-map_values, get-map_values, map_values-insert, map_values-remove, map_values-twice, map-twice}
 use Rattle.objects.specs.Graces.{no_graces}
 use Rattle.decisions.specs.Changes.{itself}
 use Rattle.decisions.proofs.{GrowthLemmas.AllFit, HandedOver.transfer_alone}
-use Rattle.decisions.proofs.SightLemmas.{domain_again, forget, forget-domain, forget-contact, graces_seen, holds_seen, holds-seen, links-seen, Regrace, regraced, regraced-seen, relinked_seen, seen-relinked, sponsor_seen, superordinate_seen, superordinate-seen}
 use Rattle.model.specs.View.{View, Secrets, view_for, view_with, secrets_of}
 
 -- ---- the facts lie in the view

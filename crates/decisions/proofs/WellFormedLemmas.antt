@@ -12,18 +12,16 @@ use Rattle.decisions.proofs.Words.{BelongsTo, cond_both, day-count, ends_with, N
 use Rattle.decisions.proofs.Words.{bag_add, changed, holds_of, in_order, is_below, IsHostOf, notified, refund_at, Registry, requested, Transfer, ZoneRules}
 use Rattle.decisions.proofs.Words.{charge, Command, Contact, Domain, entered, HasBeen, HasRoid, IsAfter, IsSound, name_of, NewHost, ordered, PutHost, Request}
 use Rattle.decisions.proofs.Words.{Asked, Bad, effect, ended, Facts, gained, get, Host, Line, lt-ltb, Order, Post, remade, Roid, Start}
-use Rattle.protocol.specs.declared.command.Request.TheVariants as requests
 use Rattle.decisions.proofs.Lemmas.{CommandCases, drop-contact, drop-domain, drop-host, found_above, host_with, is-there, IsBased, IsDeletable, IsSide}
 use Rattle.decisions.proofs.Lemmas.{IsUpdateOf, kept-account, known, name-fails, new-contacts, new-hosts, order-cases, OrderCases, own-account, put-contact}
 use Rattle.decisions.proofs.Lemmas.{put-domain, put-host, rename-host, request-cases, serial-rises, updated-contacts, updated-hosts, value-fails}
-use Rattle.names.proofs.SuperordinateLemmas.{spells-superordinate_of}
-use Rattle.policy.specs.declared.days.Period.TheVariants as periods
-use Rattle.decisions.specs.Transfers.{contact_with_transfer}
-use Rattle.accounts.specs.declared.line.LineKind.TheVariants as lines
-use Rattle.names.proofs.LastTwoLemmas.{last_two-superordinate}
-use Rattle.objects.specs.declared.roid.ObjectKind.TheVariants as kinds
-use Rattle.decisions.specs.Decisions.{external_sponsor_of, new_contact, new_host, new_roid}
 use Rattle.decisions.proofs.KeepingLemmas.{IsUndeleted}
+use Rattle.protocol.specs.declared.command.Request.TheVariants as requests
+use Rattle.names.proofs.{SuperordinateLemmas.spells-superordinate_of, LastTwoLemmas.last_two-superordinate}
+use Rattle.policy.specs.declared.days.Period.TheVariants as periods
+use Rattle.decisions.specs.{Transfers.contact_with_transfer, Decisions.{external_sponsor_of, new_contact, new_host, new_roid}}
+use Rattle.accounts.specs.declared.line.LineKind.TheVariants as lines
+use Rattle.objects.specs.declared.roid.ObjectKind.TheVariants as kinds
 
 -- ---- an object that stands in for another at its name, and agrees with it in what a registry asks
 

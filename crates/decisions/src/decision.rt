@@ -1,6 +1,5 @@
 //! What a command is answered, and what it changes.
-ghost use Rattle.std.specs.Prelude.{◌≡◌, ◌∷◌, [], IfOk, IsOk, OnOk};
-ghost use Rattle.std.specs.Option.{option_copied};
+ghost use Rattle.std.specs.{Prelude.{◌≡◌, ◌∷◌, [], IfOk, IsOk, OnOk}, Option.option_copied};
 ghost use Rattle.decisions.specs.Decisions as spec;
 ghost use Rattle.rules.specs.Deletion.{goes_at_once};
 

@@ -1,6 +1,5 @@
 //! What transfers change (RFC 5730, 2.9.3.4; RFC 5731 and 5733, 3.2.4).
-ghost use Rattle.std.specs.Prelude.{◌≡◌, ◌∷◌, [], IfOk};
-ghost use Rattle.std.specs.Option.{option_copied};
+ghost use Rattle.std.specs.{Prelude.{◌≡◌, ◌∷◌, [], IfOk}, Option.option_copied};
 ghost use Rattle.lifecycle.specs.Lapse as lapses;
 ghost use Rattle.decisions.specs.Changes.{posting_change};
 ghost use Rattle.decisions.specs.Transfers as spec;

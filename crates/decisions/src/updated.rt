@@ -1,6 +1,5 @@
 //! Updated objects: what an update doesn't give stays.
-ghost use Rattle.std.specs.Prelude.{◌≡◌, ◌-◌, IfOk, Some, option_map};
-ghost use Rattle.std.specs.Option.{option_copied};
+ghost use Rattle.std.specs.{Prelude.{◌≡◌, ◌-◌, IfOk, Some, option_map}, Option.option_copied};
 ghost use Rattle.facts.specs.Facts.{or_else};
 ghost use Rattle.decisions.specs.Decisions as spec;
 

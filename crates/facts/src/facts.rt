@@ -1,6 +1,5 @@
 //! What a command is judged by.
-ghost use Rattle.std.specs.Prelude.{◌≡◌, IfOk, is_some};
-ghost use Rattle.std.specs.Option.{option_copied};
+ghost use Rattle.std.specs.{Prelude.{◌≡◌, IfOk, is_some}, Option.option_copied};
 ghost use Rattle.accounts.specs.Account.{saturating_next};
 ghost use Rattle.facts.specs.Facts as spec;
 

@@ -1,6 +1,5 @@
 //! Lists of items that are known by their texts.
-ghost use Rattle.std.specs.Prelude.{◌≡◌, ◌+◌, find, length, IfOk};
-ghost use Rattle.std.specs.Option.{option_copied};
+ghost use Rattle.std.specs.{Prelude.{◌≡◌, ◌+◌, find, length, IfOk}, Option.option_copied};
 ghost use Rattle.std.specs.Str.{bytes_eq};
 ghost use Rattle.objects.specs.StatusTexts.{status_text};
 ghost use Rattle.facts.specs.Lists as spec;

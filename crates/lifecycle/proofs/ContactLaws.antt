@@ -1,8 +1,7 @@
 -- To lapse a contact on is to lapse it at once.
 use Rattle.std.proofs.Common.{◌≡◌, ℕ, ◌≤◌, Option, Some, None, Result, Ok, Err, refl, sym, ap, ◌∙◌}
 use Rattle.std.specs.Result.{IfOk}
-use Rattle.objects.specs.declared.contact.Contact.{Contact}
-use Rattle.objects.specs.declared.transfer.Transfer.{Transfer}
+use Rattle.objects.specs.declared.{contact.Contact.Contact, transfer.Transfer.Transfer}
 use Rattle.lifecycle.specs.declared.lapsed.Lapsed.{Lapsed}
 use Rattle.lifecycle.specs.Lapse.{IsContactLapseOf, ◌>>=◌, contact_completed, contact_moved, due_by, lapse_contact}
 use Rattle.lifecycle.proofs.LapseLaws.{stays_due}

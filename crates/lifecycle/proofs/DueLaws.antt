@@ -6,18 +6,12 @@ use Rattle.calendar.specs.Moment.{IsMoment, is_moment}
 use Rattle.calendar.proofs.YearLaws.{plus_years-later}
 use Rattle.policy.specs.Rules.{PolicyRules}
 use Rattle.accounts.specs.declared.entries.Posting.{Posting}
-use Rattle.objects.specs.Domains.{expiry}
-use Rattle.objects.specs.Transfers.{is_pending_state}
-use Rattle.objects.specs.declared.domain.Deletion.{Deletion}
-use Rattle.objects.specs.declared.domain.Domain.{Domain}
+use Rattle.objects.specs.{Domains.expiry, Transfers.is_pending_state, declared.domain.{Deletion.Deletion, Domain.Domain}}
 use Rattle.objects.specs.declared.transfer.Transfer.{Transfer}
 use Rattle.lifecycle.specs.declared.lapsed.Lapsed.{Lapsed}
 use Rattle.lifecycle.specs.Lapse.{IsLapseOf, completes_at, due_at, due_by, due_of, earlier, earlier_end, lapse, lapse_by, leaves, lived, moved, purged, raised, renewals}
-use Rattle.lifecycle.specs.Periods.{in_time, passed}
-use Rattle.lifecycle.specs.Phases.{purge_at}
-use Rattle.lifecycle.specs.Turns.{turns}
-use Rattle.lifecycle.proofs.LapseLaws.{lapse-law}
-use Rattle.lifecycle.proofs.TurnLaws.{turns-are, turns-only}
+use Rattle.lifecycle.specs.{Periods.{in_time, passed}, Phases.purge_at, Turns.turns}
+use Rattle.lifecycle.proofs.{LapseLaws.lapse-law, TurnLaws.{turns-are, turns-only}}
 
 -- ---- after a lapse
 

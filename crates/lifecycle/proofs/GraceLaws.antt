@@ -1,11 +1,8 @@
 -- Graces hang on the lines of the domain alone, and not on their order.
 use Rattle.std.proofs.Common.{◌≡◌, ℕ, Bool, true, false, cond, ◌||◌, List, [], ◌∷◌, Option, refl, sym, ap, ◌∙◌}
 use Rattle.std.specs.List.{filter, list_any}
-use Rattle.accounts.specs.declared.line.Line.{Line}
-use Rattle.accounts.specs.declared.line.LineKind.{LineKind}
+use Rattle.accounts.specs.{declared.line.{Line.Line, LineKind.LineKind}, LineChanges.unasked, Lines.{in_order, is_kind, is_on}}
 use Rattle.accounts.specs.declared.line.LineKind.TheVariants as kinds
-use Rattle.accounts.specs.LineChanges.{unasked}
-use Rattle.accounts.specs.Lines.{in_order, is_kind, is_on}
 use Rattle.basis.specs.Bag.{bag_of}
 use Rattle.basis.proofs.BagLaws.{any-bag_of}
 use Rattle.objects.specs.declared.roid.Roid.{Roid}

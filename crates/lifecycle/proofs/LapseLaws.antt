@@ -2,14 +2,9 @@
 use Rattle.std.proofs.Common.{◌≡◌, ℕ, zero, suc, ◌+◌, ◌≤◌, ◌&&◌, Bool, true, false, cond, nat_lt, nat_le, List, [], ◌++◌, append_assoc, append-nil, Option, Some, None, refl, sym, ap, ◌∙◌, arith}
 use Rattle.std.proofs.lemmas.Bool.Decides.{nat_tests}
 use Rattle.policy.specs.Rules.{PolicyRules}
-use Rattle.objects.specs.declared.domain.Domain.{Domain}
-use Rattle.objects.specs.declared.domain.Deletion.{Deletion}
-use Rattle.objects.specs.declared.transfer.Transfer.{Transfer}
+use Rattle.objects.specs.{declared.{domain.{Domain.Domain, Deletion.Deletion}, transfer.Transfer.Transfer}, Transfers.is_pending_state}
 use Rattle.accounts.specs.declared.entries.Posting.{Posting}
-use Rattle.lifecycle.specs.declared.lapsed.Lapsed.{Lapsed}
-use Rattle.objects.specs.Transfers.{is_pending_state}
-use Rattle.lifecycle.specs.Turns.{turns}
-use Rattle.lifecycle.specs.Phases.{purge_at}
+use Rattle.lifecycle.specs.{declared.lapsed.Lapsed.Lapsed, Turns.turns, Phases.purge_at}
 use Rattle.lifecycle.specs.Lapse.{leaves, after, next, ◌>>=◌, turn, renewals, raised, renewed, moved, completed, due_by, lived, purged, lapse_by, lapse}
 use Rattle.lifecycle.proofs.TurnLaws.{turns-add}
 

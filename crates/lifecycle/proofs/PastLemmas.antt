@@ -1,11 +1,9 @@
 -- Moments past the last one.
 use Rattle.std.proofs.Common.{◌≡◌, ℕ, ◌+◌, ◌<◌, ◌≤◌, Bool, true, false, cond, nat_lt, refl, arith, Result, Ok, Err, Some, None}
 use Rattle.std.proofs.lemmas.Bool.Decides.{nat_tests}
-use Rattle.calendar.specs.declared.moment.Range.{Range}
-use Rattle.calendar.specs.Moment.{checked, is_moment, plus_years}
+use Rattle.calendar.specs.{declared.moment.Range.Range, Moment.{checked, is_moment, plus_years}}
 use Rattle.objects.specs.declared.domain.Domain.{Domain}
-use Rattle.lifecycle.specs.Periods.{passed}
-use Rattle.lifecycle.specs.Lapse.{gained}
+use Rattle.lifecycle.specs.{Periods.passed, Lapse.gained}
 
 err-false : (b : Bool) (m : ℕ) (r : Range) → cond b (Ok m) (Err (record {})) ≡ Err r → b ≡ false
 err-false true m r e = cc

@@ -1,21 +1,14 @@
 -- What is given back is what the balance rises by, and it is given back once.
 use Rattle.std.proofs.Common.{◌≡◌, ℕ, ◌+◌, Bool, true, false, cond, not, ◌&&◌, List, [], ◌∷◌, map, Option, Some, None, is_some, refl, sym, ap, ◌∙◌, arith, pos, ◌+ℤ◌}
+use Rattle.std.proofs.lemmas.{Bool.and_parts, Int.ints, List.Sums.sum_by-cons}
 use Rattle.std.specs.List.{filter, sum_by}
-use Rattle.std.proofs.lemmas.Bool.{and_parts}
-use Rattle.std.proofs.lemmas.Int.{ints}
-use Rattle.std.proofs.lemmas.List.Sums.{sum_by-cons}
-use Rattle.accounts.specs.declared.line.Line.{Line}
-use Rattle.accounts.specs.declared.line.LineKind.{LineKind}
+use Rattle.accounts.specs.{declared.line.{Line.Line, LineKind.LineKind}, Lines.{amount, amount_of, balance, in_order, is_kind, is_on}}
 use Rattle.accounts.specs.declared.line.LineKind.TheVariants as kinds
-use Rattle.accounts.specs.Lines.{amount, amount_of, balance, in_order, is_kind, is_on}
 use Rattle.accounts.proofs.LineLaws.{balance-bag_of}
 use Rattle.basis.specs.Bag.{add, bag_of}
 use Rattle.policy.specs.Rules.{PolicyRules}
-use Rattle.lifecycle.specs.declared.change.RunningRefund.{RunningRefund}
-use Rattle.lifecycle.specs.declared.refund.GivenBack.{GivenBack}
-use Rattle.lifecycle.specs.Changes.{refunded_by}
-use Rattle.lifecycle.specs.Graces.{period_of, runs_from}
-use Rattle.lifecycle.specs.Refunds.{IsGivenBack, cents_back, given_back, is_given_back, years_back}
+use Rattle.lifecycle.specs.{declared.{change.RunningRefund.RunningRefund, refund.GivenBack.GivenBack}, Changes.refunded_by}
+use Rattle.lifecycle.specs.{Graces.{period_of, runs_from}, Refunds.{IsGivenBack, cents_back, given_back, is_given_back, years_back}}
 
 -- ---- sums over bags
 

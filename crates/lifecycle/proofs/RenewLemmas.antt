@@ -1,16 +1,13 @@
 -- The loop of renewals.
-use Rattle.std.proofs.Common.{◌≡◌, ℕ, suc, ◌+◌, ◌-◌, ◌<◌, ◌≤◌, List, ◌++◌, append_assoc, append-nil, refl, sym, ap, ◌∙◌, arith}
+use Rattle.std.proofs.Common.{◌≡◌, ℕ, suc, ◌+◌, ◌-◌, ◌<◌, ◌≤◌, List, ◌++◌, append_assoc, append-nil, refl, sym, ap, ◌∙◌, arith, inl, inr}
+use Rattle.std.proofs.lemmas.Bool.{cases_lt}
 use Rattle.calendar.specs.Moment.{plus_years}
 use Rattle.calendar.proofs.YearLaws.{plus_years-lt}
 use Rattle.policy.specs.Rules.{PolicyRules}
-use Rattle.objects.specs.declared.domain.Domain.{Domain}
+use Rattle.objects.specs.{declared.domain.Domain.Domain, Domains.expiry}
 use Rattle.accounts.specs.declared.entries.Posting.{Posting}
-use Rattle.lifecycle.specs.Turns.{turns}
-use Rattle.objects.specs.Domains.{expiry}
-use Rattle.lifecycle.specs.Lapse.{renewals, raised, turn}
+use Rattle.lifecycle.specs.{Turns.turns, Lapse.{renewals, raised, turn}}
 use Rattle.lifecycle.proofs.TurnLaws.{turns-only}
-use Rattle.std.proofs.Common.{inl, inr}
-use Rattle.std.proofs.lemmas.Bool.{cases_lt}
 
 -- after n turns, all of them due
 pub record IsRenewing (p : PolicyRules) (t : ℕ) (d0 : Domain) (e0 : List Posting) (d : Domain) (e : List Posting) : Type 0 where

@@ -1,12 +1,10 @@
 -- The turns up to a moment are the least number, and add up.
 use Rattle.std.proofs.Common.{◌≡◌, ℕ, zero, suc, ◌+◌, ◌-◌, ◌<◌, ◌≤◌, Bool, true, false, nat_lt, cond, refl, sym, ◌∙◌, inl, inr, arith}
-use Rattle.std.proofs.lemmas.Bool.{cases_lt}
-use Rattle.std.proofs.lemmas.Bool.Decides.{nat_tests}
+use Rattle.std.proofs.lemmas.Bool.{cases_lt, Decides.nat_tests}
 use Rattle.calendar.specs.Moment.{plus_years}
 use Rattle.calendar.proofs.YearLaws.{plus_years-grows}
 use Rattle.objects.specs.declared.domain.Domain.{Domain}
-use Rattle.lifecycle.specs.Turns.{least, turns}
-use Rattle.lifecycle.specs.Lapse.{raised}
+use Rattle.lifecycle.specs.{Turns.{least, turns}, Lapse.raised}
 
 -- ---- the least number
 

@@ -1,8 +1,7 @@
 //! When an object is due: the earliest moment at which its lapse changes or removes it.
 ghost use Rattle.std.specs.Prelude.{◌≡◌, option_and_then};
 ghost use Rattle.lifecycle.specs.Lapse as spec;
-ghost use Rattle.lifecycle.specs.Lapse.{earlier};
-ghost use Rattle.lifecycle.specs.Periods.{in_time, passed};
+ghost use Rattle.lifecycle.specs.{Lapse.earlier, Periods.{in_time, passed}};
 ghost use Rattle.objects.specs.Domains.{expiry};
 
 use crate::deletion::{purge_at, purged_by};

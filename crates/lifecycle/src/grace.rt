@@ -1,9 +1,6 @@
 //! The graces that run on a domain (RFC 3915, 3.1).
-ghost use Rattle.std.specs.Prelude.{◌≡◌, unwrap_or};
-ghost use Rattle.std.specs.Option.{option_copied};
-ghost use Rattle.accounts.specs.Account.{empty_account};
-ghost use Rattle.std.specs.List.{list_any};
-ghost use Rattle.accounts.specs.declared.line.Line.{Line};
+ghost use Rattle.std.specs.{Prelude.{◌≡◌, unwrap_or}, Option.option_copied, List.list_any};
+ghost use Rattle.accounts.specs.{Account.empty_account, declared.line.Line.Line};
 ghost use Rattle.lifecycle.specs.Graces as spec;
 
 use crate::deletion::phase;

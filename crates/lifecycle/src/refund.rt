@@ -1,6 +1,5 @@
 //! What a deletion gives back: each line of the domain's sponsor whose grace runs (RFC 3915, 3.1).
-ghost use Rattle.std.specs.Prelude.{◌≡◌, ◌<◌, length, unwrap_or};
-ghost use Rattle.std.specs.List.{sum_by};
+ghost use Rattle.std.specs.{Prelude.{◌≡◌, ◌<◌, length, unwrap_or}, List.sum_by};
 ghost use Rattle.std.specs.Option.{option_copied};
 ghost use Rattle.accounts.specs.Account.{empty_account};
 ghost use Rattle.lifecycle.specs.Refunds as spec;

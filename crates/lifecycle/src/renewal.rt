@@ -3,8 +3,7 @@ ghost use Rattle.std.specs.Prelude.{◌≡◌, ◌<◌, ◌++◌, IfOk, IfSome, 
 ghost use Rattle.calendar.specs.Moment.{plus_years};
 ghost use Rattle.objects.specs.Domains.{expiry};
 ghost use Rattle.lifecycle.specs.Lapse as spec;
-ghost use Rattle.lifecycle.specs.Periods.{passed};
-ghost use Rattle.lifecycle.specs.Turns.{turns};
+ghost use Rattle.lifecycle.specs.{Periods.passed, Turns.turns};
 
 use accounts::{AutoRenewal, LapseEntry, LapseNotice, Message, Origin, Posting, Subject};
 use basis::list::Seq;

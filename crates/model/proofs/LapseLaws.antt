@@ -1,20 +1,12 @@
 -- What time alone makes of a registry is one thing, in whatever steps and order it is done.
 use Rattle.std.proofs.Common.{◌≡◌, ◌≤◌, ℕ, Bool, true, false, ◌||◌, List, [], append-nil, Option, Some, None, refl, sym, ap, subst, ◌∙◌, arith}
-use Rattle.std.specs.Cmp.Lexicographic.{slice_cmp, nat_list_cmp_total}
-use Rattle.std.specs.FinMap.{get}
-use Rattle.std.specs.Option.{option_map_or}
-use Rattle.std.specs.Ordering.{nat_cmp}
+use Rattle.std.specs.{Cmp.Lexicographic.{slice_cmp, nat_list_cmp_total}, FinMap.get, Option.option_map_or, Ordering.nat_cmp}
 use Rattle.accounts.specs.declared.entries.Posting.{Posting}
 use Rattle.basis.specs.Sweeps.{kept}
-use Rattle.basis.proofs.ApartLaws.{get-kept}
-use Rattle.basis.proofs.MapLemmas.{names_apart}
-use Rattle.lifecycle.specs.declared.lapsed.Lapsed.{Lapsed}
-use Rattle.lifecycle.specs.Lapse.{◌>>=◌, contact_completed, due_by, lapse, lapse_contact, leaves, next}
-use Rattle.lifecycle.proofs.ContactLaws.{is_contact_lapse}
-use Rattle.lifecycle.proofs.DueLaws.{lapse-due, lapse-stays}
-use Rattle.lifecycle.proofs.LapseLaws.{lapse-law}
-use Rattle.objects.specs.declared.contact.Contact.{Contact}
-use Rattle.objects.specs.declared.domain.Domain.{Domain}
+use Rattle.basis.proofs.{ApartLaws.get-kept, MapLemmas.names_apart}
+use Rattle.lifecycle.specs.{declared.lapsed.Lapsed.Lapsed, Lapse.{◌>>=◌, contact_completed, due_by, lapse, lapse_contact, leaves, next}}
+use Rattle.lifecycle.proofs.{ContactLaws.is_contact_lapse, DueLaws.{lapse-due, lapse-stays}, LapseLaws.lapse-law}
+use Rattle.objects.specs.declared.{contact.Contact.Contact, domain.Domain.Domain}
 use Rattle.policy.specs.Rules.{PolicyRules}
 use Rattle.model.specs.Lapse.{Choice, accounts_at, at, contacts_at, domains_at, either, lapse as lapse_registry, lapse_if, lapse_some, nothing}
 use Rattle.model.specs.LapseLaws.{AllDueLapseAsAll, HaveOneFuture, LapsedIsSettled, LapsesInSteps, LapsesOnFromSome, SettledIsNow, SomeLapseInAnyOrder, SomeLapseTogether}

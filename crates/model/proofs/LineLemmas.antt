@@ -1,16 +1,12 @@
 -- What is so of all items of a bag, of none, or of a number of them, as items are added and made anew;
 -- and tests of lines.
 use Rattle.std.proofs.Common.{◌≡◌, ◌≢◌, ℕ, suc, ◌==◌, Bool, true, false, cond, ◌&&◌, ◌||◌, List, [], ◌∷◌, map, length, Option, Some, None, refl, sym, ap, ◌∙◌, arith, eqb-true}
+use Rattle.std.proofs.lemmas.Bool.{or_parts, Decides.nat_tests}
 use Rattle.std.specs.List.{AllByRecursion, filter, list_any}
-use Rattle.std.proofs.lemmas.Bool.{or_parts}
-use Rattle.std.proofs.lemmas.Bool.Decides.{nat_tests}
 use Rattle.basis.specs.Bag.{add, bag_of, remade}
 use Rattle.basis.proofs.BagLaws.{any-add, any-bag_of}
-use Rattle.objects.specs.declared.domain.Domain.{Domain}
-use Rattle.objects.specs.declared.transfer.Transfer.{Transfer}
-use Rattle.objects.specs.Transfers.{is_pending_state}
-use Rattle.model.specs.Registry.{Registry, account_of}
-use Rattle.model.specs.WellFormed.{IsAwaitedIfPending, begins_after}
+use Rattle.objects.specs.{declared.{domain.Domain.Domain, transfer.Transfer.Transfer}, Transfers.is_pending_state}
+use Rattle.model.specs.{Registry.{Registry, account_of}, WellFormed.{IsAwaitedIfPending, begins_after}}
 
 -- ---- all
 

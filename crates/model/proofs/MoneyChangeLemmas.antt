@@ -1,23 +1,15 @@
 -- What each change of an account makes of its lines and of its balance.
 use Rattle.std.proofs.Common.{◌≡◌, ◌⊎◌, inl, inr, ℕ, ◌≤◌, ◌==◌, nat_le, nat_lt, Bool, true, false, cond, not, ◌&&◌, ◌||◌, List, [], ◌∷◌, ◌++◌, map, Option, Some, None, is_some, refl, sym, ap, subst, ◌∙◌, arith, eqb-true, pos, ◌+ℤ◌, ◌≤ℤ◌}
+use Rattle.std.proofs.lemmas.{Bool.{and_parts, not-true, or_parts, Decides.nat_tests}, Int.ints}
 use Rattle.std.specs.List.{AllByRecursion}
-use Rattle.std.proofs.lemmas.Bool.{and_parts, not-true, or_parts}
-use Rattle.std.proofs.lemmas.Bool.Decides.{nat_tests}
-use Rattle.std.proofs.lemmas.Int.{ints}
-use Rattle.accounts.specs.declared.entries.AutoRenewal.{AutoRenewal}
-use Rattle.accounts.specs.declared.line.Line.{Line}
-use Rattle.accounts.specs.declared.line.LineKind.{LineKind}
-use Rattle.accounts.specs.declared.line.LineKind.TheVariants as kinds
-use Rattle.accounts.specs.declared.line.TransferRefund.{TransferRefund}
-use Rattle.accounts.specs.declared.line.TransferStart.{TransferStart}
-use Rattle.accounts.specs.Entries.{renewal_line}
+use Rattle.accounts.specs.declared.{entries.AutoRenewal.AutoRenewal, line.{Line.Line, LineKind.LineKind, TransferRefund.TransferRefund}}
+use Rattle.accounts.specs.{declared.line.TransferStart.TransferStart, Entries.renewal_line}
 use Rattle.accounts.specs.Lines.{amount, amount_of, balance, begins_by, in_order, is_for_transfer, is_kind, is_on, transfer_refunded, transfer_started, waits}
+use Rattle.accounts.specs.declared.line.LineKind.TheVariants as kinds
 use Rattle.accounts.proofs.LineLaws.{balance-add}
 use Rattle.basis.specs.Bag.{add, remade}
 use Rattle.lifecycle.specs.Graces.{period_of, refunded_running, runs, runs_from}
-use Rattle.objects.specs.declared.domain.Domain.{Domain}
-use Rattle.objects.specs.declared.roid.Roid.{Roid}
-use Rattle.objects.specs.declared.transfer.Transfer.{Transfer}
+use Rattle.objects.specs.declared.{domain.Domain.Domain, roid.Roid.Roid, transfer.Transfer.Transfer}
 use Rattle.objects.specs.declared.transfer.TransferState.TheVariants.{ClientRejected, ClientCancelled}
 use Rattle.policy.specs.Rules.{PolicyRules}
 use Rattle.model.specs.Money.{AccountAges, AccountChanges, IsCovered, IsFree, IsInGrace, IsRenewal, IsSooner, IsTurnedDown, LineFollows, LinesFollow, NoRefund}

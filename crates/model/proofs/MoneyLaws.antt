@@ -1,11 +1,9 @@
 -- What becomes of money over many calls.
-use Rattle.std.proofs.Common.{◌≡◌, inl, inr, ℕ, ◌≤◌, List, [], ◌∷◌, ◌++◌, ◌+◌, map, sym, subst, arith}
+use Rattle.std.proofs.{Common.{◌≡◌, inl, inr, ℕ, ◌≤◌, List, [], ◌∷◌, ◌++◌, ◌+◌, map, sym, subst, arith}, lemmas.Int.ints}
 use Rattle.std.specs.List.{sum_by}
-use Rattle.std.proofs.lemmas.Int.{ints}
 use Rattle.accounts.specs.declared.line.Line.{Line}
 use Rattle.policy.specs.Rules.{PolicyRules}
-use Rattle.model.specs.Lapse.{lapsed}
-use Rattle.model.specs.Money.{AccountAges, AccountChanges, AccountFollows, IsCovered, IsRefundable, NoRefund}
+use Rattle.model.specs.{Lapse.lapsed, Money.{AccountAges, AccountChanges, AccountFollows, IsCovered, IsRefundable, NoRefund}}
 use Rattle.model.specs.MoneyLaws.{IsRefundableIn, LinesFollowOver, MoneyFollowsOver, OwesRenewalsAtMost, renewal_cents}
 use Rattle.model.specs.Registry.{Registry, account_of}
 use Rattle.model.proofs.MoneyLemmas.{ages-owe, cents-then, lines-same, lines-then}

@@ -1,13 +1,9 @@
 -- How lines follow from others, one change after another.
 use Rattle.std.proofs.Common.{◌≡◌, ◌⊎◌, inl, inr, ℕ, ◌+◌, ◌≤◌, Bool, true, false, cond, List, [], ◌∷◌, ◌++◌, map, Option, Some, None, is_some, refl, sym, ap, subst, ◌∙◌, arith, pos, ◌+ℤ◌, ◌≤ℤ◌}
+use Rattle.std.proofs.lemmas.{Int.ints, List.{append_assoc, map-append, map-id, Sums.{sum_by-append, sum_by-cons}}}
 use Rattle.std.specs.List.{AllByRecursion, sum_by}
-use Rattle.std.proofs.lemmas.Int.{ints}
-use Rattle.std.proofs.lemmas.List.{append_assoc, map-append, map-id}
-use Rattle.std.proofs.lemmas.List.Sums.{sum_by-append, sum_by-cons}
-use Rattle.accounts.specs.declared.line.Line.{Line}
-use Rattle.accounts.specs.declared.line.LineKind.{LineKind}
+use Rattle.accounts.specs.{declared.line.{Line.Line, LineKind.LineKind}, Lines.{amount, amount_of, balance, in_order, is_kind}}
 use Rattle.accounts.specs.declared.line.LineKind.TheVariants as kinds
-use Rattle.accounts.specs.Lines.{amount, amount_of, balance, in_order, is_kind}
 use Rattle.accounts.proofs.LineLaws.{balance-append, balance-bag_of, lines_in_order}
 use Rattle.basis.specs.Bag.{add, bag_of, remade}
 use Rattle.basis.proofs.BagLaws.{remade-add, remade-bag_of}

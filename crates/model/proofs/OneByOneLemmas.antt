@@ -1,28 +1,17 @@
 -- Objects that lapse one after another, each looked up by its name, lapse as they do together.
 use Rattle.std.proofs.Common.{◌≡◌, ℕ, Bool, true, false, cond, List, [], ◌∷◌, ◌++◌, append-nil, Option, Some, None, refl, sym, ap, ◌∙◌}
-use Rattle.std.specs.Prelude.{fold}
-use Rattle.std.specs.Cmp.{eq_by_cmp_equiv}
-use Rattle.std.specs.Cmp.Lexicographic.{slice_cmp, nat_list_cmp_total}
-use Rattle.std.specs.FinMap.{FinMap, get, get-insert, get-remove, remove, same_map}
-use Rattle.std.specs.Option.{option_map_or}
-use Rattle.std.specs.Ordering.{nat_cmp}
-use Rattle.accounts.specs.declared.account.Account.{Account}
-use Rattle.accounts.specs.declared.entries.Posting.{Posting}
-use Rattle.accounts.specs.declared.message.Subject.{Subject}
+use Rattle.std.specs.{Prelude.fold, Cmp.{eq_by_cmp_equiv, Lexicographic.{slice_cmp, nat_list_cmp_total}}}
+use Rattle.std.specs.{FinMap.{FinMap, get, get-insert, get-remove, remove, same_map}, Option.option_map_or, Ordering.nat_cmp}
+use Rattle.accounts.specs.{declared.{account.Account.Account, entries.Posting.Posting, message.Subject.Subject}, Entries.posted}
 use Rattle.accounts.specs.declared.message.Subject.TheVariants as subjects
-use Rattle.accounts.specs.Entries.{posted}
 use Rattle.accounts.proofs.EntryLaws.{postings_commute}
 use Rattle.basis.specs.Sweeps.{given, kept}
-use Rattle.basis.proofs.ApartLaws.{get-kept, given_only, tied}
-use Rattle.basis.proofs.MapLemmas.{names_apart}
-use Rattle.lifecycle.specs.declared.lapsed.Lapsed.{Lapsed}
-use Rattle.lifecycle.specs.Lapse.{lapse, lapse_contact}
-use Rattle.objects.specs.declared.contact.Contact.{Contact}
-use Rattle.objects.specs.declared.domain.Domain.{Domain}
+use Rattle.basis.proofs.{ApartLaws.{get-kept, given_only, tied}, MapLemmas.names_apart}
+use Rattle.lifecycle.specs.{declared.lapsed.Lapsed.Lapsed, Lapse.{lapse, lapse_contact}}
+use Rattle.objects.specs.declared.{contact.Contact.Contact, domain.Domain.Domain}
 use Rattle.policy.specs.Rules.{PolicyRules}
 use Rattle.model.specs.Lapse.{among, at, is_named, lapse as lapse_registry, lapse_if, lapse_one, lapse_some, only, put_or_drop, with_contact_lapsed, with_domain_lapsed}
-use Rattle.model.specs.LapseLaws.{EachDueLapsesAsAll, EachLapsesAsSome, LapsesOnFromEach}
-use Rattle.model.specs.Registry.{Registry}
+use Rattle.model.specs.{LapseLaws.{EachDueLapsesAsAll, EachLapsesAsSome, LapsesOnFromEach}, Registry.Registry}
 use Rattle.model.proofs.LapseLaws.{all-due-lapse-as-all, lapses-on-from-some, some-lapse-together}
 use Rattle.model.proofs.SweepLemmas.{Named, given-still, kept-still, registry, swept-still}
 

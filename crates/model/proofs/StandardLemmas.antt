@@ -1,14 +1,10 @@
 -- A well formed registry is one by the standards.
 use Rattle.std.proofs.Common.{◌≡◌, ℕ, true, cond, ◌&&◌, length, Option, Some, None, ◌∙◌}
-use Rattle.std.specs.Prelude.{IfSome}
-use Rattle.std.specs.List.{filter}
+use Rattle.std.specs.{Prelude.IfSome, List.filter}
 use Rattle.accounts.specs.Lines.{waits}
-use Rattle.objects.specs.declared.domain.Domain.{Domain}
-use Rattle.objects.specs.declared.transfer.Transfer.{Transfer}
-use Rattle.objects.specs.Transfers.{is_pending_state}
+use Rattle.objects.specs.{declared.{domain.Domain.Domain, transfer.Transfer.Transfer}, Transfers.is_pending_state}
 use Rattle.policy.specs.Rules.{PolicyRules}
-use Rattle.model.specs.Registry.{Registry, account_of}
-use Rattle.model.specs.Standards.{IsStandardRequest, RegistriesMeetStandards}
+use Rattle.model.specs.{Registry.{Registry, account_of}, Standards.{IsStandardRequest, RegistriesMeetStandards}}
 use Rattle.model.specs.WellFormed.{HasLinesOn, IsAwaitedIfPending, IsDomainOf, IsLastTransfer, IsTransferRecord, charges_waiting}
 use Rattle.model.proofs.LineLemmas.{itself}
 

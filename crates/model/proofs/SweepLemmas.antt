@@ -1,26 +1,15 @@
 -- Sweeps of a registry: two are one, and those that agree on what is there are one.
 use Rattle.std.proofs.Common.{◌≡◌, ℕ, List, [], ◌∷◌, ◌++◌, append-nil, Option, Some, None, refl, sym, ap, ◌∙◌}
-use Rattle.std.specs.Prelude.{fold}
-use Rattle.std.specs.Cmp.Lexicographic.{slice_cmp, nat_list_cmp_total}
-use Rattle.std.specs.FinMap.{FinMap, entries, get, same_map}
-use Rattle.std.specs.Option.{option_map_or}
-use Rattle.std.specs.Ordering.{nat_cmp}
-use Rattle.accounts.specs.declared.account.Account.{Account}
-use Rattle.accounts.specs.declared.entries.Posting.{Posting}
-use Rattle.accounts.specs.Entries.{posted}
+use Rattle.std.specs.{Prelude.fold, Cmp.Lexicographic.{slice_cmp, nat_list_cmp_total}, FinMap.{FinMap, entries, get, same_map}}
+use Rattle.std.specs.{Option.option_map_or, Ordering.nat_cmp}
+use Rattle.accounts.specs.{declared.{account.Account.Account, entries.Posting.Posting}, Entries.posted}
 use Rattle.accounts.proofs.EntryLaws.{postings_commute}
 use Rattle.basis.specs.Sweeps.{given, given_list, kept}
-use Rattle.basis.proofs.ApartLaws.{get-kept}
-use Rattle.basis.proofs.EntryLaws.{given-alike, kept-alike}
-use Rattle.basis.proofs.MapLemmas.{names_apart}
+use Rattle.basis.proofs.{ApartLaws.get-kept, EntryLaws.{given-alike, kept-alike}, MapLemmas.names_apart}
 use Rattle.basis.proofs.SweepLaws.{fold_append, given_again, kept_again, two_kinds}
-use Rattle.lifecycle.specs.declared.lapsed.Lapsed.{Lapsed}
-use Rattle.lifecycle.specs.Lapse.{◌>>=◌, leaves, next}
-use Rattle.objects.specs.declared.contact.Contact.{Contact}
-use Rattle.objects.specs.declared.domain.Domain.{Domain}
-use Rattle.objects.specs.declared.host.Host.{Host}
-use Rattle.model.specs.Lapse.{swept}
-use Rattle.model.specs.Registry.{Registry}
+use Rattle.lifecycle.specs.{declared.lapsed.Lapsed.Lapsed, Lapse.{◌>>=◌, leaves, next}}
+use Rattle.objects.specs.declared.{contact.Contact.Contact, domain.Domain.Domain, host.Host.Host}
+use Rattle.model.specs.{Lapse.swept, Registry.Registry}
 
 abbrev Accounts : Type 0
 Accounts = FinMap nat_cmp Account

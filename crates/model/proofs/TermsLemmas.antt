@@ -3,25 +3,16 @@
 use Rattle.std.proofs.Common.{◌≡◌, ◌≤◌, ℕ, zero, suc, max, Bool, true, false, cond, nat_lt, List, [], ◌∷◌, ◌++◌, Option, Some, None, refl, sym, ap, ◌∙◌, arith}
 use Rattle.std.proofs.lemmas.Bool.Decides.{nat_tests}
 use Rattle.std.specs.Prelude.{fold}
-use Rattle.accounts.specs.declared.entries.Posting.{Posting}
-use Rattle.accounts.specs.declared.message.LapseNotice.TheVariants.{Purged}
-use Rattle.accounts.specs.Entries.{posted}
+use Rattle.accounts.specs.{declared.{entries.Posting.Posting, message.LapseNotice.TheVariants.Purged}, Entries.posted}
 use Rattle.basis.specs.Sweeps.{kept}
 use Rattle.calendar.specs.Moment.{plus_days}
 use Rattle.lifecycle.specs.declared.lapsed.Lapsed.{Lapsed}
 use Rattle.lifecycle.specs.Lapse.{completion, due_by, gained, lapse_by, lapse_contact, leaves, lived, moved, purged, raised, renewals, domain_notice, turn}
-use Rattle.lifecycle.specs.Periods.{end}
-use Rattle.lifecycle.specs.Phases.{purge_at, redemption_end}
-use Rattle.lifecycle.specs.Turns.{turns}
-use Rattle.objects.specs.declared.domain.Deletion.{Deletion}
-use Rattle.objects.specs.declared.domain.Domain.{Domain}
-use Rattle.objects.specs.declared.transfer.Transfer.{Transfer}
-use Rattle.policy.specs.declared.days.Period.{Period}
+use Rattle.lifecycle.specs.{Periods.end, Phases.{purge_at, redemption_end}, Turns.turns}
+use Rattle.objects.specs.declared.{domain.{Deletion.Deletion, Domain.Domain}, transfer.Transfer.Transfer}
+use Rattle.policy.specs.{declared.{days.Period.Period, prices.Prices.Prices}, Rules.{PolicyRules, days_of}}
 use Rattle.policy.specs.declared.days.Period.TheVariants as periods
-use Rattle.policy.specs.declared.prices.Prices.{Prices}
-use Rattle.policy.specs.Rules.{PolicyRules, days_of}
-use Rattle.model.specs.Lapse.{accounts_at, contacts_at, domains_at, lapse as lapse_registry, postings}
-use Rattle.model.specs.Registry.{Registry}
+use Rattle.model.specs.{Lapse.{accounts_at, contacts_at, domains_at, lapse as lapse_registry, postings}, Registry.Registry}
 use Rattle.model.proofs.SweepLemmas.{registry}
 
 -- a period that begins by a moment has one length under both

@@ -1,7 +1,6 @@
 //! What the definitions of a registry, of its lapse and of its money come to.
 ghost use Rattle.model.specs.LapseLaws as spec;
-ghost use Rattle.model.specs.MoneyLaws.{MoneyFollowsOver};
-ghost use Rattle.model.specs.Standards.{RegistriesMeetStandards};
+ghost use Rattle.model.specs.{MoneyLaws.MoneyFollowsOver, Standards.RegistriesMeetStandards};
 
 /// Time may pass in any steps, and some objects may lapse before the others do.
 pub fn time_passes_in_any_steps()

@@ -1,7 +1,6 @@
 -- A superordinate domain is the last two labels of its host.
 use Rattle.std.proofs.Common.{◌≡◌, ℕ, Bool, true, false, List, ◌∷◌, ◌++◌, cond, Option, Some, None, option_map, refl, ap, ◌∙◌}
-use Rattle.std.specs.Str.{bytes_eq}
-use Rattle.std.specs.Cmp.Lexicographic.{bytes_decides}
+use Rattle.std.specs.{Str.bytes_eq, Cmp.Lexicographic.bytes_decides}
 use Rattle.names.specs.Zone.{◌>>=◌, ZoneRules, cut_last, domain_at, last_two_of, superordinate_label, superordinate_of}
 
 last_two : (zone : ZoneRules) (upper lower : List ℕ × List ℕ) (domain : List ℕ) (v : Bool) → bytes_eq upper.1 zone.label ≡ v → option_map (domain_at zone) (cond v (Some lower.1) None) ≡ Some domain

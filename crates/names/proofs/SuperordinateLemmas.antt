@@ -1,24 +1,12 @@
 -- The last labels of a canonical name are a canonical name.
 use Rattle.std.proofs.Common.{◌≡◌, ℕ, ◌<◌, Bool, true, false, not, ◌&&◌, ◌||◌, List, [], ◌∷◌, ◌++◌, cond, Option, Some, None, option_and_then, option_map, All, refl, sym, ap, subst, ◌∙◌, append_assoc, eqb-true}
-use Rattle.std.specs.Char.{is_ascii_uppercase}
-use Rattle.std.specs.List.{list_all, onto_first}
-use Rattle.std.specs.Str.{bytes_eq}
-use Rattle.std.specs.Cmp.Lexicographic.{bytes_decides}
-use Rattle.std.proofs.lemmas.Option.{same_Some}
-use Rattle.std.proofs.lemmas.List.Elements.{All-tail, All-weaker}
-use Rattle.std.proofs.lemmas.List.Folds.{list_any-append, list_all-append}
-use Rattle.idna.specs.declared.deny_list.TheConstants.AsciiDenyList.{STD3}
-use Rattle.idna.specs.declared.options.Hyphens.TheVariants.{Allow}
-use Rattle.idna.specs.declared.options.DnsLength.TheVariants.{Ignore}
-use Rattle.idna.specs.BidiRule.{is_bidi_domain, passes_bidi_rule}
-use Rattle.idna.specs.Display.{IsLowercaseAscii}
-use Rattle.idna.specs.Labels.{is_full_stop, labels_of}
-use Rattle.idna.specs.Uts46.{if_passes, validate, each, process_utf8}
-use Rattle.idna.specs.Validity.{passes_bidi}
-use Rattle.idna.proofs.LabelsLemmas.{labels_of_cons}
-use Rattle.idna.proofs.Uts46Lemmas.{IsOutputByte, All-to_ascii, process_utf8-lowercase, to_ascii-lowercase}
-use Rattle.names.specs.Canonical.{IsStable}
-use Rattle.names.specs.Labels.{is_dot}
+use Rattle.std.proofs.lemmas.{Option.same_Some, List.{Elements.{All-tail, All-weaker}, Folds.{list_any-append, list_all-append}}}
+use Rattle.std.specs.{Char.is_ascii_uppercase, List.{list_all, onto_first}, Str.bytes_eq, Cmp.Lexicographic.bytes_decides}
+use Rattle.idna.specs.declared.{deny_list.TheConstants.AsciiDenyList.STD3, options.Hyphens.TheVariants.Allow}
+use Rattle.idna.specs.{declared.options.DnsLength.TheVariants.Ignore, BidiRule.{is_bidi_domain, passes_bidi_rule}, Display.IsLowercaseAscii}
+use Rattle.idna.specs.{Labels.{is_full_stop, labels_of}, Uts46.{if_passes, validate, each, process_utf8}, Validity.passes_bidi}
+use Rattle.idna.proofs.{LabelsLemmas.labels_of_cons, Uts46Lemmas.{IsOutputByte, All-to_ascii, process_utf8-lowercase, to_ascii-lowercase}}
+use Rattle.names.specs.{Canonical.IsStable, Labels.is_dot}
 use Rattle.names.specs.Zone.{◌>>=◌, ZoneRules, cut_before, cut_last, domain_at, superordinate_label, superordinate_of}
 use Rattle.names.proofs.UnicodeLemmas.{processed}
 

@@ -1,9 +1,7 @@
 -- A canonical name is processed, so it has a form in Unicode.
 use Rattle.std.proofs.Common.{◌≡◌, ℕ, List, Option, Some, None, refl}
-use Rattle.idna.specs.declared.deny_list.TheConstants.AsciiDenyList.{STD3}
-use Rattle.idna.specs.declared.options.Hyphens.TheVariants.{Allow}
-use Rattle.idna.specs.declared.options.DnsLength.TheVariants.{Ignore}
-use Rattle.idna.specs.Uts46.{process_utf8, to_unicode}
+use Rattle.idna.specs.declared.{deny_list.TheConstants.AsciiDenyList.STD3, options.Hyphens.TheVariants.Allow}
+use Rattle.idna.specs.{declared.options.DnsLength.TheVariants.Ignore, Uts46.{process_utf8, to_unicode}}
 use Rattle.idna.proofs.Uts46Lemmas.{to_ascii_idem, to_ascii-invalid}
 use Rattle.names.specs.Canonical.{IsStable, ascii_of, unicode_of}
 

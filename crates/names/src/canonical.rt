@@ -1,10 +1,9 @@
 //! The canonical text of a name.
 ghost use Rattle.std.specs.Prelude.{◌≡◌, true, IfOk, IfErr, string_bytes};
-ghost use Rattle.names.specs.Canonical.{IsStable, canonical, unicode_of};
-ghost use Rattle.names.specs.Canonical as spec;
-ghost use Rattle.names.specs.Labels.{is_label};
-ghost use Rattle.names.specs.Labels as labels;
+ghost use Rattle.names.specs.{Canonical.{IsStable, canonical, unicode_of}, Labels.is_label};
 ghost use Rattle.names.specs.Reading.{Gives, or_syntax};
+ghost use Rattle.names.specs.Canonical as spec;
+ghost use Rattle.names.specs.Labels as labels;
 
 use crate::NameFault;
 use crate::label::{is_label, is_name};

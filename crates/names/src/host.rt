@@ -1,8 +1,6 @@
 //! Host names.
 ghost use Rattle.std.specs.Prelude.{◌≡◌, string_bytes, IfOk, IfErr};
-ghost use Rattle.names.specs.Canonical.{unicode_of};
-ghost use Rattle.names.specs.Names.{host_of};
-ghost use Rattle.names.specs.Reading.{Gives, or_syntax};
+ghost use Rattle.names.specs.{Canonical.unicode_of, Names.host_of, Reading.{Gives, or_syntax}};
 ghost use Rattle.names.specs.Zone.{superordinate_of};
 
 use crate::canonical::{canonical_text, unicode_text};

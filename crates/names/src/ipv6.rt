@@ -1,8 +1,6 @@
 //! The texts of IPv6 addresses (RFC 4291, 2.2).
 ghost use Rattle.std.specs.Prelude.{◌≡◌, ◌<◌, ◌∷◌, [], IfOk, map, string_bytes};
-ghost use Rattle.std.specs.Char.{is_ascii_hexdigit};
-ghost use Rattle.std.specs.List.{list_all};
-ghost use Rattle.std.specs.Option.{option_map};
+ghost use Rattle.std.specs.{Char.is_ascii_hexdigit, List.list_all, Option.option_map};
 ghost use Rattle.names.specs.Ipv6 as spec;
 ghost use Rattle.names.specs.Reading.{Gives};
 

@@ -1,6 +1,5 @@
 //! The rule of names, over names in lower-case ASCII.
-ghost use Rattle.std.specs.Prelude.{◌≡◌, ◌≤◌, length};
-ghost use Rattle.std.specs.List.{list_all};
+ghost use Rattle.std.specs.{Prelude.{◌≡◌, ◌≤◌, length}, List.list_all};
 ghost use Rattle.names.specs.Labels as spec;
 
 /// The most bytes of a label (RFC 1035, 2.3.4).

@@ -1,8 +1,7 @@
 //! A name as a command gives it.
 ghost use Rattle.std.specs.Prelude.{◌≡◌};
-ghost use Rattle.names.specs.Canonical.{IsCanonical, canonical};
+ghost use Rattle.names.specs.{Canonical.{IsCanonical, canonical}, Reading.Gives};
 ghost use Rattle.names.specs.RequestedName as spec;
-ghost use Rattle.names.specs.Reading.{Gives};
 
 use crate::NameFault;
 use crate::canonical::canonical_text;

@@ -1,7 +1,6 @@
 -- Statuses that are shown are those that pass the test of being shown.
-use Rattle.std.proofs.Common.{◌≡◌, ℕ, Bool, true, false, ◌&&◌, filter, refl, sym, ap, ◌∙◌, eqb-true}
+use Rattle.std.proofs.{Common.{◌≡◌, ℕ, Bool, true, false, ◌&&◌, filter, refl, sym, ap, ◌∙◌, eqb-true}, lemmas.Map.Views.any-filter_same}
 use Rattle.std.specs.Prelude.{slice_get, unwrap_or}
-use Rattle.std.proofs.lemmas.Map.Views.{any-filter_same}
 use Rattle.objects.specs.declared.status.Status.{Status}
 use Rattle.objects.specs.declared.status.Status.TheVariants.{ClientDeleteProhibited, ClientHold, ClientRenewProhibited, ClientTransferProhibited, ClientUpdateProhibited, Inactive, Linked, Fine, PendingDelete, PendingTransfer, ServerDeleteProhibited, ServerHold, ServerRenewProhibited, ServerTransferProhibited, ServerUpdateProhibited}
 use Rattle.objects.specs.Statuses.{all_statuses, rank_of, is_status, has_status}

@@ -1,6 +1,5 @@
 //! Contacts (RFC 5733).
-ghost use Rattle.std.specs.Prelude.{◌≡◌, ◌==◌, ◌||◌, IfOk, filter};
-ghost use Rattle.std.specs.Option.{option_copied};
+ghost use Rattle.std.specs.{Prelude.{◌≡◌, ◌==◌, ◌||◌, IfOk, filter}, Option.option_copied};
 ghost use Rattle.objects.specs.Contacts as spec;
 ghost use Rattle.objects.specs.Sight.{is_party, authorizes, contact_as};
 ghost use Rattle.objects.specs.Transfers as transfers;

@@ -1,6 +1,5 @@
 //! Domains (RFC 5731).
-ghost use Rattle.std.specs.Prelude.{◌≡◌, ◌==◌, ◌||◌, IfOk, filter};
-ghost use Rattle.std.specs.Option.{option_copied};
+ghost use Rattle.std.specs.{Prelude.{◌≡◌, ◌==◌, ◌||◌, IfOk, filter}, Option.option_copied};
 ghost use Rattle.objects.specs.Domains.{shown_expiry, shows, shown, face_of};
 ghost use Rattle.objects.specs.Sight.{is_party, authorizes, domain_as};
 ghost use Rattle.objects.specs.Transfers as transfers;

@@ -1,6 +1,5 @@
 //! What one registrar sees of an object.
-ghost use Rattle.std.specs.Prelude.{◌≡◌, ◌||◌};
-ghost use Rattle.std.specs.Option.{option_copied};
+ghost use Rattle.std.specs.{Prelude.{◌≡◌, ◌||◌}, Option.option_copied};
 ghost use Rattle.objects.specs.Sight as spec;
 
 use crate::transfer::Transfer;

@@ -3,8 +3,8 @@
 
 ghost use Rattle.std.specs.Prelude.{◌≡◌, ◌&&◌, ◌||◌, not, filter, IfOk};
 ghost use Rattle.objects.specs.StatusTexts.{status_named, status_text, rgp_text};
-ghost use Rattle.objects.specs.Statuses as spec;
 ghost use Rattle.objects.specs.Statuses.{rank_of, is_status, has_status};
+ghost use Rattle.objects.specs.Statuses as spec;
 
 use crate::roid::ObjectKind;
 use basis::list::Seq;

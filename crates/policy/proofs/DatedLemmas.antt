@@ -1,19 +1,12 @@
 -- Tables of days one after the other.
 use Rattle.std.proofs.Common.{◌≡◌, ℕ, ◌<◌, true, false, nat_lt, List, [], ◌∷◌, ◌++◌, Option, Some, None, Result, Ok, Err, refl, sym, ap, subst, ◌∙◌, append_assoc, arith}
-use Rattle.std.specs.Prelude.{unwrap_or}
-use Rattle.std.specs.List.{AllByRecursion}
-use Rattle.std.specs.Result.{IfOk}
-use Rattle.std.proofs.lemmas.Bool.{and_parts}
-use Rattle.std.proofs.lemmas.Bool.Decides.{nat_tests}
-use Rattle.std.proofs.lemmas.List.{append-nil}
+use Rattle.std.proofs.lemmas.{Bool.{and_parts, Decides.nat_tests}, List.append-nil}
+use Rattle.std.specs.{Prelude.unwrap_or, List.AllByRecursion, Result.IfOk}
 use Rattle.toml.specs.Data.{Data}
-use Rattle.policy.specs.declared.fault.PolicyFault.{PolicyFault}
-use Rattle.policy.specs.declared.fault.PolicyFault.TheVariants as told
-use Rattle.policy.specs.declared.schedule.DatedDays.{DatedDays}
-use Rattle.policy.specs.declared.days.Days.{Days}
+use Rattle.policy.specs.declared.{fault.PolicyFault.PolicyFault, schedule.DatedDays.DatedDays, days.Days.Days}
 use Rattle.policy.specs.declared.days.LengthTable.TheVariants.{Dated}
-use Rattle.policy.specs.Reading.{◌>>=◌, Fails, Gives, begin_after, dated_in, days_in, each_dated, from_of}
-use Rattle.policy.specs.Rules.{BeginAfter}
+use Rattle.policy.specs.{Reading.{◌>>=◌, Fails, Gives, begin_after, dated_in, days_in, each_dated, from_of}, Rules.BeginAfter}
+use Rattle.policy.specs.declared.fault.PolicyFault.TheVariants as told
 use Rattle.policy.proofs.TextLemmas.{with_front}
 
 -- ---- when they begin

@@ -1,11 +1,9 @@
 -- Which document bytes spell.
 use Rattle.std.proofs.Common.{◌≡◌, ℕ, Bool, true, false, List, Some, None, Ok, Err, refl}
-use Rattle.std.specs.Str.{IsUtf8, is_utf8}
 use Rattle.std.proofs.lemmas.Str.{is_utf8-from_IsUtf8, IsUtf8-from_is_utf8}
-use Rattle.toml.specs.Data.{Members}
-use Rattle.toml.specs.Parse.{parse_document}
-use Rattle.policy.specs.declared.fault.PolicyFault.TheVariants.{NotToml}
-use Rattle.policy.specs.Reading.{document_of}
+use Rattle.std.specs.Str.{IsUtf8, is_utf8}
+use Rattle.toml.specs.{Data.Members, Parse.parse_document}
+use Rattle.policy.specs.{declared.fault.PolicyFault.TheVariants.NotToml, Reading.document_of}
 
 pub document_of-text : (bytes : List ℕ) (doc : Members) → IsUtf8 bytes → parse_document bytes ≡ Some doc → document_of bytes ≡ Ok doc
 unfolding document_of

@@ -1,17 +1,11 @@
 -- What the comparison of schedules means, and what it keeps.
 use Rattle.std.proofs.Common.{◌≡◌, ℕ, ◌<◌, ◌≤◌, Bool, true, false, cond, ◌&&◌, nat_le, nat_lt, List, [], ◌∷◌, ◌++◌, drop, length, refl, sym, ap, ◌∙◌, append-nil, arith, length-append}
-use Rattle.std.specs.Prelude.{fold}
-use Rattle.std.specs.Bool.{Decides}
-use Rattle.std.specs.List.{AllByRecursion, list_all, starts_with}
-use Rattle.std.proofs.Math.Seq.{drop-append_seam}
-use Rattle.std.proofs.lemmas.Bool.{and_parts}
-use Rattle.std.proofs.lemmas.Bool.Decides.{Decides-and, Decides-eqb, Decides-like, nat_tests}
+use Rattle.std.proofs.{Math.Seq.drop-append_seam, lemmas.Bool.{and_parts, Decides.{Decides-and, Decides-eqb, Decides-like, nat_tests}}}
 use Rattle.std.proofs.lemmas.Slice.Eq.{starts_is}
-use Rattle.policy.specs.declared.days.Days.{Days}
-use Rattle.policy.specs.declared.days.Period.{Period}
+use Rattle.std.specs.{Prelude.fold, Bool.Decides, List.{AllByRecursion, list_all, starts_with}}
+use Rattle.policy.specs.declared.days.{Days.Days, Period.Period}
 use Rattle.policy.specs.declared.days.Period.TheVariants.{Add, AutoRenew, Renew, Transfer, Redemption, Restore, PendingDelete, Answer, Lock}
-use Rattle.policy.specs.declared.schedule.DatedDays.{DatedDays}
-use Rattle.policy.specs.declared.schedule.Schedule.{Schedule}
+use Rattle.policy.specs.declared.schedule.{DatedDays.DatedDays, Schedule.Schedule}
 use Rattle.policy.specs.Rules.{AreDays, IsDayCount, IsSchedule, in_force, length_of, then_by}
 use Rattle.policy.specs.Terms.{DaysContinue, begins_after, days_continue, same_days, same_table}
 

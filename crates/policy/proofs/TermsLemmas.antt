@@ -1,14 +1,9 @@
 -- What the comparison of terms means.
-use Rattle.std.proofs.Common.{◌≡◌, ℕ, List, ◌++◌, drop, length, refl, ap}
-use Rattle.std.specs.Bool.{Decides}
-use Rattle.std.specs.Str.{bytes_eq}
-use Rattle.std.proofs.lemmas.Bool.Decides.{Decides-and, Decides-eqb, Decides-like}
+use Rattle.std.proofs.{Common.{◌≡◌, ℕ, List, ◌++◌, drop, length, refl, ap}, lemmas.Bool.Decides.{Decides-and, Decides-eqb, Decides-like}}
 use Rattle.std.proofs.lemmas.Slice.Eq.{bytes_eq-Decides, starts_is}
-use Rattle.std.specs.List.{starts_with}
+use Rattle.std.specs.{Bool.Decides, Str.bytes_eq, List.starts_with}
 use Rattle.basis.proofs.SetLemmas.{same_set-Decides}
-use Rattle.policy.specs.declared.prices.Prices.{Prices}
-use Rattle.policy.specs.declared.terms.Terms.{Terms}
-use Rattle.policy.specs.Terms.{continues, Continues, same_prices}
+use Rattle.policy.specs.{declared.{prices.Prices.Prices, terms.Terms.Terms}, Terms.{continues, Continues, same_prices}}
 use Rattle.policy.proofs.ScheduleLemmas.{days-continue-Decides}
 
 prices-same : (a b c a' b' c' : ℕ) → a ≡ a' → b ≡ b' → c ≡ c' → let x : Prices = record { create = a; renew = b; transfer = c } in let y : Prices = record { create = a'; renew = b'; transfer = c' } in x ≡ y

@@ -1,18 +1,12 @@
 -- Reading the entries of a list one after the other.
 use Rattle.std.proofs.Common.{◌≡◌, Bool, true, false, ◌||◌, ◌&&◌, ℕ, suc, ◌+◌, ◌<◌, List, [], ◌∷◌, ◌++◌, map, length, take, drop, get_or, ◌-◌, Some, None, Result, Ok, Err, refl, sym, ap, ◌∙◌, append_assoc, arith}
 use Rattle.std.proofs.lemmas.List.{append-nil, drop_more, take_all, length-drop}
-use Rattle.std.specs.Cmp.Lexicographic.{nat_list_eq_equiv}
-use Rattle.std.specs.List.{AllByRecursion, IsDistinct, list_all, list_any}
-use Rattle.names.specs.Labels.{is_label}
-use Rattle.names.specs.Canonical.{reads_as_itself}
-use Rattle.std.specs.Str.{bytes_eq}
-use Rattle.toml.specs.Data.{Data}
-use Rattle.toml.specs.View.{items_of, view}
-use Rattle.toml.specs.declared.value.Value.{Value}
-use Rattle.policy.specs.declared.key.Key.{Key}
-use Rattle.policy.specs.declared.fault.PolicyFault.{PolicyFault}
-use Rattle.policy.specs.declared.fault.PolicyFault.TheVariants as told
+use Rattle.std.specs.{Cmp.Lexicographic.nat_list_eq_equiv, List.{AllByRecursion, IsDistinct, list_all, list_any}, Str.bytes_eq}
+use Rattle.names.specs.{Labels.is_label, Canonical.reads_as_itself}
+use Rattle.toml.specs.{Data.Data, View.{items_of, view}, declared.value.Value.Value}
+use Rattle.policy.specs.declared.{key.Key.Key, fault.PolicyFault.PolicyFault}
 use Rattle.policy.specs.Reading.{first_twice, ◌>>=◌, Fails, as_text, text_in, texts_in, values_of}
+use Rattle.policy.specs.declared.fault.PolicyFault.TheVariants as told
 
 pub values_of-items_of : (ds : List Data) → values_of (items_of ds) ≡ ds
 values_of-items_of [] = refl

@@ -1,10 +1,8 @@
 //! Tables of lengths that are in force from a moment on.
-ghost use Rattle.std.specs.Prelude.{◌≡◌, true, map, IfOk};
-ghost use Rattle.std.specs.List.{AllByRecursion, list_all};
+ghost use Rattle.std.specs.{Prelude.{◌≡◌, true, map, IfOk}, List.{AllByRecursion, list_all}};
 ghost use Rattle.toml.specs.View.{view, table_view};
 ghost use Rattle.policy.specs.Reading as spec;
-ghost use Rattle.policy.specs.Reading.{Gives};
-ghost use Rattle.policy.specs.Rules.{AreDays, BeginAfter, IsSchedule};
+ghost use Rattle.policy.specs.{Reading.Gives, Rules.{AreDays, BeginAfter, IsSchedule}};
 
 use crate::days::{LengthTable, days_at, days_in, has_count};
 use crate::document::{any_lacks, as_values, get};

@@ -2,8 +2,7 @@
 ghost use Rattle.std.specs.Prelude.{◌≡◌, IfOk, IfSome};
 ghost use Rattle.toml.specs.View.{view, table_view};
 ghost use Rattle.policy.specs.Reading as spec;
-ghost use Rattle.policy.specs.Reading.{Gives};
-ghost use Rattle.policy.specs.Rules.{AreDays, IsDayCount, length_of};
+ghost use Rattle.policy.specs.{Reading.Gives, Rules.{AreDays, IsDayCount, length_of}};
 
 use crate::document::{get, lacks};
 use crate::{Key, PolicyFault};

@@ -1,8 +1,6 @@
 //! The values at the keys of the document.
-ghost use Rattle.std.specs.Prelude.{◌≡◌, ◌≤◌, IfOk, map, option_map};
-ghost use Rattle.std.specs.List.{list_any};
-ghost use Rattle.toml.specs.Data.{as_array, get_member};
-ghost use Rattle.toml.specs.View.{view, table_view};
+ghost use Rattle.std.specs.{Prelude.{◌≡◌, ◌≤◌, IfOk, map, option_map}, List.list_any};
+ghost use Rattle.toml.specs.{Data.{as_array, get_member}, View.{view, table_view}};
 ghost use Rattle.policy.specs.Reading as spec;
 ghost use Rattle.policy.specs.Reading.{Gives};
 

@@ -2,8 +2,7 @@
 ghost use Rattle.std.specs.Prelude.{IfOk};
 ghost use Rattle.toml.specs.View.{table_view};
 ghost use Rattle.policy.specs.Reading as spec;
-ghost use Rattle.policy.specs.Reading.{Gives};
-ghost use Rattle.policy.specs.Rules.{ArePrices, IsPrice};
+ghost use Rattle.policy.specs.{Reading.Gives, Rules.{ArePrices, IsPrice}};
 
 use crate::document::whole_at;
 use crate::{Key, PolicyFault};

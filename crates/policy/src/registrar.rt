@@ -1,11 +1,9 @@
 //! The registrars that may log in.
 ghost use Rattle.std.specs.Prelude.{◌≡◌, ◌+◌, ◌<◌, length, map, position, option_copied, IfOk, IfSome};
-ghost use Rattle.std.specs.List.{IsDistinct, list_any};
-ghost use Rattle.std.specs.Str.{bytes_eq};
+ghost use Rattle.std.specs.{List.{IsDistinct, list_any}, Str.bytes_eq};
 ghost use Rattle.toml.specs.View.{view, table_view};
 ghost use Rattle.policy.specs.Reading as spec;
-ghost use Rattle.policy.specs.Reading.{Gives};
-ghost use Rattle.policy.specs.Rules.{IsRegistrarCount, has_id};
+ghost use Rattle.policy.specs.{Reading.Gives, Rules.{IsRegistrarCount, has_id}};
 
 use crate::document::{any_lacks, as_values, get};
 use crate::texts::texts_in;

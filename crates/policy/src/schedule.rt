@@ -1,6 +1,5 @@
 //! Lengths of periods over time.
-ghost use Rattle.std.specs.Prelude.{◌≡◌, drop, true};
-ghost use Rattle.std.specs.List.{list_all};
+ghost use Rattle.std.specs.{Prelude.{◌≡◌, drop, true}, List.list_all};
 ghost use Rattle.policy.specs.Rules.{in_force};
 ghost use Rattle.policy.specs.Terms as spec;
 

@@ -2,8 +2,7 @@
 ghost use Rattle.std.specs.Prelude.{IfOk};
 ghost use Rattle.toml.specs.View.{table_view};
 ghost use Rattle.policy.specs.Reading as spec;
-ghost use Rattle.policy.specs.Reading.{Gives};
-ghost use Rattle.policy.specs.Rules.{AreTimes, IsTime};
+ghost use Rattle.policy.specs.{Reading.Gives, Rules.{AreTimes, IsTime}};
 
 use crate::document::whole_at;
 use crate::texts::text_at;

@@ -1,6 +1,5 @@
 //! The texts of the policy file.
-ghost use Rattle.std.specs.Prelude.{◌≡◌, true, length, map, option_map, IfOk};
-ghost use Rattle.std.specs.List.{list_all};
+ghost use Rattle.std.specs.{Prelude.{◌≡◌, true, length, map, option_map, IfOk}, List.list_all};
 ghost use Rattle.toml.specs.View.{view, table_view};
 ghost use Rattle.policy.specs.Reading as spec;
 ghost use Rattle.policy.specs.Reading.{Gives};

@@ -1,6 +1,5 @@
 //! What a registrar asks.
-ghost use Rattle.std.specs.Prelude.{◌≡◌, [], None, Some, false};
-ghost use Rattle.std.specs.Option.{option_copied};
+ghost use Rattle.std.specs.{Prelude.{◌≡◌, [], None, Some, false}, Option.option_copied};
 ghost use Rattle.protocol.specs.Requests as spec;
 
 use crate::form::FormFault;

@@ -1,19 +1,12 @@
 -- The forms of the requests that do one action: what each form has, each such request has.
 use Rattle.std.proofs.Common.{◌≡◌, ℕ, List, Option, sym, subst}
 use Rattle.names.specs.RequestedName.{RequestedName}
-use Rattle.protocol.specs.declared.command.Action.{Action}
-use Rattle.protocol.specs.declared.command.Action.TheVariants as actions
-use Rattle.protocol.specs.declared.command.ContactUpdate.{ContactUpdate}
-use Rattle.protocol.specs.declared.command.DomainUpdate.{DomainUpdate}
-use Rattle.protocol.specs.declared.command.HostUpdate.{HostUpdate}
-use Rattle.protocol.specs.declared.command.NewContact.{NewContact}
-use Rattle.protocol.specs.declared.command.NewDomain.{NewDomain}
-use Rattle.protocol.specs.declared.command.NewHost.{NewHost}
-use Rattle.protocol.specs.declared.command.Request.{Request}
+use Rattle.protocol.specs.declared.command.{Action.Action, ContactUpdate.ContactUpdate, DomainUpdate.DomainUpdate, HostUpdate.HostUpdate}
+use Rattle.protocol.specs.declared.command.{NewContact.NewContact, NewDomain.NewDomain, NewHost.NewHost, Request.Request}
 use Rattle.protocol.specs.declared.command.Request.TheVariants.{Logout, Balance, CheckContact, CheckDomain, CheckHost, InfoContact, InfoDomain, InfoHost, CreateContact, CreateDomain, CreateHost, DeleteContact, DeleteDomain, DeleteHost, UpdateContact, UpdateDomain, UpdateHost, RenewDomain, RequestRestore, ReportRestore, TransferContact, TransferDomain, PollRequest, PollAck}
-use Rattle.protocol.specs.declared.transfer.TransferOp.{TransferOp}
+use Rattle.protocol.specs.{declared.transfer.TransferOp.TransferOp, Requests.{asks_of, transfer_action}}
+use Rattle.protocol.specs.declared.command.Action.TheVariants as actions
 use Rattle.protocol.specs.declared.transfer.TransferOp.TheVariants as ops
-use Rattle.protocol.specs.Requests.{asks_of, transfer_action}
 
 abbrev OfTransfers : (Request → Type 0) → TransferOp → Type 0
 OfTransfers P op =

@@ -1,18 +1,13 @@
 -- A row that holds breaks the law of its cause.
 use Rattle.std.specs.List.{AllByRecursion}
 use Rattle.std.proofs.Common.{◌≡◌, ℕ, Bool, true, false, inl, inr, List, [], ◌∷◌, Option, Some, None, refl, ◌<◌, not, ◌&&◌, ◌||◌, nat_lt, ℤ, pos, int_lt, ◌≤ℤ◌, is_none, is_some, subst, arith, zero, suc}
-use Rattle.std.proofs.lemmas.Bool.{and_right, false_from_ne_true, not_from_true}
-use Rattle.std.proofs.lemmas.Int.{ints}
+use Rattle.std.proofs.lemmas.{Bool.{and_right, false_from_ne_true, not_from_true}, Int.ints}
 use Rattle.policy.specs.Rules.{PolicyRules}
 use Rattle.facts.specs.declared.facts.Facts.{Facts}
 use Rattle.protocol.specs.declared.command.Request.TheVariants.{InfoContact, InfoDomain, InfoHost, CreateContact, CreateDomain, CreateHost, DeleteContact, DeleteDomain, DeleteHost, UpdateContact, UpdateDomain, UpdateHost, RenewDomain, RequestRestore, ReportRestore, TransferContact, TransferDomain, PollAck}
 use Rattle.protocol.specs.declared.command.Request.{Request}
 use Rattle.protocol.specs.declared.transfer.TransferOp.TheVariants as ops
-use Rattle.rules.specs.Causes.{cause_of}
-use Rattle.rules.specs.Conditions.{holds}
-use Rattle.rules.specs.Laws.{KeepsLaw}
-use Rattle.rules.specs.Rules.{table_of}
-use Rattle.rules.specs.declared.rules.Condition.{Condition}
+use Rattle.rules.specs.{Causes.cause_of, Conditions.holds, Laws.KeepsLaw, Rules.table_of, declared.rules.Condition.Condition}
 use Rattle.rules.proofs.RowLemmas.{StandsIn}
 
 not-none : {A : Type 0} (o : Option A) → is_some o ≡ true → is_none o ≡ false

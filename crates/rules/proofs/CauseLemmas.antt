@@ -1,27 +1,22 @@
 -- The law of each cause, from the rows that stand for it in the tables.
 use Rattle.std.proofs.Common.{◌≡◌, ℕ, Bool, true, false, ◌⊎◌, inl, inr, List, Option, Some, None, refl, sym, ◌∙◌, ◌<◌, not, ◌&&◌, ◌||◌, is_none, is_some, ◌≢◌, nat_lt, ℤ, pos, int_lt, ◌≤ℤ◌, subst, arith}
-use Rattle.std.proofs.lemmas.Bool.{and_cases, lt-ltb}
-use Rattle.std.proofs.lemmas.Int.{ints}
+use Rattle.std.proofs.lemmas.{Bool.{and_cases, lt-ltb}, Int.ints}
 use Rattle.policy.specs.Rules.{PolicyRules}
 use Rattle.facts.specs.declared.facts.Facts.{Facts}
 use Rattle.objects.specs.declared.grace.Phase.TheVariants.{Redemption, Restoring}
 use Rattle.objects.specs.declared.status.Status.TheVariants.{ClientDeleteProhibited, ClientRenewProhibited, ClientTransferProhibited, ClientUpdateProhibited, PendingDelete, PendingTransfer, ServerDeleteProhibited, ServerRenewProhibited, ServerTransferProhibited, ServerUpdateProhibited}
-use Rattle.protocol.specs.Requests.{asks_of}
-use Rattle.protocol.specs.declared.command.Action.{Action}
-use Rattle.protocol.specs.declared.command.Action.TheVariants as actions
+use Rattle.protocol.specs.{Requests.asks_of, declared.command.Action.Action}
 use Rattle.protocol.specs.declared.command.Request.TheVariants.{CreateDomain, CreateHost, DeleteDomain, UpdateContact, UpdateDomain, UpdateHost, RenewDomain, ReportRestore, TransferContact, TransferDomain}
 use Rattle.protocol.specs.declared.command.Request.{Request}
+use Rattle.protocol.specs.declared.command.Action.TheVariants as actions
 use Rattle.protocol.specs.declared.transfer.TransferOp.TheVariants as ops
-use Rattle.rules.specs.Causes.{cause_of}
-use Rattle.rules.specs.Charges.{charge_of}
-use Rattle.rules.specs.Conditions.{holds, is_involved, presents_secret}
+use Rattle.rules.specs.{Causes.cause_of, Charges.charge_of, Conditions.{holds, is_involved, presents_secret}}
 use Rattle.rules.specs.Laws.{ActsOnObject, AltersObject, EndsTransfer, NamesAreKept, NothingExists, NothingIsMissing, IsEntitled, SecretIsRight, NoTransferIsPending, TransferIsThere, NoStatusProhibits, NoAssociationProhibits, IsRenewable, IsTransferable, ParametersFit, HoldsNoMore, IsPaid}
 use Rattle.rules.specs.Rules.{table_of}
 use Rattle.rules.specs.declared.refusal.Cause.TheVariants.{NamesRefused, Exists, Missing, NotSponsor, WrongSecret, TransferPends, NoTransferPends, StatusProhibits, AssociationProhibits, NotRenewable, NotTransferable, ParametersRefused, LimitReached, BillingFailure}
 use Rattle.rules.specs.declared.rules.Condition.{Condition}
 use Rattle.rules.specs.declared.rules.Condition.TheVariants.{NameIsRefused, ListRepeats, IsThere, IsMissing, ReferenceIsMissing, NewNameIsTaken, SuperordinateIsMissing, IsAnothers, SuperordinateIsAnothers, SecretIsWrong, Shows, StillShows, SuperordinateIsDeleted, IsLinked, HasSubordinates, AddsWhatIsThere, RemovesWhatIsNot, LeavesTooMany, LeavesAddressesOutside, IsAtHoldingLimit, PassesTenYears, ExpiresOtherwise, IsNotIn, ReportDiffers, IsNotOldest, LacksMoney, SecretIsNotRight, IsStranger, StrangersSecretIsWrong, IsNotRequester, HasNoTransfer, IsPending, IsNotPending, IsOwn, IsLocked}
-use Rattle.rules.proofs.ActionLemmas.{OfEach, of-action, of-each}
-use Rattle.rules.proofs.RowLemmas.{Clear, StandsIn}
+use Rattle.rules.proofs.{ActionLemmas.{OfEach, of-action, of-each}, RowLemmas.{Clear, StandsIn}}
 
 there-is : (b : Bool) → not b ≡ false → b ≡ true
 there-is true e = refl

@@ -1,44 +1,25 @@
 -- The laws that a verdict keeps.
 use Rattle.std.proofs.Common.{◌≡◌, ℕ, Bool, true, false, List, Option, Some, None, option_map, find, refl, sym, ap, ◌∙◌, not, ◌&&◌, ◌||◌, is_some, option_and_then, Result, Ok, Err, IfOk, subst, if◌then◌else◌}
 use Rattle.policy.specs.Rules.{PolicyRules}
-use Rattle.facts.specs.Facts.{domain_seen}
-use Rattle.facts.specs.declared.facts.Facts.{Facts}
-use Rattle.facts.specs.declared.facts.OldestMessage.{OldestMessage}
+use Rattle.facts.specs.{Facts.domain_seen, declared.facts.{Facts.Facts, OldestMessage.OldestMessage}}
 use Rattle.lifecycle.specs.Turns.{turns}
 use Rattle.lifecycle.proofs.TurnLaws.{AreTurns, turns-are}
 use Rattle.names.specs.RequestedName.{name_of}
-use Rattle.objects.specs.declared.domain.Domain.{Domain}
-use Rattle.objects.specs.declared.domain.DomainFace.{DomainFace}
-use Rattle.objects.specs.declared.domain.FullDomain.{FullDomain}
-use Rattle.objects.specs.declared.sight.Seen.TheVariants.{Full, TransferParty, Public}
-use Rattle.objects.specs.declared.sight.Seen.{Seen}
-use Rattle.protocol.specs.Codes.{is_accepted}
-use Rattle.protocol.specs.Requests.{asks_of}
-use Rattle.protocol.specs.declared.code.Code.TheVariants.{Completed, CompletedActionPending}
-use Rattle.protocol.specs.declared.code.Code.{Code}
-use Rattle.protocol.specs.declared.command.Action.TheVariants as actions
-use Rattle.protocol.specs.declared.command.Command.TheVariants.{Bad, Asked}
-use Rattle.protocol.specs.declared.command.Command.{Command}
-use Rattle.protocol.specs.declared.command.Request.TheVariants.{DeleteDomain, TransferContact, TransferDomain, PollRequest}
-use Rattle.protocol.specs.declared.command.Request.{Request}
-use Rattle.protocol.specs.declared.transfer.TransferOp.TheVariants as ops
+use Rattle.objects.specs.declared.domain.{Domain.Domain, DomainFace.DomainFace, FullDomain.FullDomain}
+use Rattle.objects.specs.declared.sight.Seen.{TheVariants.{Full, TransferParty, Public}, Seen}
+use Rattle.protocol.specs.{Codes.is_accepted, Requests.asks_of, declared.code.Code.{TheVariants.{Completed, CompletedActionPending}, Code}}
+use Rattle.protocol.specs.declared.command.Command.{TheVariants.{Bad, Asked}, Command}
+use Rattle.protocol.specs.declared.command.Request.{TheVariants.{DeleteDomain, TransferContact, TransferDomain, PollRequest}, Request}
 use Rattle.protocol.specs.declared.transfer.TransferOp.{TransferOp}
-use Rattle.rules.specs.Causes.{cause_of}
-use Rattle.rules.specs.Charges.{years_charged, years_needed}
-use Rattle.rules.specs.Conditions.{holds, domain_in_full, full_domain}
-use Rattle.rules.specs.Deletion.{goes_at_once}
-use Rattle.rules.specs.Laws.{AnswersLawfully, KeepsLaws, SecretIsRight, KeepsLaw}
-use Rattle.rules.specs.Poll.{code_of_poll}
-use Rattle.rules.specs.Refusals.{code_of, first_refusal}
-use Rattle.rules.specs.Rules.{table_of}
-use Rattle.rules.specs.Transfers.{code_of_transfer}
+use Rattle.protocol.specs.declared.command.Action.TheVariants as actions
+use Rattle.protocol.specs.declared.transfer.TransferOp.TheVariants as ops
+use Rattle.rules.specs.{Causes.cause_of, Charges.{years_charged, years_needed}, Conditions.{holds, domain_in_full, full_domain}}
+use Rattle.rules.specs.{Deletion.goes_at_once, Laws.{AnswersLawfully, KeepsLaws, SecretIsRight, KeepsLaw}, Poll.code_of_poll}
+use Rattle.rules.specs.{Refusals.{code_of, first_refusal}, Rules.table_of, Transfers.code_of_transfer}
 use Rattle.rules.specs.Verdicts.{granted, judged, unless_refused, code_granted}
 use Rattle.rules.specs.declared.refusal.Cause.TheVariants.{NamesRefused, Exists, Missing, NotSponsor, WrongSecret, TransferPends, NoTransferPends, StatusProhibits, AssociationProhibits, NotRenewable, NotTransferable, ParametersRefused, LimitReached, BillingFailure}
-use Rattle.rules.specs.declared.refusal.Cause.{Cause}
-use Rattle.rules.specs.declared.rules.Condition.{Condition}
-use Rattle.rules.specs.declared.verdict.Verdict.{Verdict}
-use Rattle.rules.proofs.ActionLemmas.{of-action}
-use Rattle.rules.proofs.BreachLemmas.{breaks}
+use Rattle.rules.specs.declared.{refusal.Cause.Cause, rules.Condition.Condition, verdict.Verdict.Verdict}
+use Rattle.rules.proofs.{ActionLemmas.of-action, BreachLemmas.breaks}
 use Rattle.rules.proofs.CauseLemmas.{names-kept, nothing-exists, nothing-missing, entitled, secret-right, no-transfer, transfer-there, no-status, no-association, renewable, transferable, parameters-fit, holds-no-more, paid}
 use Rattle.rules.proofs.RowLemmas.{Clear, StandsIn, clear-of-none, clear-before, found, never-accepted}
 

@@ -1,21 +1,15 @@
 -- The laws that the answer to an order keeps.
 use Rattle.std.proofs.Common.{◌≡◌, Bool, true, false, inl, inr, Option, Some, None, option_map, unwrap_or, find, refl, sym, ◌∙◌, ◌<◌, ◌&&◌, ◌||◌, is_none, is_some, subst}
-use Rattle.model.specs.declared.object.Object.{Object}
+use Rattle.model.specs.{declared.object.Object.Object, Objects.statuses_of}
 use Rattle.model.specs.declared.object.Object.TheVariants as objects
-use Rattle.model.specs.Objects.{statuses_of}
-use Rattle.protocol.specs.declared.code.Code.{Code}
+use Rattle.protocol.specs.{declared.{code.Code.Code, order.StatusOrder.StatusOrder}, Requests.holds_of}
 use Rattle.protocol.specs.declared.code.Code.TheVariants as codes
-use Rattle.protocol.specs.declared.order.StatusOrder.{StatusOrder}
-use Rattle.protocol.specs.Requests.{holds_of}
-use Rattle.rules.specs.Causes.{cause_of_order}
-use Rattle.rules.specs.Conditions.{any_set, any_unset}
+use Rattle.rules.specs.{Causes.cause_of_order, Conditions.{any_set, any_unset}}
 use Rattle.rules.specs.OrderLaws.{AnswersOrderLawfully, FitsWhatPends, KeepsOrder, KeepsOrderLaws}
-use Rattle.rules.specs.Orders.{contradicts_pending_state, order_code, order_holds}
-use Rattle.rules.specs.Refusals.{code_of, first_refusal, place_of}
+use Rattle.rules.specs.{Orders.{contradicts_pending_state, order_code, order_holds}, Refusals.{code_of, first_refusal, place_of}}
 use Rattle.rules.specs.declared.order.OrderCondition.{OrderCondition}
 use Rattle.rules.specs.declared.order.OrderCondition.TheVariants.{IsMissing, ContradictsPendingState, HasUnknownStatus, HasAnothersStatus, ListRepeats, AddsWhatIsSet, RemovesWhatIsUnset}
-use Rattle.rules.specs.declared.order.TheConstants.{STATUS_ORDER}
-use Rattle.rules.specs.declared.refusal.Cause.{Cause}
+use Rattle.rules.specs.declared.{order.TheConstants.STATUS_ORDER, refusal.Cause.Cause}
 use Rattle.rules.specs.declared.refusal.Cause.TheVariants.{Missing, StatusProhibits, ParametersRefused}
 use Rattle.rules.proofs.RowLemmas.{StandsIn, earlier, found, never-accepted, unfound}
 

@@ -1,6 +1,5 @@
 -- A sum of years that no number of 32 bits holds lies past the last moment.
-use Rattle.std.proofs.Common.{◌≡◌, ℕ, ◌-◌, ◌^◌, min, ap, inl, inr, arith}
-use Rattle.std.proofs.lemmas.Bool.{cases_lt}
+use Rattle.std.proofs.{Common.{◌≡◌, ℕ, ◌-◌, ◌^◌, min, ap, inl, inr, arith}, lemmas.Bool.cases_lt}
 use Rattle.calendar.specs.Moment.{capped, plus_years}
 use Rattle.calendar.proofs.YearLaws.{plus_years-grows}
 

@@ -1,21 +1,13 @@
 -- The rows of a table that hold, and those that stand before the first.
 use Rattle.std.proofs.Common.{◌≡◌, ℕ, Bool, true, false, cond, ◌⊎◌, inl, inr, List, [], ◌∷◌, Option, Some, None, option_map, find, refl, sym, ap, ◌∙◌, ◌<◌, subst, arith, ◌≤◌, le_trans, le_of_eq}
-use Rattle.std.proofs.lemmas.Bool.{and_parts, leb-true}
-use Rattle.std.proofs.lemmas.Option.{same_Some}
+use Rattle.std.proofs.lemmas.{Bool.{and_parts, leb-true}, Option.same_Some}
 use Rattle.policy.specs.Rules.{PolicyRules}
 use Rattle.facts.specs.declared.facts.Facts.{Facts}
-use Rattle.protocol.specs.Codes.{is_accepted}
-use Rattle.protocol.specs.declared.code.Code.{Code}
-use Rattle.protocol.specs.declared.command.Request.TheVariants.{TransferContact, TransferDomain}
+use Rattle.protocol.specs.{Codes.is_accepted, declared.{code.Code.Code, command.Request.TheVariants.{TransferContact, TransferDomain}}}
 use Rattle.protocol.specs.declared.command.Request.{Request}
 use Rattle.protocol.specs.declared.transfer.TransferOp.TheVariants as ops
-use Rattle.rules.specs.Causes.{cause_of}
-use Rattle.rules.specs.Conditions.{holds}
-use Rattle.rules.specs.Refusals.{code_of, first_refusal, in_order, in_order_from, place_of}
-use Rattle.rules.specs.Rules.{refusal_of, table_of}
-use Rattle.rules.specs.declared.refusal.Cause.TheVariants.{NamesRefused}
-use Rattle.rules.specs.declared.refusal.Cause.{Cause}
-use Rattle.rules.specs.declared.rules.Condition.{Condition}
+use Rattle.rules.specs.{Causes.cause_of, Conditions.holds, Refusals.{code_of, first_refusal, in_order, in_order_from, place_of}}
+use Rattle.rules.specs.{Rules.{refusal_of, table_of}, declared.{refusal.Cause.{TheVariants.NamesRefused, Cause}, rules.Condition.Condition}}
 
 -- the condition stands in the table
 abbrev pub StandsIn : {C : Type 0} → List C → C → Type 0

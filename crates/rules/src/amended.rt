@@ -1,6 +1,5 @@
 //! The conditions on the names and lists of a command, and on what they would make of its object.
-ghost use Rattle.std.specs.Prelude.{◌≡◌};
-ghost use Rattle.std.specs.List.{list_any};
+ghost use Rattle.std.specs.{Prelude.◌≡◌, List.list_any};
 ghost use Rattle.protocol.specs.Requests.{lists_of};
 ghost use Rattle.rules.specs.Conditions as spec;
 ghost use Rattle.rules.specs.inner.Cases.{is_met};

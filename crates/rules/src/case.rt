@@ -1,6 +1,5 @@
 //! A command with the facts that bear on it, and the conditions that hold of the two.
-ghost use Rattle.std.specs.Prelude.{◌≡◌, find, option_and_then};
-ghost use Rattle.std.specs.Option.{option_copied};
+ghost use Rattle.std.specs.{Prelude.{◌≡◌, find, option_and_then}, Option.option_copied};
 ghost use Rattle.protocol.specs.Requests as requests;
 ghost use Rattle.rules.specs.Conditions as spec;
 ghost use Rattle.rules.specs.inner.Cases as words;

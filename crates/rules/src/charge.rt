@@ -1,6 +1,5 @@
 //! What commands cost.
-ghost use Rattle.std.specs.Prelude.{◌≡◌};
-ghost use Rattle.std.specs.Option.{option_copied};
+ghost use Rattle.std.specs.{Prelude.◌≡◌, Option.option_copied};
 ghost use Rattle.rules.specs.Charges as spec;
 
 use calendar::Moment;

@@ -1,7 +1,6 @@
 //! The conditions on who sponsors what is seen, on the superordinate domain of a host that is to
 //! have a name, and on the statuses that are shown.
-ghost use Rattle.std.specs.Prelude.{◌≡◌};
-ghost use Rattle.std.specs.Option.{option_copied};
+ghost use Rattle.std.specs.{Prelude.◌≡◌, Option.option_copied};
 ghost use Rattle.facts.specs.Facts.{host_sponsor};
 ghost use Rattle.rules.specs.Conditions as spec;
 ghost use Rattle.rules.specs.inner.Cases.{is_met};

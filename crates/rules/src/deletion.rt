@@ -1,6 +1,5 @@
 //! How the deletion of a domain is answered (RFC 5731, 3.2.2; RFC 3915, 3.1).
-ghost use Rattle.std.specs.Prelude.{◌≡◌, IfOk};
-ghost use Rattle.std.specs.Option.{option_copied};
+ghost use Rattle.std.specs.{Prelude.{◌≡◌, IfOk}, Option.option_copied};
 ghost use Rattle.rules.specs.Deletion as spec;
 ghost use Rattle.rules.specs.Verdicts.{code_granted};
 ghost use Rattle.rules.specs.inner.KnownData as known_data;

@@ -1,8 +1,6 @@
 //! What the operator's orders are answered.
-ghost use Rattle.std.specs.Prelude.{◌≡◌};
-ghost use Rattle.std.specs.Option.{option_copied};
-ghost use Rattle.rules.specs.Causes.{cause_of_order};
-ghost use Rattle.rules.specs.OrderLaws.{AnswersOrderLawfully};
+ghost use Rattle.std.specs.{Prelude.◌≡◌, Option.option_copied};
+ghost use Rattle.rules.specs.{Causes.cause_of_order, OrderLaws.AnswersOrderLawfully};
 ghost use Rattle.rules.specs.Orders as spec;
 ghost use Rattle.rules.specs.inner.Cases as words;
 

@@ -1,6 +1,5 @@
 //! What a renewal would make of a domain, and the conditions on it (RFC 5731, 3.2.3).
-ghost use Rattle.std.specs.Prelude.{◌≡◌};
-ghost use Rattle.std.specs.Option.{option_copied};
+ghost use Rattle.std.specs.{Prelude.◌≡◌, Option.option_copied};
 ghost use Rattle.calendar.specs.Moment.{capped};
 ghost use Rattle.rules.specs.Conditions as spec;
 ghost use Rattle.rules.specs.inner.Cases as words;

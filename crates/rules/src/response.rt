@@ -1,6 +1,5 @@
 //! The data of an accepted command.
-ghost use Rattle.std.specs.Prelude.{◌≡◌, IfOk, map, option_map, unwrap_or};
-ghost use Rattle.std.specs.Option.{option_copied};
+ghost use Rattle.std.specs.{Prelude.{◌≡◌, IfOk, map, option_map, unwrap_or}, Option.option_copied};
 ghost use Rattle.rules.specs.ResponseData as spec;
 ghost use Rattle.rules.specs.inner.KnownData.{
   contact_data,

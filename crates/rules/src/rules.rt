@@ -2,8 +2,7 @@
 //! it is (RFC 5730, 3), and the conditions of a table are in the order of their causes: the
 //! first that holds answers.
 ghost use Rattle.std.specs.Prelude.{◌≡◌, IsTrue};
-ghost use Rattle.rules.specs.Causes.{cause_of};
-ghost use Rattle.rules.specs.Refusals.{in_order};
+ghost use Rattle.rules.specs.{Causes.cause_of, Refusals.in_order};
 ghost use Rattle.rules.specs.Rules as spec;
 
 use crate::refusal::Cause;

@@ -5,8 +5,8 @@ ghost use Rattle.std.specs.Option.{option_copied};
 ghost use Rattle.lifecycle.specs.Transfers.{ended};
 ghost use Rattle.rules.specs.Conditions as conditions;
 ghost use Rattle.rules.specs.ResponseData.{transferred_data};
-ghost use Rattle.rules.specs.Transfers as spec;
 ghost use Rattle.rules.specs.inner.Cases.{in_case, is_named, of_caller};
+ghost use Rattle.rules.specs.Transfers as spec;
 
 use crate::case::{Case, full_domain};
 use crate::conditions::{Faced, Sponsored, is_authorized, is_sponsored};

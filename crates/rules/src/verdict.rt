@@ -1,7 +1,6 @@
 //! The verdict on a command: the code and the data of its reply.
 ghost use Rattle.std.specs.Prelude.{◌≡◌, IfOk, None};
-ghost use Rattle.rules.specs.Laws.{AnswersLawfully};
-ghost use Rattle.rules.specs.Verdicts.{judged};
+ghost use Rattle.rules.specs.{Laws.AnswersLawfully, Verdicts.judged};
 ghost use Rattle.rules.specs.inner.KnownData.{answer_in, grant_in};
 
 use crate::case::Case;

@@ -1,14 +1,26 @@
 -- The accounts that rows of the tables mean.
 use Rattle.std.specs.Prelude.{◌&&◌, ℕ, ℤ, pos, Bool, true, List, [], ◌∷◌, ◌++◌, fold, length, codes, decimal, Option}
-use Rattle.std.specs.{FinMap.{FinMap, from_entries, get}, Int.{cast_signed, from_be_bytes, w128}, List.{filter, filter_map, list_all}}
-use Rattle.std.specs.{Option.{option_map, option_map_or, unwrap_or}, Ordering.{int_eq, nat_cmp}}
+use Rattle.std.specs.FinMap.{FinMap, from_entries, get}
+use Rattle.std.specs.Int.{cast_signed, from_be_bytes, w128}
+use Rattle.std.specs.List.{filter, filter_map, list_all}
+use Rattle.std.specs.Option.{option_map, option_map_or, unwrap_or}
+use Rattle.std.specs.Ordering.{int_eq, nat_cmp}
 use Rattle.sqlite_keyed.specs.Keyed.{get_by}
-use Rattle.accounts.specs.{declared.{account.Account.Account, line.Line.Line, message.Message.Message}, Account.empty_account}
-use Rattle.accounts.specs.{Lines.{balance, in_order}, Queue.put}
+use Rattle.accounts.specs.declared.account.Account.{Account}
+use Rattle.accounts.specs.declared.line.Line.{Line}
+use Rattle.accounts.specs.declared.message.Message.{Message}
+use Rattle.accounts.specs.Account.{empty_account}
+use Rattle.accounts.specs.Lines.{balance, in_order}
+use Rattle.accounts.specs.Queue.{put}
 use Rattle.basis.specs.Bag.{bag_of}
-use Rattle.sqlcolumns.specs.{Lines.line_of_columns, Messages.message_of_columns, Numbers.{counter_in, registrar_in}}
+use Rattle.sqlcolumns.specs.Lines.{line_of_columns}
+use Rattle.sqlcolumns.specs.Messages.{message_of_columns}
+use Rattle.sqlcolumns.specs.Numbers.{counter_in, registrar_in}
 use Rattle.sqltables.specs.Account as account_table
-use Rattle.sqltables.specs.{declared.account.AccountRow.AccountRow, Content.Content, Line.line_with_account, Message.message_with_account}
+use Rattle.sqltables.specs.declared.account.AccountRow.{AccountRow}
+use Rattle.sqltables.specs.Content.{Content}
+use Rattle.sqltables.specs.Line.{line_with_account}
+use Rattle.sqltables.specs.Message.{message_with_account}
 
 -- the lines under an account's number, of the rows that read
 abbrev pub lines_under : Content → ℤ → List Line

@@ -2,8 +2,10 @@
 use Rattle.std.specs.Prelude.{ℕ, Option, Some, None}
 use Rattle.calendar.specs.Moment.{capped}
 use Rattle.accounts.specs.declared.line.Line.{Line}
-use Rattle.lifecycle.specs.{Graces.period_of, Periods.{end, rules_with}}
-use Rattle.policy.specs.declared.{days.Period.Period, schedule.Schedule.Schedule}
+use Rattle.lifecycle.specs.Graces.{period_of}
+use Rattle.lifecycle.specs.Periods.{end, rules_with}
+use Rattle.policy.specs.declared.days.Period.{Period}
+use Rattle.policy.specs.declared.schedule.Schedule.{Schedule}
 
 abbrev pub end_from : Schedule → Option Period → Option ℕ → Option ℕ
 end_from days None start = None

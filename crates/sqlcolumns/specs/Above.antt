@@ -1,5 +1,6 @@
 -- Below which name of two labels a name lies.
-use Rattle.std.specs.{Prelude.{ℕ, ◌-◌, ◌==◌, List, length, drop}, List.{join_with_byte, slice_split}}
+use Rattle.std.specs.Prelude.{ℕ, ◌-◌, ◌==◌, List, length, drop}
+use Rattle.std.specs.List.{join_with_byte, slice_split}
 
 abbrev pub parts_between_dots : List ℕ → List (List ℕ)
 parts_between_dots name = slice_split (λ b. b == 46) name

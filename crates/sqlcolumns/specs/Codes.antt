@@ -1,6 +1,10 @@
 -- Codes: a small number for each variant of an enum.
-use Rattle.std.specs.{Prelude.{ℤ, pos, List, [], ◌∷◌, Option, find}, Ordering.int_eq}
-use Rattle.accounts.specs.{declared.{line.LineKind.LineKind, message.Subject.Subject}, Lines.kind_rank, Messages.subject_rank}
+use Rattle.std.specs.Prelude.{ℤ, pos, List, [], ◌∷◌, Option, find}
+use Rattle.std.specs.Ordering.{int_eq}
+use Rattle.accounts.specs.declared.line.LineKind.{LineKind}
+use Rattle.accounts.specs.declared.message.Subject.{Subject}
+use Rattle.accounts.specs.Lines.{kind_rank}
+use Rattle.accounts.specs.Messages.{subject_rank}
 use Rattle.accounts.specs.declared.line.LineKind.TheVariants as kinds
 use Rattle.accounts.specs.declared.message.Subject.TheVariants as subjects
 use Rattle.objects.specs.declared.transfer.TransferState.{TransferState}

@@ -1,10 +1,17 @@
 -- How a contact lies in its row. Its transfer lies in a row of its own.
 use Rattle.std.specs.Prelude.{ℕ, List, Option, Some, None, if◌then◌else◌}
-use Rattle.objects.specs.declared.{contact.{Contact.Contact, Postal.Postal}, status.Status.Status, transfer.Transfer.Transfer}
+use Rattle.objects.specs.declared.contact.Contact.{Contact}
+use Rattle.objects.specs.declared.contact.Postal.{Postal}
+use Rattle.objects.specs.declared.status.Status.{Status}
+use Rattle.objects.specs.declared.transfer.Transfer.{Transfer}
 use Rattle.objects.specs.declared.roid.ObjectKind.TheVariants as kinds
-use Rattle.sqltables.specs.declared.contact.{ContactRow.ContactRow, PostalRow.PostalRow}
-use Rattle.sqlcolumns.specs.declared.registration.{Registration.Registration, RegistrationColumns.RegistrationColumns}
-use Rattle.sqlcolumns.specs.{Registrations.registration_in, Steps.◌>>=◌, Texts.{statuses_in, street_in}}
+use Rattle.sqltables.specs.declared.contact.ContactRow.{ContactRow}
+use Rattle.sqltables.specs.declared.contact.PostalRow.{PostalRow}
+use Rattle.sqlcolumns.specs.declared.registration.Registration.{Registration}
+use Rattle.sqlcolumns.specs.declared.registration.RegistrationColumns.{RegistrationColumns}
+use Rattle.sqlcolumns.specs.Registrations.{registration_in}
+use Rattle.sqlcolumns.specs.Steps.{◌>>=◌}
+use Rattle.sqlcolumns.specs.Texts.{statuses_in, street_in}
 use Rattle.sqlcolumns.specs.Transfers.{is_same, maybe_due_column}
 
 -- ---- read

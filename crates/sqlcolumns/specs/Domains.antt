@@ -1,10 +1,17 @@
 -- How a domain lies in its row. Its links and its transfer lie in rows of their own.
 use Rattle.std.specs.Prelude.{ℕ, ℤ, List, Option, Some, None}
-use Rattle.objects.specs.declared.{domain.{Deletion.Deletion, Domain.Domain, Links.Links}, status.Status.Status, transfer.Transfer.Transfer}
+use Rattle.objects.specs.declared.domain.Deletion.{Deletion}
+use Rattle.objects.specs.declared.domain.Domain.{Domain}
+use Rattle.objects.specs.declared.domain.Links.{Links}
+use Rattle.objects.specs.declared.status.Status.{Status}
+use Rattle.objects.specs.declared.transfer.Transfer.{Transfer}
 use Rattle.objects.specs.declared.roid.ObjectKind.TheVariants as kinds
 use Rattle.sqltables.specs.declared.domain.DomainRow.{DomainRow}
-use Rattle.sqlcolumns.specs.declared.registration.{Registration.Registration, RegistrationColumns.RegistrationColumns}
-use Rattle.sqlcolumns.specs.{Numbers.{maybe_moment_in, moment_in_column, years_in_column}, Registrations.registration_in, Steps.◌>>=◌}
+use Rattle.sqlcolumns.specs.declared.registration.Registration.{Registration}
+use Rattle.sqlcolumns.specs.declared.registration.RegistrationColumns.{RegistrationColumns}
+use Rattle.sqlcolumns.specs.Numbers.{maybe_moment_in, moment_in_column, years_in_column}
+use Rattle.sqlcolumns.specs.Registrations.{registration_in}
+use Rattle.sqlcolumns.specs.Steps.{◌>>=◌}
 use Rattle.sqlcolumns.specs.Texts.{statuses_in}
 
 -- ---- read

@@ -1,10 +1,16 @@
 -- How a host lies in its row. Its addresses lie in rows of their own.
-use Rattle.std.specs.{Prelude.{ℕ, List, Option, Some, None, if◌then◌else◌}, Str.bytes_eq}
-use Rattle.objects.specs.declared.{host.Host.Host, status.Status.Status}
+use Rattle.std.specs.Prelude.{ℕ, List, Option, Some, None, if◌then◌else◌}
+use Rattle.std.specs.Str.{bytes_eq}
+use Rattle.objects.specs.declared.host.Host.{Host}
+use Rattle.objects.specs.declared.status.Status.{Status}
 use Rattle.objects.specs.declared.roid.ObjectKind.TheVariants as kinds
 use Rattle.sqltables.specs.declared.host.HostRow.{HostRow}
-use Rattle.sqlcolumns.specs.{declared.host.HostColumns.HostColumns, Above.above}
-use Rattle.sqlcolumns.specs.{Numbers.{maybe_moment_in, maybe_registrar_in, moment_in_column}, Roids.roid_in, Steps.◌>>=◌, Texts.statuses_in}
+use Rattle.sqlcolumns.specs.declared.host.HostColumns.{HostColumns}
+use Rattle.sqlcolumns.specs.Above.{above}
+use Rattle.sqlcolumns.specs.Numbers.{maybe_moment_in, maybe_registrar_in, moment_in_column}
+use Rattle.sqlcolumns.specs.Roids.{roid_in}
+use Rattle.sqlcolumns.specs.Steps.{◌>>=◌}
+use Rattle.sqlcolumns.specs.Texts.{statuses_in}
 
 -- ---- read
 

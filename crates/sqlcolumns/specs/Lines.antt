@@ -1,9 +1,13 @@
 -- How a line of an account lies in its row.
 use Rattle.std.specs.Prelude.{ℕ, ℤ, Option, Some, None, option_map}
-use Rattle.objects.specs.declared.roid.{ObjectKind.TheVariants.Domain, Roid.Roid}
-use Rattle.accounts.specs.declared.line.{Line.Line, LineKind.LineKind}
+use Rattle.objects.specs.declared.roid.ObjectKind.TheVariants.{Domain}
+use Rattle.objects.specs.declared.roid.Roid.{Roid}
+use Rattle.accounts.specs.declared.line.Line.{Line}
+use Rattle.accounts.specs.declared.line.LineKind.{LineKind}
 use Rattle.sqltables.specs.declared.line.LineRow.{LineRow}
-use Rattle.sqlcolumns.specs.{Codes.kind_in, Numbers.{exact_in, maybe_moment_in, moment_in_column, years_in_column}, Roids.roid_in}
+use Rattle.sqlcolumns.specs.Codes.{kind_in}
+use Rattle.sqlcolumns.specs.Numbers.{exact_in, maybe_moment_in, moment_in_column, years_in_column}
+use Rattle.sqlcolumns.specs.Roids.{roid_in}
 use Rattle.sqlcolumns.specs.Steps.{◌>>=◌}
 
 -- ---- read

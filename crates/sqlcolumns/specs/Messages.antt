@@ -1,12 +1,20 @@
 -- How a message lies in its row.
-use Rattle.std.specs.{Prelude.{ℕ, ℤ, pos, ◌&&◌, List, [], ◌∷◌, Option, Some, None, if◌then◌else◌}, Ordering.int_eq}
-use Rattle.accounts.specs.{Messages.{command_rank, letter_rank}, declared.message.{CommandNotice.CommandNotice, LapseNotice.LapseNotice}}
-use Rattle.accounts.specs.declared.message.{LapseNotice.TheVariants.{RenewedAutomatically, Purged, TransferApproved}, Message.Message}
-use Rattle.accounts.specs.declared.message.{Origin.{Origin, TheVariants.{Lapse, Command}}, Subject.Subject}
+use Rattle.std.specs.Prelude.{ℕ, ℤ, pos, ◌&&◌, List, [], ◌∷◌, Option, Some, None, if◌then◌else◌}
+use Rattle.std.specs.Ordering.{int_eq}
+use Rattle.accounts.specs.Messages.{command_rank, letter_rank}
+use Rattle.accounts.specs.declared.message.CommandNotice.{CommandNotice}
+use Rattle.accounts.specs.declared.message.LapseNotice.{LapseNotice}
+use Rattle.accounts.specs.declared.message.LapseNotice.TheVariants.{RenewedAutomatically, Purged, TransferApproved}
+use Rattle.accounts.specs.declared.message.Message.{Message}
+use Rattle.accounts.specs.declared.message.Origin.{Origin}
+use Rattle.accounts.specs.declared.message.Origin.TheVariants.{Lapse, Command}
+use Rattle.accounts.specs.declared.message.Subject.{Subject}
 use Rattle.accounts.specs.declared.message.CommandNotice.TheVariants as commands
 use Rattle.sqltables.specs.declared.message.MessageRow.{MessageRow}
-use Rattle.sqlcolumns.specs.{declared.origin.OriginColumns.OriginColumns, Codes.{subject_column, subject_in, with_code}}
-use Rattle.sqlcolumns.specs.{Numbers.{exact_column, exact_in, moment_column, moment_in_column}, Steps.◌>>=◌}
+use Rattle.sqlcolumns.specs.declared.origin.OriginColumns.{OriginColumns}
+use Rattle.sqlcolumns.specs.Codes.{subject_column, subject_in, with_code}
+use Rattle.sqlcolumns.specs.Numbers.{exact_column, exact_in, moment_column, moment_in_column}
+use Rattle.sqlcolumns.specs.Steps.{◌>>=◌}
 
 -- ---- written
 

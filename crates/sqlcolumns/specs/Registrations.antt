@@ -2,10 +2,12 @@
 use Rattle.std.specs.Prelude.{Option, Some, IfSome}
 use Rattle.calendar.specs.Moment.{IsMoment}
 use Rattle.objects.specs.declared.roid.ObjectKind.{ObjectKind}
-use Rattle.sqlcolumns.specs.declared.registration.{Registration.Registration, RegistrationColumns.RegistrationColumns}
+use Rattle.sqlcolumns.specs.declared.registration.Registration.{Registration}
+use Rattle.sqlcolumns.specs.declared.registration.RegistrationColumns.{RegistrationColumns}
 use Rattle.sqlcolumns.specs.declared.roid.RoidColumns.{RoidColumns}
 use Rattle.sqlcolumns.specs.Numbers.{IsPlace, maybe_moment_column, maybe_moment_in, moment_column, moment_in_column, registrar_column, registrar_in}
-use Rattle.sqlcolumns.specs.{Roids.{IsRoid, roid_columns, roid_in}, Steps.◌>>=◌}
+use Rattle.sqlcolumns.specs.Roids.{IsRoid, roid_columns, roid_in}
+use Rattle.sqlcolumns.specs.Steps.{◌>>=◌}
 
 pub record IsRegistration (r : Registration) : Type 0 where
   pub roid : IsRoid r.roid

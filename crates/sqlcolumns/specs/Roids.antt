@@ -1,9 +1,11 @@
 -- How repository object identifiers lie in columns: their kind is the table's.
 use Rattle.std.specs.Prelude.{◌<◌, ◌^◌, ◌==◌, ℤ, Bool, Option, Some, None, if◌then◌else◌}
-use Rattle.objects.specs.declared.roid.{ObjectKind.ObjectKind, Roid.Roid}
+use Rattle.objects.specs.declared.roid.ObjectKind.{ObjectKind}
+use Rattle.objects.specs.declared.roid.Roid.{Roid}
 use Rattle.accounts.specs.Lines.{object_rank}
 use Rattle.sqlcolumns.specs.declared.roid.RoidColumns.{RoidColumns}
-use Rattle.sqlcolumns.specs.{Numbers.{IsPlace, counter_column, registrar_column, registrar_in, serial_in}, Steps.◌>>=◌}
+use Rattle.sqlcolumns.specs.Numbers.{IsPlace, counter_column, registrar_column, registrar_in, serial_in}
+use Rattle.sqlcolumns.specs.Steps.{◌>>=◌}
 
 -- the creator has a place, and the serial number 64 bits
 pub record IsRoid (roid : Roid) : Type 0 where

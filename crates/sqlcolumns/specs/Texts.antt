@@ -1,7 +1,8 @@
 -- Lists as one text.
 use Rattle.std.specs.Prelude.{ℕ, ◌==◌, Bool, List, [], ◌∷◌, ◌++◌, map, fold, Option, Some, None, if◌then◌else◌}
 use Rattle.std.specs.List.{join_with_byte, list_any, slice_split}
-use Rattle.objects.specs.{StatusTexts.{status_named, status_text}, declared.status.Status.Status}
+use Rattle.objects.specs.StatusTexts.{status_named, status_text}
+use Rattle.objects.specs.declared.status.Status.{Status}
 use Rattle.sqlcolumns.specs.Steps.{◌>>=◌}
 
 -- each item's text after a byte

@@ -1,10 +1,14 @@
 -- How the last transfer of an object lies in its row.
-use Rattle.std.specs.{Prelude.{ℕ, ℤ, Bool, true, false, Option, Some, None, if◌then◌else◌}, Ordering.int_eq}
+use Rattle.std.specs.Prelude.{ℕ, ℤ, Bool, true, false, Option, Some, None, if◌then◌else◌}
+use Rattle.std.specs.Ordering.{int_eq}
 use Rattle.calendar.specs.Moment.{IsMoment}
-use Rattle.objects.specs.{Transfers.is_pending_state, declared.transfer.{Transfer.Transfer, TransferState.TransferState}}
+use Rattle.objects.specs.Transfers.{is_pending_state}
+use Rattle.objects.specs.declared.transfer.Transfer.{Transfer}
+use Rattle.objects.specs.declared.transfer.TransferState.{TransferState}
 use Rattle.sqltables.specs.declared.transfer.TransferRow.{TransferRow}
 use Rattle.sqlcolumns.specs.Codes.{state_column, state_in}
-use Rattle.sqlcolumns.specs.{Numbers.{IsPlace, moment_column, moment_in_column, registrar_column, registrar_in}, Steps.◌>>=◌}
+use Rattle.sqlcolumns.specs.Numbers.{IsPlace, moment_column, moment_in_column, registrar_column, registrar_in}
+use Rattle.sqlcolumns.specs.Steps.{◌>>=◌}
 
 pub record IsStorableTransfer (t : Transfer) : Type 0 where
   pub requester : IsPlace t.requester

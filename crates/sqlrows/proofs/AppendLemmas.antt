@@ -3,11 +3,10 @@ use Rattle.std.proofs.Common.{◌≡◌, ◌+ℤ◌, ℕ, ℤ, pos, List, [], �
 use Rattle.sqlrows.proofs.Words.{appended, cast_row, Chosen, count_of, Database, Does, edit_of, edited, Holds, id_in, insert_by, Inserts, Int}
 use Rattle.sqlrows.proofs.Words.{IsAppend, IsKeyedBy, IsKeyedBy-insert_by, last_id, Layout, Leads, Listed, next_key, next_rowid, Null, Numbers}
 use Rattle.sqlrows.proofs.Words.{put_row, puts-map, Row, rowid, rowids_for, Schema, Sets, steady, Table, Tally, Task, Term, Trees, with_rowid}
-use Rattle.sqlrows.proofs.Words.{with_rowids, Written}
+use Rattle.sqlrows.proofs.{Words.{with_rowids, Written}, WriteLemmas.{went, same_value, concluded, noted, task_of, left, applies, sets}}
+use Rattle.sqlrows.proofs.PutLemmas.{not_counted}
 use Rattle.sqlite_schema.specs.declared.command.Source.TheVariants.{Values}
 use Rattle.sqlite_keyed.proofs.SliceLemmas.{insert_next}
-use Rattle.sqlrows.proofs.WriteLemmas.{went, same_value, concluded, noted, task_of, left, applies, sets}
-use Rattle.sqlrows.proofs.PutLemmas.{not_counted}
 
 -- the rowid that is chosen is the next key
 numbers_next : {X : Type 0} (L : Layout X) (a : ℤ) (xs : List X) → fold (λ _ r. id_in (rowid r) +ℤ pos 1) a (map L.to_row xs) ≡ fold (λ _ x. L.key x +ℤ pos 1) a xs

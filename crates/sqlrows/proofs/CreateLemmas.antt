@@ -2,14 +2,12 @@
 use Rattle.std.proofs.Common.{◌≡◌, inl, inr, ℕ, List, [], ◌∷◌, ◌++◌, false, true, None, Ok, Err, Result, refl, sym, ap, ◌∙◌, subst}
 use Rattle.sqlrows.proofs.Words.{AllByRecursion, command_of, Compiled, CompileError, CreateIndex, CreateTable, Database, Defines, Does, Executes}
 use Rattle.sqlrows.proofs.Words.{IsBlank, IsIndex, lacks_sequence, mode_of, runs_as, Schema, State, statement_of, Table, Tally, Trees, understood}
-use Rattle.sqlrows.proofs.Words.{writes_tables}
+use Rattle.sqlrows.proofs.{Words.writes_tables, SelectLemmas.same_command, WriteLemmas.{went, same_value, left}}
 use Rattle.sqlite_schema.specs.declared.schema.Index.{Index}
 use Rattle.sqlite_catalog.specs.Change.{created, indexed, next_tree, KeepsRows}
 use Rattle.sqlite.specs.State.{Writes}
 use Rattle.sqlite.proofs.Callers as callers
 use Rattle.sqlrows.specs.inner.Definitions.{IsTable}
-use Rattle.sqlrows.proofs.SelectLemmas.{same_command}
-use Rattle.sqlrows.proofs.WriteLemmas.{went, same_value, left}
 
 same_statement : (sql : List ℕ) (r : Result Compiled CompileError) → callers.statement_of sql r ≡ statement_of sql r
 same_statement sql (Ok c) = refl

@@ -1,8 +1,7 @@
 -- Texts that make tables and indexes, one after another in a transaction.
 use Rattle.std.proofs.Common.{◌≡◌, ◌⊎◌, ◌<◌, ◌+◌, inl, inr, ℕ, Bor, List, [], ◌∷◌, map, drop, length, get_or, drop-cons, add-one, true, Ok, refl, sym, subst, ◌∙◌}
 use Rattle.sqlrows.proofs.Words.{command_of, DefinesAll, Executes, HasCleanDisk, IsBlank, IsUndone, LeavesOnly, Schema, State, StaysOpen}
-use Rattle.sqlrows.proofs.Words.{StaysOrUndoes, Survives, understood, writes_tables}
-use Rattle.sqlrows.proofs.CreateLemmas.{blank_then, definition_writes}
+use Rattle.sqlrows.proofs.{Words.{StaysOrUndoes, Survives, understood, writes_tables}, CreateLemmas.{blank_then, definition_writes}}
 
 module _ (a b c : State) (first : StaysOpen a b) where
   pub stays_then : StaysOpen b c → StaysOpen a c

@@ -1,8 +1,6 @@
 -- What stands under a name is what the first row of that name that reads, reads as.
 use Rattle.std.proofs.Common.{◌≡◌, ℕ, Bool, true, false, cond, List, [], ◌∷◌, Option, Some, None, refl, sym, ap, ◌∙◌}
-use Rattle.std.specs.Prelude.{filter}
-use Rattle.std.specs.Cmp.{eq_by_cmp_equiv}
-use Rattle.std.specs.Cmp.Lexicographic.{nat_list_cmp_total, slice_cmp}
+use Rattle.std.specs.{Prelude.filter, Cmp.{eq_by_cmp_equiv, Lexicographic.{nat_list_cmp_total, slice_cmp}}}
 use Rattle.std.specs.FinMap.{find, from_entries, get, get-from_entries}
 use Rattle.sqlrows.proofs.Words.{cons_option, eq_by_cmp, filter_map, first_read, named, nat_cmp, or_else}
 use Rattle.sqlite_typed.specs.Tests.{bytes_eq}

@@ -4,23 +4,16 @@ use Rattle.sqlrows.proofs.Words.{Above, cast_row, Chosen, chosen_query, col, cou
 use Rattle.sqlrows.proofs.Words.{Gives, Has, Holds, holds, ids_of, insert_by, Int, IsKeyedBy-insert_by, IsPut, Layout, Leads, list_all, Listed, Null}
 use Rattle.sqlrows.proofs.Words.{one_permutation, op2, put_row, puts-map, Row, rowid, rowids_for, same_int, Schema, Sets, steady, Table, Tally, Task}
 use Rattle.sqlrows.proofs.Words.{Term, Trees, Updates, with_rowid, without_key, without_rowid, Written}
-use Rattle.sqlite_value.specs.declared.keys.Collation.TheVariants.{Binary}
-use Rattle.sqlite_value.specs.declared.keys.Key.{Key}
-use Rattle.sqlite_value.proofs.KeyLemmas.{first_key-plain}
-use Rattle.sqlite_sql.specs.declared.ops.CompareOp.TheVariants.{Eq}
-use Rattle.sqlite_sql.specs.declared.ops.BinaryOp.TheVariants.{Compare}
-use Rattle.sqlite_sql.specs.Ops.{is_true, binary}
-use Rattle.sqlite_schema.specs.declared.command.Conflict.TheVariants.{Abort}
-use Rattle.sqlite_schema.specs.declared.command.Upsert.{Upsert}
-use Rattle.sqlite_schema.specs.declared.command.Source.TheVariants.{Values}
-use Rattle.sqlite_schema.specs.declared.program.Program.{Program}
-use Rattle.sqlite_rules.specs.declared.error.Rowids.{Rowids}
-use Rattle.sqlite_rules.specs.declared.error.Refusal.{Refusal}
-use Rattle.sqlite_rules.specs.Keys.{AreConflicts, conflicts}
-use Rattle.sqlite_typed.proofs.TestLemmas.{at_ints, last_term}
-use Rattle.sqlite.specs.Rows.{Puts, Clears, Meets, Upserts, Judged, Tries, TriesEach, InsertsOr, shown, nothing, Counts}
 use Rattle.sqlrows.proofs.ListLemmas.{removed_put, only_one}
 use Rattle.sqlrows.proofs.WriteLemmas.{went, same_value, concluded, task_of, left, applies, sets, chosen}
+use Rattle.sqlite_value.specs.declared.keys.{Collation.TheVariants.Binary, Key.Key}
+use Rattle.sqlite_value.proofs.KeyLemmas.{first_key-plain}
+use Rattle.sqlite_sql.specs.{declared.ops.{CompareOp.TheVariants.Eq, BinaryOp.TheVariants.Compare}, Ops.{is_true, binary}}
+use Rattle.sqlite_schema.specs.declared.command.{Conflict.TheVariants.Abort, Upsert.Upsert, Source.TheVariants.Values}
+use Rattle.sqlite_schema.specs.declared.program.Program.{Program}
+use Rattle.sqlite_rules.specs.{declared.error.{Rowids.Rowids, Refusal.Refusal}, Keys.{AreConflicts, conflicts}}
+use Rattle.sqlite_typed.proofs.TestLemmas.{at_ints, last_term}
+use Rattle.sqlite.specs.Rows.{Puts, Clears, Meets, Upserts, Judged, Tries, TriesEach, InsertsOr, shown, nothing, Counts}
 
 pub not_counted : (task : Task) → task.table.is_counted ≡ false → (db next : Trees) (counter : Option Row) (top : ℤ) → Counts task db counter top (Ok next) → next ≡ db
 not_counted task none db next counter top it = same_value (rw none at it)

@@ -1,10 +1,7 @@
 -- Where no foreign key has an action, a write sets nothing off.
 use Rattle.std.proofs.Common.{◌≡◌, ◌&&◌, ◌++◌, ◌==◌, ℕ, Bool, true, false, cond, List, [], ◌∷◌, length, None, refl, sym, ap, ap₂, true≢false}
 use Rattle.sqlrows.proofs.Words.{cons_option, filter_map, flat_map, list_all, Row, Schema, Table}
-use Rattle.sqlite_schema.specs.declared.schema.Action.{Action}
-use Rattle.sqlite_schema.specs.declared.schema.Action.TheVariants.{NoAction}
-use Rattle.sqlite_schema.specs.declared.schema.Reference.{Reference}
-use Rattle.sqlite_schema.specs.declared.schema.Keys.TheVariants.{Enforced}
+use Rattle.sqlite_schema.specs.declared.schema.{Action.{Action, TheVariants.NoAction}, Reference.Reference, Keys.TheVariants.Enforced}
 use Rattle.sqlite_schema.specs.Rules.{parent_key}
 use Rattle.sqlite_rules.specs.Action.{works, work_by, pairs, work_for, deed_of, deed_for}
 

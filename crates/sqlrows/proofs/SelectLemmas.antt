@@ -3,12 +3,10 @@ use Rattle.std.proofs.Common.{◌≡◌, ◌^◌, ◌-◌, Err, ℕ, Bool, true,
 use Rattle.sqlrows.proofs.Words.{command_of, Compiled, CompileError, eval_all, Holds, holds, Int, Layout, list_all, Row, sort_by, Term, Trees}
 use Rattle.sqlrows.proofs.Words.{value_cmp}
 use Rattle.sqlite_value.proofs.OrderLemmas.{value_cmp-Int, value_cmp-Null, then-Equal}
-use Rattle.sqlite_sql.specs.Query.{IsAnswer, output, output_cmp, page}
-use Rattle.sqlite_sql.specs.Program.{overlay}
+use Rattle.sqlite_sql.specs.{Query.{IsAnswer, output, output_cmp, page}, Program.overlay}
 use Rattle.sqlite_typed.proofs.AnswerLemmas.{at_end, last_table, answer_by_keys, answer_sorted, IsNoTie, no_tie, no_tie_after}
 use Rattle.sqlite_typed.proofs.TestLemmas.{value_cmp-or_null}
-use Rattle.sqlite_typed.specs.Columns.{or_null}
-use Rattle.sqlite_typed.specs.Tests.{nulls_first}
+use Rattle.sqlite_typed.specs.{Columns.or_null, Tests.nulls_first}
 use Rattle.sqlite.proofs.Callers as callers
 use Rattle.sqlrows.specs.inner.Layouts.{select_query, limited_query, no_limit, sorted_query, by_then_key}
 

@@ -2,11 +2,10 @@
 use Rattle.std.proofs.Common.{inl, inr, ℕ, false, List, Option, Some, None, Result, Ok, Err, IsTrue}
 use Rattle.sqlrows.proofs.Words.{Begin, Command, Commit, Compiled, CreateIndex, CreateTable, Delete, Error, Executes, ForgetsNoFault, Insert}
 use Rattle.sqlrows.proofs.Words.{InsertOr, Returning, Rollback, Row, shows_rows, State, StaysOrUndoes, Survives, survives_weaker, text_of, Trees}
-use Rattle.sqlrows.proofs.Words.{Update}
+use Rattle.sqlrows.proofs.{Words.Update, StandLemmas.{stands_if_not_executed, ran_alone, not_run, stopped}}
 use Rattle.sqlite_schema.specs.declared.command.Command.TheVariants.{Select, DropTable, DropIndex, Savepoint as Save, Release, RollbackTo, Nothing, CreateView, DropView, Rows}
 use Rattle.std.specs.Prelude.{⊤}
 use Rattle.sqlite.specs.State.{ExecutesIn, Runs, Shown, ShowsRows, FailsToQuery, FailsToShow}
-use Rattle.sqlrows.proofs.StandLemmas.{stands_if_not_executed, ran_alone, not_run, stopped}
 
 pub was_open : (old new : State) → StaysOrUndoes old new → IsTrue new.is_open → IsTrue old.is_open
 was_open old new (inl same) is_open = same.0.was_open

@@ -1,12 +1,10 @@
 -- One call after another.
 use Rattle.std.proofs.Common.{◌≡◌, Bool, true, List, filter, find, Option, Result, Ok, Err, IfOk, refl, sym, ap, subst, ◌∙◌}
-use Rattle.states.specs.declared.fault.BookFault.{BookFault}
+use Rattle.states.specs.{declared.fault.BookFault.BookFault, States.{Finds, FindsSome, Reads, StateOf, Stays, Writes}}
 use Rattle.std.specs.Result.{IsErr}
-use Rattle.states.specs.States.{Finds, FindsSome, Reads, StateOf, Stays, Writes}
 use Rattle.states.proofs.LeavingLemmas.{leaves-on, leaves-refl}
 pub use Rattle.states.proofs.CallLemmas.{finds-on, reads-on}
-use Rattle.sqlrows.specs.Meanings.{HasChanged}
-use Rattle.sqlrows.specs.Read.{rows_of}
+use Rattle.sqlrows.specs.{Meanings.HasChanged, Read.rows_of}
 use Rattle.sqlrows.proofs.RowLemmas.{find_one}
 
 pub reads-same : {X : Type 0} (s : StateOf X) → Reads s s

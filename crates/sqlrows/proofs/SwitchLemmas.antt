@@ -3,12 +3,8 @@ use Rattle.std.proofs.Common.{◌≡◌, ◌≤◌, inl, inr, ℕ, Bool, true, f
 use Rattle.sqlrows.proofs.Words.{Begin, Command, command_of, Commit, Compiled, CompileError, Database, Does, Error, Executes, is_query, IsRolledBack}
 use Rattle.sqlrows.proofs.Words.{mode_of, Returning, Rollback, Row, Schema, shows_rows, State, Survives, survives_weaker, Tally, text_of, Trees}
 use Rattle.sqlite_tied.specs.Compute.{everything}
-use Rattle.sqlite.specs.Calls.{IsWrite}
-use Rattle.sqlite.specs.Clock.{timed}
-use Rattle.sqlite.specs.declared.run.Mode.{Mode}
-use Rattle.sqlite.specs.declared.error.Error.TheVariants.{ExecuteReturnedResults}
-use Rattle.sqlite.specs.Given.{IsPlain}
-use Rattle.sqlite.specs.Listing.{understood}
+use Rattle.sqlite.specs.{Calls.IsWrite, Clock.timed, declared.{run.Mode.Mode, error.Error.TheVariants.ExecuteReturnedResults}}
+use Rattle.sqlite.specs.{Given.IsPlain, Listing.understood}
 use Rattle.sqlite.specs.State.{IsUnchanged, ExecutesIn, IsNotRun, IsNoStatement, RunsCommand, IsMisplaced, CommitsBy, is_pragma}
 use Rattle.sqlrows.specs.inner.Transactions.{begin_text, commit_text, back_text}
 

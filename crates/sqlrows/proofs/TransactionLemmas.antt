@@ -1,10 +1,9 @@
 -- What BEGIN, COMMIT and ROLLBACK do to a connection, whatever its schema is.
 use Rattle.std.proofs.Common.{◌≡◌, ℕ, true, false, [], Result, Ok, Err, refl, ◌∙◌, MatchResult}
 use Rattle.sqlrows.proofs.Words.{Begin, Commit, CommitsBy, Error, Executes, IsRolledBack, Rollback, runs_as, Shows, State, Survives, survives_weaker}
-use Rattle.sqlrows.proofs.Words.{understood}
-use Rattle.sqlrows.specs.inner.Transactions.{begin_text, commit_text, back_text}
-use Rattle.sqlrows.proofs.SelectLemmas.{same_command}
+use Rattle.sqlrows.proofs.{Words.understood, SelectLemmas.same_command}
 use Rattle.sqlrows.proofs.SwitchLemmas.{begin_is, commit_is, back_is, undone, commits, begin_in_place, commit_in_place, back_in_place}
+use Rattle.sqlrows.specs.inner.Transactions.{begin_text, commit_text, back_text}
 
 module _ (old new : State) where
   pub began : (r : Result ℕ Error) → old.in_transaction ≡ false → Executes begin_text [] old new r → MatchResult r (λ _. Shows old new old.now old.committed true) (λ _. IsRolledBack old new)

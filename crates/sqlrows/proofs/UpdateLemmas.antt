@@ -1,22 +1,19 @@
 -- What an update of the rows that pass a test does.
 use Rattle.std.proofs.Common.{◌≡◌, ◌++◌, ◌&&◌, zero, suc, ℕ, Bool, true, false, not, cond, List, [], ◌∷◌, map, filter, drop, slice_get, Option, Some, None, Ok, refl, sym, ap, ap₂, ◌∙◌, subst, arith, add-one, Ordering, Less, Equal, Greater, is_eq, is_lt, true≢false, IsPermutation, IsSorted}
-use Rattle.std.specs.Cmp.{IsTotalOrder}
-use Rattle.std.proofs.lemmas.Bool.{or_parts}
-use Rattle.std.proofs.lemmas.Cmp.{on_total}
-use Rattle.std.proofs.lemmas.List.{map-append}
+use Rattle.std.proofs.lemmas.{Bool.or_parts, Cmp.on_total, List.map-append}
 use Rattle.std.proofs.lemmas.List.Sorted.{IsPermutation-refl, IsPermutation-sym, IsPermutation-trans, IsPermutation-cons, IsPermutation-middle, IsPermutation-append_left, IsPermutation-append_right}
+use Rattle.std.specs.Cmp.{IsTotalOrder}
 use Rattle.sqlrows.proofs.Words.{ascending-map, ascending_weaker, cast_row, chosen_query, col, Database, delete_where, deletes-map, Does, edit_of}
 use Rattle.sqlrows.proofs.Words.{Given, Holds, holds, id_in, ids_of, IsAscending, IsKeyedBy, IsKeyedBy-delete_where, IsKeyedBy-update_where}
 use Rattle.sqlrows.proofs.Words.{IsPermutation-map, IsUpdate, Layout, Leads, Less-from_lt, list_all, Listed, map-map, map_same, match_ordering, Null}
 use Rattle.sqlrows.proofs.Words.{ordering_reverse, put_row, Renews, Row, rowid, Schema, Sets, steady, Table, Tally, Term, Trees, update_where}
-use Rattle.sqlrows.proofs.Words.{Updates, value_cmp, without_all, Written}
+use Rattle.sqlrows.proofs.{Words.{Updates, value_cmp, without_all, Written}, ListLemmas.removes_in_order}
+use Rattle.sqlrows.proofs.WriteLemmas.{went, same_value, concluded, task_of, left, applies, sets, chosen}
 use Rattle.sqlite_value.proofs.OrderLemmas.{value_cmp_total, value_cmp-Int}
 use Rattle.sqlite_trees.specs.Tree.{IsTable}
 use Rattle.sqlite_trees.proofs.TreeLemmas.{IsTable-put_row}
 use Rattle.sqlite_rules.specs.Edit.{is_taken, are_fresh, numbered, put_all, left_by}
 use Rattle.sqlite_keyed.proofs.SortLemmas.{sorted_unique}
-use Rattle.sqlrows.proofs.ListLemmas.{removes_in_order}
-use Rattle.sqlrows.proofs.WriteLemmas.{went, same_value, concluded, task_of, left, applies, sets, chosen}
 
 sorted_if_rising : {X : Type 0} (cmp : X → X → Ordering) → IsTotalOrder cmp → (xs : List X) → IsAscending (λ a b. cmp a b ≡ Less) xs → IsSorted cmp xs
 sorted_if_rising cmp total [] up k d p q = absurd (omega arith)

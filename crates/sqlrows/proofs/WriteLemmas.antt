@@ -3,14 +3,12 @@ use Rattle.std.proofs.Common.{◌≡◌, ◌≢◌, ◌⊎◌, inl, inr, ℕ, Bo
 use Rattle.sqlrows.proofs.Words.{all_weaker, Applies, chosen_query, col, Concludes, Database, delete_where, Deletes, deletes-map, Does, Edit}
 use Rattle.sqlrows.proofs.Words.{edit_of, Edited, edited, eval_all, Given, Holds, holds, id_in, ids_of, IsDelete, IsKeyedBy, IsKeyedBy-delete_where}
 use Rattle.sqlrows.proofs.Words.{IsPermutation-map, Layout, Leads, list_all, Listed, map-map, map_same, Null, one_step, Row, rowid, Schema, Sets}
-use Rattle.sqlrows.proofs.Words.{steady, Table, Tally, Task, Term, Trees, without_all, Written}
-use Rattle.sqlite_sql.specs.Query.{IsAnswer, Output, output}
-use Rattle.sqlite_sql.specs.Program.{overlay}
+use Rattle.sqlrows.proofs.{Words.{steady, Table, Tally, Task, Term, Trees, without_all, Written}, SelectLemmas.overlay_none}
+use Rattle.sqlrows.proofs.ListLemmas.{removes_in_order}
+use Rattle.sqlite_sql.specs.{Query.{IsAnswer, Output, output}, Program.overlay}
 use Rattle.sqlite_schema.specs.declared.schema.Keys.TheVariants.{Enforced}
 use Rattle.sqlite_rules.specs.Action.{works}
 use Rattle.sqlite_typed.proofs.AnswerLemmas.{at_end, last_table, matches_are}
-use Rattle.sqlrows.proofs.SelectLemmas.{overlay_none}
-use Rattle.sqlrows.proofs.ListLemmas.{removes_in_order}
 
 pub same_value : {B E : Type 0} {a b : B} → ◌≡◌ {A = Result B E} (Ok a) (Ok b) → a ≡ b
 same_value e = cc

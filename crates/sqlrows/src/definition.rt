@@ -1,8 +1,7 @@
 //! Tables and indexes, made of their texts.
 ghost use Rattle.std.specs.Prelude.{◌≡◌, true, map, IsTrue};
 ghost use Rattle.sqlite_schema.specs.declared.schema.Schema.{Schema};
-ghost use Rattle.sqlite.specs.Held.{state};
-ghost use Rattle.sqlite.specs.State.{HasCleanDisk};
+ghost use Rattle.sqlite.specs.{Held.state, State.HasCleanDisk};
 ghost use Rattle.sqlrows.specs.inner.Calls.{ForgetsNoFault};
 ghost use Rattle.sqlrows.specs.inner.Definitions.{DefinesAll, IsBlank, Makes};
 

@@ -1,6 +1,5 @@
 //! Whether a schema is another, as texts of this crate declare it.
-ghost use Rattle.std.specs.Prelude.{◌≡◌, ◌≢◌, ◌↔◌, false, [], IsTrue};
-ghost use Rattle.std.specs.List.{AllByRecursion};
+ghost use Rattle.std.specs.{Prelude.{◌≡◌, ◌≢◌, ◌↔◌, false, [], IsTrue}, List.AllByRecursion};
 ghost use Rattle.sqlrows.specs.Columns.{no_schema};
 ghost use Rattle.sqlrows.specs.inner.Plain.{ComputesNothing, IsPlainColumn, IsPlainTable, IsPlainSchema};
 

@@ -2,10 +2,7 @@
 
 ghost use Rattle.std.specs.Prelude.{◌≡◌, true, IfOk, IsTrue};
 ghost use Rattle.sqlite_value.specs.Order.{Row as SqlRow};
-ghost use Rattle.sqlite.specs.Values.{bound};
-ghost use Rattle.sqlite.specs.Listing.{understood};
-ghost use Rattle.sqlite.specs.Held.{state};
-ghost use Rattle.sqlite.specs.State.{HasCleanDisk};
+ghost use Rattle.sqlite.specs.{Values.bound, Listing.understood, Held.state, State.HasCleanDisk};
 ghost use Rattle.sqlrows.specs.inner.Calls.{Writes, ForgetsNoFault};
 ghost use Rattle.sqlrows.specs.inner.Layouts.{command_of, writes_tables};
 

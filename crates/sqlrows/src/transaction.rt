@@ -1,7 +1,6 @@
 //! Transactions of a database.
 ghost use Rattle.std.specs.Prelude.{◌≡◌, ◌⊎◌, true, false};
-ghost use Rattle.sqlite.specs.Held.{state};
-ghost use Rattle.sqlite.specs.State.{HasCleanDisk, IsRolledBack, Survives};
+ghost use Rattle.sqlite.specs.{Held.state, State.{HasCleanDisk, IsRolledBack, Survives}};
 ghost use Rattle.sqlrows.specs.inner.Transactions.{Begins, Commits};
 
 use sqlite::{Alter, Connection, Error};

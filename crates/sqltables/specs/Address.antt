@@ -1,6 +1,8 @@
 -- Addresses of hosts, and how they lie in their table.
-use Rattle.std.specs.{Prelude.{Bool, ℤ, [], ◌∷◌, refl}, Ordering.int_eq}
-use Rattle.sqlite_value.specs.{declared.value.Value.TheVariants.{Int, Text}, Order.Row}
+use Rattle.std.specs.Prelude.{Bool, ℤ, [], ◌∷◌, refl}
+use Rattle.std.specs.Ordering.{int_eq}
+use Rattle.sqlite_value.specs.declared.value.Value.TheVariants.{Int, Text}
+use Rattle.sqlite_value.specs.Order.{Row}
 use Rattle.sqlrows.specs.Layouts.{Layout}
 use Rattle.sqltables.specs.inner.Rows.{stored}
 pub use Rattle.sqltables.specs.declared.address.AddressRow.{AddressRow}

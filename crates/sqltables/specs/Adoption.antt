@@ -1,10 +1,20 @@
 -- A database that was used before, read anew.
-use Rattle.std.specs.{Prelude.{◌≡◌, ◌⊎◌, false, true, [], ◌∷◌}, List.AllByRecursion}
-use Rattle.sqlite_trees.specs.{declared.store.Shape.TheVariants.Table, Tree.Trees, View.IsShaped}
+use Rattle.std.specs.Prelude.{◌≡◌, ◌⊎◌, false, true, [], ◌∷◌}
+use Rattle.std.specs.List.{AllByRecursion}
+use Rattle.sqlite_trees.specs.declared.store.Shape.TheVariants.{Table}
+use Rattle.sqlite_trees.specs.Tree.{Trees}
+use Rattle.sqlite_trees.specs.View.{IsShaped}
 use Rattle.sqlite_catalog.specs.Listing.{IsSound}
-use Rattle.sqlite.specs.{Effect.{Database, IsDatabase}, State.{State, HasCleanDisk, Opens}}
-use Rattle.states.specs.{States.StateOf, declared.readiness.Ready.{Ready, TheVariants.{Empty, Used, Other}}}
-use Rattle.sqltables.specs.{Content.Content, Decoding.contents, Readiness.{IsKnownAs, is_numbered}, Stored.fresh, Tables.registry}
+use Rattle.sqlite.specs.Effect.{Database, IsDatabase}
+use Rattle.sqlite.specs.State.{State, HasCleanDisk, Opens}
+use Rattle.states.specs.States.{StateOf}
+use Rattle.states.specs.declared.readiness.Ready.{Ready}
+use Rattle.states.specs.declared.readiness.Ready.TheVariants.{Empty, Used, Other}
+use Rattle.sqltables.specs.Content.{Content}
+use Rattle.sqltables.specs.Decoding.{contents}
+use Rattle.sqltables.specs.Readiness.{IsKnownAs, is_numbered}
+use Rattle.sqltables.specs.Stored.{fresh}
+use Rattle.sqltables.specs.Tables.{registry}
 
 -- the rows of each table lie in the order of their numbers
 abbrev pub IsInOrder : Database → Type 0

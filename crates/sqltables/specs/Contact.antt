@@ -1,11 +1,18 @@
 -- Contacts, and how they lie in their table.
-use Rattle.std.specs.{Prelude.{◌&&◌, Bool, ℕ, ℤ, List, [], ◌∷◌, refl}, declared.cmp.Ordering.Ordering, Ordering.{int_cmp, int_eq, on}}
-use Rattle.sqlite_value.specs.{declared.value.Value.TheVariants.{Int, Text}, Order.Row}
-use Rattle.sqlite_typed.specs.{Columns.or_null, Tests.{bytes_eq, nulls_first}}
+use Rattle.std.specs.Prelude.{◌&&◌, Bool, ℕ, ℤ, List, [], ◌∷◌, refl}
+use Rattle.std.specs.declared.cmp.Ordering.{Ordering}
+use Rattle.std.specs.Ordering.{int_cmp, int_eq, on}
+use Rattle.sqlite_value.specs.declared.value.Value.TheVariants.{Int, Text}
+use Rattle.sqlite_value.specs.Order.{Row}
+use Rattle.sqlite_typed.specs.Columns.{or_null}
+use Rattle.sqlite_typed.specs.Tests.{bytes_eq, nulls_first}
 use Rattle.sqlite_keyed.specs.Lists.{sort_by}
-use Rattle.sqlrows.specs.{Layouts.Layout, inner.Layouts.by_then_key}
-use Rattle.sqltables.specs.inner.{Due.is_due_by, Rows.stored}
-pub use Rattle.sqltables.specs.declared.contact.{ContactRow.ContactRow, PostalRow.PostalRow}
+use Rattle.sqlrows.specs.Layouts.{Layout}
+use Rattle.sqlrows.specs.inner.Layouts.{by_then_key}
+use Rattle.sqltables.specs.inner.Due.{is_due_by}
+use Rattle.sqltables.specs.inner.Rows.{stored}
+pub use Rattle.sqltables.specs.declared.contact.ContactRow.{ContactRow}
+pub use Rattle.sqltables.specs.declared.contact.PostalRow.{PostalRow}
 
 -- as a query shows it, and as parameters
 abbrev pub contact_shown : ContactRow → Row

@@ -1,7 +1,16 @@
 -- What the eleven tables hold.
 use Rattle.std.specs.Prelude.{List, []}
-use Rattle.sqltables.specs.{Meta.MetaRow, Account.AccountRow, Contact.ContactRow, Domain.DomainRow, Host.HostRow, Address.AddressRow}
-use Rattle.sqltables.specs.{Link.LinkRow, Line.LineRow, Message.MessageRow, Transfer.TransferRow, Day.DayRow}
+use Rattle.sqltables.specs.Meta.{MetaRow}
+use Rattle.sqltables.specs.Account.{AccountRow}
+use Rattle.sqltables.specs.Contact.{ContactRow}
+use Rattle.sqltables.specs.Domain.{DomainRow}
+use Rattle.sqltables.specs.Host.{HostRow}
+use Rattle.sqltables.specs.Address.{AddressRow}
+use Rattle.sqltables.specs.Link.{LinkRow}
+use Rattle.sqltables.specs.Line.{LineRow}
+use Rattle.sqltables.specs.Message.{MessageRow}
+use Rattle.sqltables.specs.Transfer.{TransferRow}
+use Rattle.sqltables.specs.Day.{DayRow}
 
 pub record Content : Type 0 where
   pub metas : List MetaRow

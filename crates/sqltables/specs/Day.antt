@@ -1,6 +1,7 @@
 -- Lengths of periods that are in force from a moment on, and how they lie in their table.
 use Rattle.std.specs.Prelude.{[], ◌∷◌, refl}
-use Rattle.sqlite_value.specs.{declared.value.Value.TheVariants.Int, Order.Row}
+use Rattle.sqlite_value.specs.declared.value.Value.TheVariants.{Int}
+use Rattle.sqlite_value.specs.Order.{Row}
 use Rattle.sqlrows.specs.Layouts.{Layout}
 use Rattle.sqltables.specs.inner.Rows.{stored}
 pub use Rattle.sqltables.specs.declared.day.DayRow.{DayRow}

@@ -3,8 +3,18 @@ use Rattle.std.specs.Prelude.{map}
 use Rattle.sqlite_value.specs.Order.{Row, column}
 use Rattle.sqlite_trees.specs.Tree.{Trees}
 use Rattle.sqlite_typed.specs.Columns.{bytes_of, int_of, unless_null}
-use Rattle.sqltables.specs.{Content.Content, Meta.MetaRow, Account.AccountRow, Contact.ContactRow, Domain.DomainRow, Host.HostRow}
-use Rattle.sqltables.specs.{Address.AddressRow, Link.LinkRow, Line.LineRow, Message.MessageRow, Transfer.TransferRow, Day.DayRow}
+use Rattle.sqltables.specs.Content.{Content}
+use Rattle.sqltables.specs.Meta.{MetaRow}
+use Rattle.sqltables.specs.Account.{AccountRow}
+use Rattle.sqltables.specs.Contact.{ContactRow}
+use Rattle.sqltables.specs.Domain.{DomainRow}
+use Rattle.sqltables.specs.Host.{HostRow}
+use Rattle.sqltables.specs.Address.{AddressRow}
+use Rattle.sqltables.specs.Link.{LinkRow}
+use Rattle.sqltables.specs.Line.{LineRow}
+use Rattle.sqltables.specs.Message.{MessageRow}
+use Rattle.sqltables.specs.Transfer.{TransferRow}
+use Rattle.sqltables.specs.Day.{DayRow}
 
 -- ---- a row as its record
 

@@ -1,10 +1,14 @@
 -- Domains, and how they lie in their table.
-use Rattle.std.specs.{Prelude.{◌&&◌, Bool, int_le, int_lt, ℕ, ℤ, List, [], ◌∷◌, refl}, declared.cmp.Ordering.Ordering}
+use Rattle.std.specs.Prelude.{◌&&◌, Bool, int_le, int_lt, ℕ, ℤ, List, [], ◌∷◌, refl}
+use Rattle.std.specs.declared.cmp.Ordering.{Ordering}
 use Rattle.std.specs.Ordering.{int_cmp, int_eq, on}
-use Rattle.sqlite_value.specs.{declared.value.Value.TheVariants.{Int, Text}, Order.Row}
-use Rattle.sqlite_typed.specs.{Columns.or_null, Tests.bytes_eq}
+use Rattle.sqlite_value.specs.declared.value.Value.TheVariants.{Int, Text}
+use Rattle.sqlite_value.specs.Order.{Row}
+use Rattle.sqlite_typed.specs.Columns.{or_null}
+use Rattle.sqlite_typed.specs.Tests.{bytes_eq}
 use Rattle.sqlite_keyed.specs.Lists.{sort_by}
-use Rattle.sqlrows.specs.{Layouts.Layout, inner.Layouts.by_then_key}
+use Rattle.sqlrows.specs.Layouts.{Layout}
+use Rattle.sqlrows.specs.inner.Layouts.{by_then_key}
 use Rattle.sqltables.specs.inner.Rows.{stored}
 pub use Rattle.sqltables.specs.declared.domain.DomainRow.{DomainRow}
 

@@ -1,7 +1,10 @@
 -- Hosts, and how they lie in their table.
-use Rattle.std.specs.{Prelude.{◌&&◌, not, is_some, Bool, ℕ, ℤ, List, [], ◌∷◌, refl}, Ordering.int_eq}
-use Rattle.sqlite_value.specs.{declared.value.Value.TheVariants.{Int, Text}, Order.Row}
-use Rattle.sqlite_typed.specs.{Columns.or_null, Tests.bytes_eq}
+use Rattle.std.specs.Prelude.{◌&&◌, not, is_some, Bool, ℕ, ℤ, List, [], ◌∷◌, refl}
+use Rattle.std.specs.Ordering.{int_eq}
+use Rattle.sqlite_value.specs.declared.value.Value.TheVariants.{Int, Text}
+use Rattle.sqlite_value.specs.Order.{Row}
+use Rattle.sqlite_typed.specs.Columns.{or_null}
+use Rattle.sqlite_typed.specs.Tests.{bytes_eq}
 use Rattle.sqlrows.specs.Layouts.{Layout}
 use Rattle.sqltables.specs.inner.Rows.{stored}
 pub use Rattle.sqltables.specs.declared.host.HostRow.{HostRow}

@@ -1,11 +1,14 @@
 -- Lines of accounts, and how they lie in their table.
-use Rattle.std.specs.{Prelude.{◌&&◌, Bool, ℤ, [], ◌∷◌, refl}, Ordering.int_eq}
-use Rattle.sqlite_value.specs.{declared.value.Value.TheVariants.Int, Order.Row}
+use Rattle.std.specs.Prelude.{◌&&◌, Bool, ℤ, [], ◌∷◌, refl}
+use Rattle.std.specs.Ordering.{int_eq}
+use Rattle.sqlite_value.specs.declared.value.Value.TheVariants.{Int}
+use Rattle.sqlite_value.specs.Order.{Row}
 use Rattle.sqlite_keyed.specs.Rules.{points_to}
 use Rattle.sqlite_typed.specs.Columns.{or_null}
 use Rattle.sqlrows.specs.Layouts.{Layout}
 use Rattle.sqltables.specs.inner.Rows.{stored}
-pub use Rattle.sqltables.specs.declared.line.{LineRow.LineRow, GraceRow.GraceRow}
+pub use Rattle.sqltables.specs.declared.line.LineRow.{LineRow}
+pub use Rattle.sqltables.specs.declared.line.GraceRow.{GraceRow}
 
 -- as a query shows it, and as parameters
 abbrev pub line_shown : LineRow → Row

@@ -1,6 +1,8 @@
 -- What domains name: contacts in a role, and hosts, and how they lie in their table.
-use Rattle.std.specs.{Prelude.{◌&&◌, Bool, int_le, ℤ, [], ◌∷◌, refl}, Ordering.int_eq}
-use Rattle.sqlite_value.specs.{declared.value.Value.TheVariants.Int, Order.Row}
+use Rattle.std.specs.Prelude.{◌&&◌, Bool, int_le, ℤ, [], ◌∷◌, refl}
+use Rattle.std.specs.Ordering.{int_eq}
+use Rattle.sqlite_value.specs.declared.value.Value.TheVariants.{Int}
+use Rattle.sqlite_value.specs.Order.{Row}
 use Rattle.sqlite_keyed.specs.Rules.{points_to}
 use Rattle.sqlite_typed.specs.Columns.{or_null}
 use Rattle.sqlrows.specs.Layouts.{Layout}

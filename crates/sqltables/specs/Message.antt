@@ -1,9 +1,13 @@
 -- Messages that wait, how they lie in their table, and the order of a queue.
-use Rattle.std.specs.{Prelude.{◌&&◌, Bool, filter, ℤ, List, [], ◌∷◌, refl}, declared.cmp.Ordering.Ordering, Ordering.{int_cmp, int_eq, on}}
-use Rattle.sqlite_value.specs.{declared.value.Value.TheVariants.{Int, Text}, Order.Row}
+use Rattle.std.specs.Prelude.{◌&&◌, Bool, filter, ℤ, List, [], ◌∷◌, refl}
+use Rattle.std.specs.declared.cmp.Ordering.{Ordering}
+use Rattle.std.specs.Ordering.{int_cmp, int_eq, on}
+use Rattle.sqlite_value.specs.declared.value.Value.TheVariants.{Int, Text}
+use Rattle.sqlite_value.specs.Order.{Row}
 use Rattle.sqlite_keyed.specs.Lists.{sort_by}
 use Rattle.sqlite_typed.specs.Tests.{bytes_cmp, bytes_eq}
-use Rattle.sqlrows.specs.{Layouts.Layout, inner.Layouts.by_then_key}
+use Rattle.sqlrows.specs.Layouts.{Layout}
+use Rattle.sqlrows.specs.inner.Layouts.{by_then_key}
 use Rattle.sqltables.specs.inner.Rows.{stored}
 pub use Rattle.sqltables.specs.declared.message.MessageRow.{MessageRow}
 

@@ -1,12 +1,16 @@
 -- What a database is to this program.
-use Rattle.std.specs.{Prelude.{◌≡◌, ◌≢◌, Bool, true, false, List, [], ◌∷◌}, Ordering.int_eq}
+use Rattle.std.specs.Prelude.{◌≡◌, ◌≢◌, Bool, true, false, List, [], ◌∷◌}
+use Rattle.std.specs.Ordering.{int_eq}
 use Rattle.sqlite_catalog.specs.Listing.{IsSound}
 use Rattle.sqlite_schema.specs.declared.schema.Schema.{Schema}
 use Rattle.sqlite_trees.specs.Tree.{Trees}
 use Rattle.sqlrows.specs.Columns.{no_schema}
 use Rattle.states.specs.declared.readiness.Ready.{Ready}
 use Rattle.states.specs.declared.readiness.Ready.TheVariants as readiness
-use Rattle.sqltables.specs.{Decoding.contents, declared.form.Form.{Form, TheVariants.{Unused, Making, Made, Other}}, Meta.MetaRow}
+use Rattle.sqltables.specs.Decoding.{contents}
+use Rattle.sqltables.specs.declared.form.Form.{Form}
+use Rattle.sqltables.specs.declared.form.Form.TheVariants.{Unused, Making, Made, Other}
+use Rattle.sqltables.specs.Meta.{MetaRow}
 use Rattle.sqltables.specs.Tables.{registry, schema_number}
 
 -- the table `meta` has one row, and in it the number of this schema

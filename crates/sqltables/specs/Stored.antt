@@ -3,8 +3,12 @@ use Rattle.std.specs.Prelude.{◌≡◌, List}
 use Rattle.sqlite_catalog.specs.Listing.{IsSound}
 use Rattle.sqlite_trees.specs.Tree.{Trees}
 use Rattle.sqlrows.specs.Columns.{no_schema}
-use Rattle.sqltables.specs.{Content.{Content, no_content}, Decoding.contents, Readiness.IsKnownAs, Tables.registry}
-use Rattle.states.specs.{States.{Has, Remains}, declared.readiness.Ready.Ready}
+use Rattle.sqltables.specs.Content.{Content, no_content}
+use Rattle.sqltables.specs.Decoding.{contents}
+use Rattle.sqltables.specs.Readiness.{IsKnownAs}
+use Rattle.sqltables.specs.Tables.{registry}
+use Rattle.states.specs.States.{Has, Remains}
+use Rattle.states.specs.declared.readiness.Ready.{Ready}
 use Rattle.states.specs.declared.readiness.Ready.TheVariants as readiness
 
 -- what is held where nothing was made yet

@@ -1,7 +1,10 @@
 -- The tables of the registry.
 use Rattle.std.specs.Prelude.{[], ◌∷◌, ◌++◌, codes, List, map, ℕ, ℤ, pos}
-use Rattle.sqlite.specs.{Table.Table, Schema.Schema, Kind.TheVariants.{Integer, Text, Blob}}
-use Rattle.sqlite_schema.specs.declared.schema.{Column.Column, Index.Index}
+use Rattle.sqlite.specs.Table.{Table}
+use Rattle.sqlite.specs.Schema.{Schema}
+use Rattle.sqlite.specs.Kind.TheVariants.{Integer, Text, Blob}
+use Rattle.sqlite_schema.specs.declared.schema.Column.{Column}
+use Rattle.sqlite_schema.specs.declared.schema.Index.{Index}
 use Rattle.sqlite_catalog.specs.Change.{created, indexed}
 use Rattle.sqlrows.specs.Columns.{filled, nullable, keyed_table, index_on, reference_to, no_schema}
 use Rattle.sqltables.specs.inner.Tables.{line_create}

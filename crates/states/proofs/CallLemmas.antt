@@ -1,7 +1,6 @@
 -- One call on a store after another.
 use Rattle.std.proofs.Common.{◌≡◌, true, Result, Ok, Err, ◌∙◌}
-use Rattle.states.specs.declared.fault.BookFault.{BookFault}
-use Rattle.states.specs.States.{Answers, Finds, LeavesSame, Makes, Reads, StateOf}
+use Rattle.states.specs.{declared.fault.BookFault.BookFault, States.{Answers, Finds, LeavesSame, Makes, Reads, StateOf}}
 use Rattle.states.proofs.LeavingLemmas.{leaves-on}
 
 pub reads-on : {X : Type 0} (s m t : StateOf X) → Reads s m → Reads m t → Reads s t

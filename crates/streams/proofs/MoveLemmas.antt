@@ -1,11 +1,8 @@
 -- What the moves of one call join to.
 use Rattle.std.proofs.Common.{◌≡◌, ℕ, ◌+◌, ◌-◌, ◌≤◌, min, Option, List, ◌++◌, length, take, drop, slice_range, sym, ap, ◌∙◌, subst, arith, le_refl, drop_at, length-append, length-take-le, length-drop}
-use Rattle.std.proofs.lemmas.Slice.{take-put_mid_below}
-use Rattle.std.proofs.lemmas.List.{take_rest, take_min}
-use Rattle.std.proofs.Math.Seq.{take-append-add}
-use Rattle.std.specs.Prelude.{Result, Ok, Err, OnErr}
-use Rattle.std.specs.Io.KnownBytes.{Appends, Consumes}
+use Rattle.std.proofs.{lemmas.{Slice.take-put_mid_below, List.{take_rest, take_min}}, Math.Seq.take-append-add}
 use Rattle.std.proofs.KnownBytes.{Appends-trans, Consumes-trans}
+use Rattle.std.specs.{Prelude.{Result, Ok, Err, OnErr}, Io.KnownBytes.{Appends, Consumes}}
 use Rattle.streams.specs.Moves.{AppendsBeginning, AppendsLess}
 use borrow.Rule.Slice.PartMut.{put_mid, post_of}
 use lib.Seq.{take-add, take-append-le}

@@ -1,7 +1,7 @@
 -- What is left of those that wait.
 use Rattle.std.proofs.Common.{◌≡◌, ℕ, ◌<◌, zero, suc, Bool, true, false, cond, Option, None, Some, List, [], ◌∷◌, ◌++◌, length, remove, IfSome, inl, inr, refl, sym, ap, subst, arith, append-nil, append_assoc}
-use Rattle.std.specs.List.{HoldsAt}
 use Rattle.std.proofs.lemmas.List.Elements.{All-nil, All-cons, All-append}
+use Rattle.std.specs.List.{HoldsAt}
 use Rattle.wires.specs.inner.Rooms.{AreLeft, IsFirst, LetsGoSilent, Seats, TakesFirst, left_at, taken_at}
 
 module _ {W : Type 0} (Tells : W → Bool → Type 0) where

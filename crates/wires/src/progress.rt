@@ -1,7 +1,5 @@
 //! The state of a connection, by the bytes that came and went.
-ghost use Rattle.std.specs.Prelude.{◌≡◌, ◌-◌, ◌||◌, take};
-ghost use Rattle.std.specs.List.{fold};
-ghost use Rattle.std.specs.Duration.{as_nanos};
+ghost use Rattle.std.specs.{Prelude.{◌≡◌, ◌-◌, ◌||◌, take}, List.fold, Duration.as_nanos};
 ghost use Rattle.wires.specs.inner.Lateness as spec;
 ghost use Rattle.wires.specs.inner.Progress as states;
 

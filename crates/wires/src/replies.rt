@@ -1,6 +1,5 @@
 //! What the bytes of a reply tell.
-ghost use Rattle.std.specs.Prelude.{◌≡◌, fold};
-ghost use Rattle.std.specs.List.{list_all};
+ghost use Rattle.std.specs.{Prelude.{◌≡◌, fold}, List.list_all};
 ghost use Rattle.wires.specs.inner.Replies as spec;
 
 use crate::progress::front_of;

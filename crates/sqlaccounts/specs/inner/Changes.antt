@@ -1,9 +1,18 @@
 -- What calls make of the rows.
-use Rattle.std.specs.{Prelude.{◌≡◌, ℕ, ℤ, pos, ◌+ℤ◌, false, Option, Some}, FinMap.{FinMap, get, insert}, Option.{option_map_or, unwrap_or}}
+use Rattle.std.specs.Prelude.{◌≡◌, ℕ, ℤ, pos, ◌+ℤ◌, false, Option, Some}
+use Rattle.std.specs.FinMap.{FinMap, get, insert}
+use Rattle.std.specs.Option.{option_map_or, unwrap_or}
 use Rattle.std.specs.Ordering.{int_eq, nat_cmp}
-use Rattle.accounts.specs.{declared.{account.Account.Account, line.Line.Line, counters.Counters.Counters}, Account.empty_account}
-use Rattle.sqlcolumns.specs.{Lines.line_of_columns, Numbers.{counter_column, counter_in, registrar_column}}
-use Rattle.sqltables.specs.{declared.{account.AccountRow.AccountRow, line.LineRow.LineRow}, inner.Balance.balance_bytes, Content.Content}
+use Rattle.accounts.specs.declared.account.Account.{Account}
+use Rattle.accounts.specs.declared.line.Line.{Line}
+use Rattle.accounts.specs.declared.counters.Counters.{Counters}
+use Rattle.accounts.specs.Account.{empty_account}
+use Rattle.sqlcolumns.specs.Lines.{line_of_columns}
+use Rattle.sqlcolumns.specs.Numbers.{counter_column, counter_in, registrar_column}
+use Rattle.sqltables.specs.declared.account.AccountRow.{AccountRow}
+use Rattle.sqltables.specs.declared.line.LineRow.{LineRow}
+use Rattle.sqltables.specs.inner.Balance.{balance_bytes}
+use Rattle.sqltables.specs.Content.{Content}
 use Rattle.sqlaccounts.specs.Accounts.{accounts_of, balance_in, ident_and_held_of, place_ident, row_of, sums_are_right}
 
 -- the accounts, where a registrar's is changed; what was never opened is opened

@@ -1,9 +1,15 @@
 -- By which columns rows of lines are found.
-use Rattle.std.specs.{Prelude.{◌≡◌, ℕ, Bool, false, Option, Some, None}, Option.option_map_or}
-use Rattle.objects.specs.declared.roid.{ObjectKind.TheVariants.Domain, Roid.Roid}
-use Rattle.accounts.specs.{declared.line.Line.Line, Lines.is_line}
-use Rattle.sqlcolumns.specs.{Lines.line_of_columns, Numbers.{counter_column, registrar_column}, Roids.IsRoid}
-use Rattle.sqltables.specs.{Line.{line_of_object, line_with_account}, declared.line.LineRow.LineRow}
+use Rattle.std.specs.Prelude.{◌≡◌, ℕ, Bool, false, Option, Some, None}
+use Rattle.std.specs.Option.{option_map_or}
+use Rattle.objects.specs.declared.roid.ObjectKind.TheVariants.{Domain}
+use Rattle.objects.specs.declared.roid.Roid.{Roid}
+use Rattle.accounts.specs.declared.line.Line.{Line}
+use Rattle.accounts.specs.Lines.{is_line}
+use Rattle.sqlcolumns.specs.Lines.{line_of_columns}
+use Rattle.sqlcolumns.specs.Numbers.{counter_column, registrar_column}
+use Rattle.sqlcolumns.specs.Roids.{IsRoid}
+use Rattle.sqltables.specs.Line.{line_of_object, line_with_account}
+use Rattle.sqltables.specs.declared.line.LineRow.{LineRow}
 
 -- a row of the registrar's with the domain's columns
 abbrev pub is_row_on : ℕ → Roid → LineRow → Bool

@@ -2,14 +2,22 @@
 use Rattle.std.specs.Prelude.{◌≡◌, ◌⊎◌, ℕ, true, Option, Some, Result, Ok, Err}
 use Rattle.sqlite_keyed.specs.Keyed.{insert_by}
 use Rattle.sqlite_rules.specs.Lists.{Has}
-use Rattle.states.specs.{States.{StateOf, Stays}, declared.fault.BookFault.BookFault}
-use Rattle.accounts.specs.declared.{account.Account.Account, line.Line.Line}
+use Rattle.states.specs.States.{StateOf, Stays}
+use Rattle.states.specs.declared.fault.BookFault.{BookFault}
+use Rattle.accounts.specs.declared.account.Account.{Account}
+use Rattle.accounts.specs.declared.line.Line.{Line}
 use Rattle.policy.specs.declared.schedule.Schedule.{Schedule}
-use Rattle.sqlcolumns.specs.{Lines.line_of_columns, Numbers.{is_place, maybe_moment_column, registrar_column}}
+use Rattle.sqlcolumns.specs.Lines.{line_of_columns}
+use Rattle.sqlcolumns.specs.Numbers.{is_place, maybe_moment_column, registrar_column}
 use Rattle.sqlrows.specs.Meanings.{HasChanged}
 use Rattle.sqltables.specs.Account as account_table
-use Rattle.sqltables.specs.{declared.{account.AccountRow.AccountRow, line.LineRow.LineRow}, Content.Content, inner.Content.accounts_to}
-use Rattle.sqlaccounts.specs.{Accounts.{ident_and_held, row_of}, Graces.maybe_grace_end, inner.Changes.IsChange}
+use Rattle.sqltables.specs.declared.account.AccountRow.{AccountRow}
+use Rattle.sqltables.specs.declared.line.LineRow.{LineRow}
+use Rattle.sqltables.specs.Content.{Content}
+use Rattle.sqltables.specs.inner.Content.{accounts_to}
+use Rattle.sqlaccounts.specs.Accounts.{ident_and_held, row_of}
+use Rattle.sqlaccounts.specs.Graces.{maybe_grace_end}
+use Rattle.sqlaccounts.specs.inner.Changes.{IsChange}
 
 -- the rows, with this one of account in the place of the one with its number
 abbrev pub with_row : AccountRow → Content → Content

@@ -2,8 +2,10 @@
 use Rattle.std.specs.Prelude.{◌≡◌, ℕ, filter}
 use Rattle.accounts.specs.declared.message.Message.{Message}
 use Rattle.sqlcolumns.specs.Numbers.{registrar_column}
-use Rattle.sqltables.specs.{Content.Content, Message.is_same_message}
-use Rattle.sqlaccounts.specs.{inner.QueueRows.IsWritten, declared.queue.Found.Found}
+use Rattle.sqltables.specs.Content.{Content}
+use Rattle.sqltables.specs.Message.{is_same_message}
+use Rattle.sqlaccounts.specs.inner.QueueRows.{IsWritten}
+use Rattle.sqlaccounts.specs.declared.queue.Found.{Found}
 
 -- the row of the message, and all rows with its columns
 pub record IsFound (xs : Content) (r : ℕ) (m : Message) (it : Found) : Type 0 where

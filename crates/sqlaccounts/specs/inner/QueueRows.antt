@@ -2,7 +2,8 @@
 use Rattle.std.specs.Prelude.{◌≡◌, ℤ, ◌+ℤ◌, Some}
 use Rattle.accounts.specs.declared.message.Message.{Message}
 use Rattle.sqlcolumns.specs.Messages.{message_of_columns}
-use Rattle.sqltables.specs.declared.{account.AccountRow.AccountRow, message.MessageRow.MessageRow}
+use Rattle.sqltables.specs.declared.account.AccountRow.{AccountRow}
+use Rattle.sqltables.specs.declared.message.MessageRow.{MessageRow}
 
 -- under the account's number it reads as the message
 pub record IsWritten (id : ℤ) (m : Message) (row : MessageRow) : Type 0 where

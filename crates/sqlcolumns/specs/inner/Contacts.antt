@@ -1,10 +1,15 @@
 -- How a contact lies in its row. Its transfer lies in a row of its own.
 use Rattle.std.specs.Prelude.{ℕ, ℤ, List, Option, Some}
-use Rattle.objects.specs.declared.contact.{Contact.Contact, Postal.Postal}
+use Rattle.objects.specs.declared.contact.Contact.{Contact}
+use Rattle.objects.specs.declared.contact.Postal.{Postal}
 use Rattle.objects.specs.declared.roid.ObjectKind.TheVariants as kinds
-use Rattle.sqltables.specs.declared.contact.{ContactRow.ContactRow, PostalRow.PostalRow}
-use Rattle.sqlcolumns.specs.declared.registration.{Registration.Registration, RegistrationColumns.RegistrationColumns}
-use Rattle.sqlcolumns.specs.{Registrations.{IsRegistration, registration_columns}, Steps.◌>>=◌, Texts.{statuses_column, street_column}}
+use Rattle.sqltables.specs.declared.contact.ContactRow.{ContactRow}
+use Rattle.sqltables.specs.declared.contact.PostalRow.{PostalRow}
+use Rattle.sqlcolumns.specs.declared.registration.Registration.{Registration}
+use Rattle.sqlcolumns.specs.declared.registration.RegistrationColumns.{RegistrationColumns}
+use Rattle.sqlcolumns.specs.Registrations.{IsRegistration, registration_columns}
+use Rattle.sqlcolumns.specs.Steps.{◌>>=◌}
+use Rattle.sqlcolumns.specs.Texts.{statuses_column, street_column}
 use Rattle.sqlcolumns.specs.Transfers.{maybe_due_column}
 
 abbrev pub contact_registration : Contact → Registration

@@ -1,13 +1,17 @@
 -- How a domain lies in its row. Its links and its transfer lie in rows of their own.
 use Rattle.std.specs.Prelude.{ℕ, ◌<◌, ◌^◌, ℤ, Option, Some, None, IfSome}
 use Rattle.calendar.specs.Moment.{IsMoment}
-use Rattle.objects.specs.declared.domain.{Deletion.Deletion, Domain.Domain}
+use Rattle.objects.specs.declared.domain.Deletion.{Deletion}
+use Rattle.objects.specs.declared.domain.Domain.{Domain}
 use Rattle.objects.specs.declared.roid.ObjectKind.TheVariants as kinds
 use Rattle.sqltables.specs.declared.domain.DomainRow.{DomainRow}
-use Rattle.sqlcolumns.specs.declared.{domain.DeletionColumns.DeletionColumns, registration.Registration.Registration}
+use Rattle.sqlcolumns.specs.declared.domain.DeletionColumns.{DeletionColumns}
+use Rattle.sqlcolumns.specs.declared.registration.Registration.{Registration}
 use Rattle.sqlcolumns.specs.declared.registration.RegistrationColumns.{RegistrationColumns}
 use Rattle.sqlcolumns.specs.Numbers.{maybe_moment_column, moment_column, years_column}
-use Rattle.sqlcolumns.specs.{Registrations.{IsRegistration, registration_columns}, Steps.◌>>=◌, Texts.statuses_column}
+use Rattle.sqlcolumns.specs.Registrations.{IsRegistration, registration_columns}
+use Rattle.sqlcolumns.specs.Steps.{◌>>=◌}
+use Rattle.sqlcolumns.specs.Texts.{statuses_column}
 
 abbrev pub domain_registration : Domain → Registration
 domain_registration d = record { roid = d.roid; sponsor = d.sponsor; created = d.created; transferred = d.transferred; updated = d.updated }

@@ -4,9 +4,12 @@ use Rattle.calendar.specs.Moment.{IsMoment}
 use Rattle.objects.specs.declared.host.Host.{Host}
 use Rattle.objects.specs.declared.roid.ObjectKind.TheVariants as kinds
 use Rattle.sqltables.specs.declared.host.HostRow.{HostRow}
-use Rattle.sqlcolumns.specs.{declared.roid.RoidColumns.RoidColumns, Above.above}
-use Rattle.sqlcolumns.specs.{Numbers.{IsPlace, maybe_moment_column, maybe_registrar_column, moment_column}, Roids.{IsRoid, roid_columns}}
-use Rattle.sqlcolumns.specs.{Steps.◌>>=◌, Texts.statuses_column}
+use Rattle.sqlcolumns.specs.declared.roid.RoidColumns.{RoidColumns}
+use Rattle.sqlcolumns.specs.Above.{above}
+use Rattle.sqlcolumns.specs.Numbers.{IsPlace, maybe_moment_column, maybe_registrar_column, moment_column}
+use Rattle.sqlcolumns.specs.Roids.{IsRoid, roid_columns}
+use Rattle.sqlcolumns.specs.Steps.{◌>>=◌}
+use Rattle.sqlcolumns.specs.Texts.{statuses_column}
 
 pub record IsHost (h : Host) : Type 0 where
   pub roid : IsRoid h.roid

@@ -1,11 +1,15 @@
 -- How a line of an account lies in its row.
 use Rattle.std.specs.Prelude.{◌<◌, ◌^◌, ℤ, Option, Some, None, IfSome, option_map}
 use Rattle.calendar.specs.Moment.{IsMoment}
-use Rattle.objects.specs.declared.roid.{ObjectKind.TheVariants.Domain, Roid.Roid}
+use Rattle.objects.specs.declared.roid.ObjectKind.TheVariants.{Domain}
+use Rattle.objects.specs.declared.roid.Roid.{Roid}
 use Rattle.accounts.specs.declared.line.Line.{Line}
 use Rattle.sqltables.specs.declared.line.LineRow.{LineRow}
-use Rattle.sqlcolumns.specs.{declared.{line.DomainColumns.DomainColumns, roid.RoidColumns.RoidColumns}, Codes.kind_column}
-use Rattle.sqlcolumns.specs.{Numbers.{exact_column, maybe_moment_column, moment_column, years_column}, Roids.{IsRoid, roid_columns}}
+use Rattle.sqlcolumns.specs.declared.line.DomainColumns.{DomainColumns}
+use Rattle.sqlcolumns.specs.declared.roid.RoidColumns.{RoidColumns}
+use Rattle.sqlcolumns.specs.Codes.{kind_column}
+use Rattle.sqlcolumns.specs.Numbers.{exact_column, maybe_moment_column, moment_column, years_column}
+use Rattle.sqlcolumns.specs.Roids.{IsRoid, roid_columns}
 use Rattle.sqlcolumns.specs.Steps.{◌>>=◌}
 
 -- ---- which values there are

@@ -2,10 +2,16 @@
 use Rattle.std.specs.Prelude.{◌≡◌, false, true}
 use Rattle.sqlite_trees.specs.Tree.{Trees}
 use Rattle.sqlite_catalog.specs.Listing.{IsSound}
-use Rattle.sqlite.specs.{Effect.IsDatabase, State.{State, Opens}}
+use Rattle.sqlite.specs.Effect.{IsDatabase}
+use Rattle.sqlite.specs.State.{State, Opens}
 use Rattle.sqlrows.specs.Columns.{no_schema}
-use Rattle.states.specs.{States.StateOf, declared.readiness.Ready.{Ready, TheVariants.{Empty, Used, Other}}}
-use Rattle.sqltables.specs.{Content.Content, Decoding.contents, Stored.fresh, Tables.registry}
+use Rattle.states.specs.States.{StateOf}
+use Rattle.states.specs.declared.readiness.Ready.{Ready}
+use Rattle.states.specs.declared.readiness.Ready.TheVariants.{Empty, Used, Other}
+use Rattle.sqltables.specs.Content.{Content}
+use Rattle.sqltables.specs.Decoding.{contents}
+use Rattle.sqltables.specs.Stored.{fresh}
+use Rattle.sqltables.specs.Tables.{registry}
 use Rattle.sqltables.specs.Adoption.{IsInOrder, LeavesIt, IsSameRegistry}
 
 -- the database is that of the last commit, no transaction is open, each row obeys the schema, and the rows lie in order

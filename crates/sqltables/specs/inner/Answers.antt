@@ -3,10 +3,16 @@ use Rattle.std.specs.Prelude.{◌≡◌, ◌⊎◌, ◌||◌, ◌==◌, ◌≤�
 use Rattle.std.specs.List.{All}
 use Rattle.sqlite_value.specs.Order.{Row}
 use Rattle.sqlite_trees.specs.Tree.{Trees}
-use Rattle.sqlite_sql.specs.{Query.{Query, IsAnswer}, Program.overlay}
-use Rattle.sqlite.specs.{State.{State, HasCleanDisk}, Values.bound_value}
+use Rattle.sqlite_sql.specs.Query.{Query, IsAnswer}
+use Rattle.sqlite_sql.specs.Program.{overlay}
+use Rattle.sqlite.specs.State.{State, HasCleanDisk}
+use Rattle.sqlite.specs.Values.{bound_value}
 use Rattle.sqlrows.specs.inner.Layouts.{IsSelect}
-use Rattle.sqltables.specs.{Account.accounts, Day.days, Meta.metas, Tables.registry, inner.Statements.IsOfTable}
+use Rattle.sqltables.specs.Account.{accounts}
+use Rattle.sqltables.specs.Day.{days}
+use Rattle.sqltables.specs.Meta.{metas}
+use Rattle.sqltables.specs.Tables.{registry}
+use Rattle.sqltables.specs.inner.Statements.{IsOfTable}
 use Rattle.sqltables.specs.declared.answers.Answer.{Answer}
 
 -- these rows answer the question that the text is, of the trees

@@ -1,5 +1,6 @@
 -- How a balance is stored.
-use Rattle.std.specs.{Prelude.{ℕ, ℤ, List}, Int.{w128, to_be_bytes, cast_unsigned}}
+use Rattle.std.specs.Prelude.{ℕ, ℤ, List}
+use Rattle.std.specs.Int.{w128, to_be_bytes, cast_unsigned}
 
 -- sixteen bytes, two's complement, the highest first
 abbrev pub balance_bytes : ℤ → List ℕ

@@ -2,8 +2,18 @@
 use Rattle.std.specs.Prelude.{◌≡◌, ℕ, ℤ, List, Option, Some}
 use Rattle.sqlite_keyed.specs.Keyed.{IsKeyedBy}
 use Rattle.sqlite_rules.specs.Lists.{Has}
-use Rattle.sqltables.specs.{Content.Content, Meta.MetaRow, Account.AccountRow, Contact.ContactRow, Domain.DomainRow, Host.HostRow}
-use Rattle.sqltables.specs.{Address.AddressRow, Link.LinkRow, Line.LineRow, Message.MessageRow, Transfer.TransferRow, Day.DayRow}
+use Rattle.sqltables.specs.Content.{Content}
+use Rattle.sqltables.specs.Meta.{MetaRow}
+use Rattle.sqltables.specs.Account.{AccountRow}
+use Rattle.sqltables.specs.Contact.{ContactRow}
+use Rattle.sqltables.specs.Domain.{DomainRow}
+use Rattle.sqltables.specs.Host.{HostRow}
+use Rattle.sqltables.specs.Address.{AddressRow}
+use Rattle.sqltables.specs.Link.{LinkRow}
+use Rattle.sqltables.specs.Line.{LineRow}
+use Rattle.sqltables.specs.Message.{MessageRow}
+use Rattle.sqltables.specs.Transfer.{TransferRow}
+use Rattle.sqltables.specs.Day.{DayRow}
 
 -- rows with the same name are the same row
 abbrev pub IsNamedBy : {X : Type 0} → (X → List ℕ) → List X → Type 0

@@ -2,12 +2,19 @@
 use Rattle.std.specs.Prelude.{◌≡◌, List}
 use Rattle.sqlite.specs.Effect.{Database}
 use Rattle.sqlrows.specs.inner.Layouts.{Holds}
-use Rattle.sqltables.specs.{Tables.registry, Meta.{MetaRow, metas as meta_layout}, Account.{AccountRow, accounts as account_layout}}
-use Rattle.sqltables.specs.{Contact.{ContactRow, contacts as contact_layout}, Domain.{DomainRow, domains as domain_layout}}
-use Rattle.sqltables.specs.{Host.{HostRow, hosts as host_layout}, Address.{AddressRow, addresses as address_layout}}
-use Rattle.sqltables.specs.{Link.{LinkRow, links as link_layout}, Line.{LineRow, lines as line_layout}}
-use Rattle.sqltables.specs.{Message.{MessageRow, messages as message_layout}, Transfer.{TransferRow, transfers as transfer_layout}}
-use Rattle.sqltables.specs.{Day.{DayRow, days as day_layout}, Content.Content}
+use Rattle.sqltables.specs.Tables.{registry}
+use Rattle.sqltables.specs.Meta.{MetaRow, metas as meta_layout}
+use Rattle.sqltables.specs.Account.{AccountRow, accounts as account_layout}
+use Rattle.sqltables.specs.Contact.{ContactRow, contacts as contact_layout}
+use Rattle.sqltables.specs.Domain.{DomainRow, domains as domain_layout}
+use Rattle.sqltables.specs.Host.{HostRow, hosts as host_layout}
+use Rattle.sqltables.specs.Address.{AddressRow, addresses as address_layout}
+use Rattle.sqltables.specs.Link.{LinkRow, links as link_layout}
+use Rattle.sqltables.specs.Line.{LineRow, lines as line_layout}
+use Rattle.sqltables.specs.Message.{MessageRow, messages as message_layout}
+use Rattle.sqltables.specs.Transfer.{TransferRow, transfers as transfer_layout}
+use Rattle.sqltables.specs.Day.{DayRow, days as day_layout}
+use Rattle.sqltables.specs.Content.{Content}
 
 -- the tables are those of the registry, and hold these rows
 pub record IsContent (content : Content) (db : Database) : Type 0 where

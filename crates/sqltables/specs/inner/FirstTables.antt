@@ -1,6 +1,8 @@
 -- The schema before this one, number 1: ten tables, and no end of a line's grace.
 use Rattle.std.specs.Prelude.{[], ◌∷◌, codes, List, ℕ, ℤ, pos}
-use Rattle.sqlite.specs.{Table.Table, Schema.Schema, Kind.TheVariants.Integer}
+use Rattle.sqlite.specs.Table.{Table}
+use Rattle.sqlite.specs.Schema.{Schema}
+use Rattle.sqlite.specs.Kind.TheVariants.{Integer}
 use Rattle.sqlrows.specs.Columns.{filled, nullable}
 use Rattle.sqltables.specs.Tables.{line_with, made_with}
 

@@ -1,7 +1,10 @@
 -- A store of rows that is opened where a crash left another.
 use Rattle.std.specs.Prelude.{◌≡◌, true, List, ⊤}
-use Rattle.states.specs.{declared.readiness.Ready.{Ready, TheVariants.{Empty, Used, Other}}, States.{Has, Remains, StateOf}}
-use Rattle.sqltables.specs.{Content.Content, Readiness.is_numbered}
+use Rattle.states.specs.declared.readiness.Ready.{Ready}
+use Rattle.states.specs.declared.readiness.Ready.TheVariants.{Empty, Used, Other}
+use Rattle.states.specs.States.{Has, Remains, StateOf}
+use Rattle.sqltables.specs.Content.{Content}
+use Rattle.sqltables.specs.Readiness.{is_numbered}
 
 -- what was left is what is found, if it was nothing, or rows with the number of this schema
 abbrev pub IsContentFoundAgain : Ready → Content → Ready → Content → Type 0

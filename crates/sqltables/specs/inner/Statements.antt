@@ -1,11 +1,18 @@
 -- What the texts of statements mean for the eleven tables.
-use Rattle.std.specs.{Prelude.{◌≡◌, ◌≢◌, ◌==◌, ℕ, ℤ, Bool, List, [], map, true, Option, Some}, List.list_any}
+use Rattle.std.specs.Prelude.{◌≡◌, ◌≢◌, ◌==◌, ℕ, ℤ, Bool, List, [], map, true, Option, Some}
+use Rattle.std.specs.List.{list_any}
 use Rattle.sqlite_value.specs.Order.{Row}
 use Rattle.sqlite_trees.specs.Tree.{Trees}
-use Rattle.sqlite_sql.specs.{Query.{Query, IsAnswer, inner, end}, Program.overlay}
-use Rattle.sqlite.specs.{Does.Tally, Effect.Database, Given.IsPlain, Listing.understood}
+use Rattle.sqlite_sql.specs.Query.{Query, IsAnswer, inner, end}
+use Rattle.sqlite_sql.specs.Program.{overlay}
+use Rattle.sqlite.specs.Does.{Tally}
+use Rattle.sqlite.specs.Effect.{Database}
+use Rattle.sqlite.specs.Given.{IsPlain}
+use Rattle.sqlite.specs.Listing.{understood}
 use Rattle.sqlrows.specs.inner.Layouts.{IsSelect, Leads, command_of, writes_tables}
-use Rattle.sqltables.specs.{Content.Content, inner.Content.IsContent, Tables.registry}
+use Rattle.sqltables.specs.Content.{Content}
+use Rattle.sqltables.specs.inner.Content.{IsContent}
+use Rattle.sqltables.specs.Tables.{registry}
 
 -- one of the tables lies in this tree
 abbrev pub is_table : ℕ → Bool

@@ -1,11 +1,17 @@
 -- The state of a store of rows, by its database.
 use Rattle.std.specs.Prelude.{◌≡◌, ◌&&◌, Bool, true, false, if◌then◌else◌, List, [], ◌∷◌, map, IsTrue, ⊤}
-use Rattle.sqlite.specs.{Effect.Database, State.{State, HasCleanDisk}}
+use Rattle.sqlite.specs.Effect.{Database}
+use Rattle.sqlite.specs.State.{State, HasCleanDisk}
 use Rattle.sqlite_trees.specs.Tree.{Trees}
 use Rattle.sqlrows.specs.Columns.{no_schema}
-use Rattle.sqltables.specs.{Content.Content, inner.Content.IsContent, Decoding.contents, declared.form.Form.Form}
-use Rattle.sqltables.specs.{declared.form.Form.TheVariants.{Unused, Making, Made, Other}, Stored.{fresh, Covers}}
-use Rattle.states.specs.{States.{Remains, StateOf}, declared.readiness.Ready.Ready}
+use Rattle.sqltables.specs.Content.{Content}
+use Rattle.sqltables.specs.inner.Content.{IsContent}
+use Rattle.sqltables.specs.Decoding.{contents}
+use Rattle.sqltables.specs.declared.form.Form.{Form}
+use Rattle.sqltables.specs.declared.form.Form.TheVariants.{Unused, Making, Made, Other}
+use Rattle.sqltables.specs.Stored.{fresh, Covers}
+use Rattle.states.specs.States.{Remains, StateOf}
+use Rattle.states.specs.declared.readiness.Ready.{Ready}
 use Rattle.states.specs.declared.readiness.Ready.TheVariants as readiness
 
 abbrev pub readiness_of : Form → Ready

@@ -1,8 +1,6 @@
 use Rattle.std.proofs.Common.{◌≡◌, ◌<◌, length, None, Some, ap, arith, subst, sym, ◌∙◌}
-use Rattle.books.specs.Book.{Stored, with_changes}
+use Rattle.books.specs.{Book.{Stored, with_changes}, Tables.posted_all, inner.Grouping.first_account}
 use Rattle.lifecycle.specs.Changes.{all_changed}
-use Rattle.books.specs.Tables.{posted_all}
-use Rattle.books.specs.inner.Grouping.{first_account}
 use Rattle.states.specs.States.{Makes}
 use Rattle.states.proofs.CallLemmas.{makes-on}
 use Rattle.books.proofs.GroupingLemmas.{ahead, before-objects, fewer-left}

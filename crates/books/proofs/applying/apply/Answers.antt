@@ -1,6 +1,5 @@
 use Rattle.std.proofs.Common.{◌≡◌, Some, ap, subst, sym, ◌∙◌}
-use Rattle.books.specs.Book.{Stored}
-use Rattle.books.specs.inner.Grouping.{first_account, others, posts_of}
+use Rattle.books.specs.{Book.Stored, inner.Grouping.{first_account, others, posts_of}}
 use Rattle.states.specs.States.{Makes}
 use Rattle.books.proofs.GroupingLemmas.{behind}
 use Rattle.books.proofs.applying.apply.Goals as goal

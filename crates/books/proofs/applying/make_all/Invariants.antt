@@ -1,6 +1,5 @@
 use Rattle.std.proofs.Common.{◌≡◌, true}
-use Rattle.books.specs.Book.{with_changes}
-use Rattle.books.specs.Tables.{maybe_posted}
+use Rattle.books.specs.{Book.with_changes, Tables.maybe_posted}
 use Rattle.states.specs.States.{Answers, Stays}
 use Rattle.books.proofs.applying.make_all.Given as goal
 

@@ -1,7 +1,6 @@
 use Rattle.std.proofs.Common.{◌∙◌, ap, List}
 use Rattle.accounts.specs.declared.line.Line.{Line}
-use Rattle.lifecycle.specs.declared.change.RunningRefund.{RunningRefund}
-use Rattle.lifecycle.specs.Refunds.{given_back}
+use Rattle.lifecycle.specs.{declared.change.RunningRefund.RunningRefund, Refunds.given_back}
 use Rattle.books.proofs.LinesOnLemmas.{back-found}
 use Rattle.books.proofs.finding.back_for.Goals as goal
 

@@ -1,6 +1,5 @@
 use Rattle.std.proofs.Common.{false, nat_le, ◌&&◌, None, option_map}
-use Rattle.facts.specs.declared.facts.TheConstants.{HOLDING_LIMIT}
-use Rattle.facts.specs.Facts.{account_facts, facts, held, queue_asked}
+use Rattle.facts.specs.{declared.facts.TheConstants.HOLDING_LIMIT, Facts.{account_facts, facts, held, queue_asked}}
 use Rattle.model.specs.Registry.{Registry, account_of}
 use Rattle.names.specs.RequestedName.{name_of}
 use Rattle.protocol.specs.Requests.{adds_a_held_domain, asked, new_host_asked}

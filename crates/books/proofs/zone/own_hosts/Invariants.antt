@@ -1,6 +1,5 @@
 use Rattle.std.proofs.Common.{◌≡◌, drop}
-use Rattle.std.specs.Prelude.{fold}
-use Rattle.std.specs.List.{flat_map}
+use Rattle.std.specs.{Prelude.fold, List.flat_map}
 use Rattle.model.specs.Zone.{hosts_in_zone, own_hosts, with_name}
 use Rattle.books.proofs.zone.own_hosts.Given as goal
 

@@ -1,5 +1,4 @@
-use Rattle.concerns.proofs.CommandLemmas.{answer-now, effect-now}
-use Rattle.concerns.proofs.FactsLemmas.{facts-now}
+use Rattle.concerns.proofs.{CommandLemmas.{answer-now, effect-now}, FactsLemmas.facts-now}
 use Rattle.concerns.proofs.laws.commands_are_answered_as_now.Goals as goal
 
 pub returns : goal.returns

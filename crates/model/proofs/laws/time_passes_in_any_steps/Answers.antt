@@ -1,5 +1,4 @@
-use Rattle.model.proofs.LapseLaws.{have-one-future, lapses-on, lapses-on-from-some}
-use Rattle.model.proofs.OneByOneLemmas.{lapses-on-from-each}
+use Rattle.model.proofs.{LapseLaws.{have-one-future, lapses-on, lapses-on-from-some}, OneByOneLemmas.lapses-on-from-each}
 use Rattle.model.proofs.laws.time_passes_in_any_steps.Goals as goal
 
 pub returns : goal.returns

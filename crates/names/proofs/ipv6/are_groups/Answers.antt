@@ -1,6 +1,4 @@
-use Rattle.std.proofs.Common.{rules, tests}
-use Rattle.std.proofs.lemmas.Iterator.Search.{all_from_yields_List}
-use Rattle.std.proofs.lemmas.Iterator.Splits.{YieldsList-from_slice_split}
+use Rattle.std.proofs.{Common.{rules, tests}, lemmas.Iterator.{Search.all_from_yields_List, Splits.YieldsList-from_slice_split}}
 use Rattle.names.specs.Ipv6.{is_group}
 use Rattle.names.proofs.ipv6.are_groups.Goals as goal
 

@@ -1,6 +1,4 @@
-use Rattle.std.proofs.Common.{rules, tests}
-use Rattle.std.proofs.lemmas.Iterator.{YieldsList-from_map, items_from_collect}
-use Rattle.std.proofs.lemmas.Iterator.Consumers.{YieldsList-at}
+use Rattle.std.proofs.{Common.{rules, tests}, lemmas.Iterator.{YieldsList-from_map, items_from_collect, Consumers.YieldsList-at}}
 use Rattle.std.proofs.lemmas.Iterator.Splits.{YieldsList-from_slice_split}
 use Rattle.names.specs.Ipv6.{group_of, is_colon}
 use Rattle.names.proofs.ipv6.values.Goals as goal

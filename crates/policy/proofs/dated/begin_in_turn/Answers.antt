@@ -1,9 +1,7 @@
-use Rattle.std.proofs.Common.{sym, ap, ◌∙◌, map}
-use Rattle.std.proofs.lemmas.List.{drop_all}
+use Rattle.std.proofs.{Common.{sym, ap, ◌∙◌, map}, lemmas.List.drop_all}
 use Rattle.toml.specs.View.{view}
 use Rattle.policy.specs.Reading.{begin_after}
-use Rattle.policy.proofs.DatedLemmas.{begin-early, begin-here, begin-nil, begin-none}
-use Rattle.policy.proofs.TextLemmas.{entries_left}
+use Rattle.policy.proofs.{DatedLemmas.{begin-early, begin-here, begin-nil, begin-none}, TextLemmas.entries_left}
 use Rattle.policy.proofs.dated.begin_in_turn.Goals as goal
 
 pub returns-in_default : goal.returns-in_default

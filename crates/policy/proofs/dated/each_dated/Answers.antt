@@ -1,11 +1,7 @@
-use Rattle.std.proofs.Common.{◌+◌, map, drop}
-use Rattle.std.proofs.lemmas.Result.{err_from_is_err_and}
-use Rattle.std.proofs.lemmas.List.{drop_all}
+use Rattle.std.proofs.{Common.{◌+◌, map, drop}, lemmas.{Result.err_from_is_err_and, List.drop_all}}
 use Rattle.toml.specs.View.{view}
-use Rattle.policy.specs.Rules.{AreDays}
-use Rattle.policy.specs.declared.schedule.DatedDays.{DatedDays}
-use Rattle.policy.proofs.DatedLemmas.{all-more, each-cons, each-fails, each-nil}
-use Rattle.policy.proofs.TextLemmas.{entries_left}
+use Rattle.policy.specs.{Rules.AreDays, declared.schedule.DatedDays.DatedDays}
+use Rattle.policy.proofs.{DatedLemmas.{all-more, each-cons, each-fails, each-nil}, TextLemmas.entries_left}
 use Rattle.policy.proofs.dated.each_dated.Goals as goal
 
 pub returns-in_err-dated_in-clause-read : goal.returns-in_err-dated_in-clause-read

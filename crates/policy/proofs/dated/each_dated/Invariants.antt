@@ -1,9 +1,7 @@
 use Rattle.std.proofs.Common.{◌≡◌, map, drop}
 use Rattle.std.specs.List.{AllByRecursion}
 use Rattle.toml.specs.View.{view}
-use Rattle.policy.specs.Reading.{each_dated}
-use Rattle.policy.specs.Rules.{AreDays}
-use Rattle.policy.specs.declared.schedule.DatedDays.{DatedDays}
+use Rattle.policy.specs.{Reading.each_dated, Rules.AreDays, declared.schedule.DatedDays.DatedDays}
 use Rattle.policy.proofs.TextLemmas.{with_front}
 use Rattle.policy.proofs.dated.each_dated.Given as goal
 

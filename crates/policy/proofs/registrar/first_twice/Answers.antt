@@ -1,5 +1,4 @@
-use Rattle.std.proofs.Common.{◌+◌, sym, ◌∙◌, drop}
-use Rattle.std.proofs.lemmas.List.{drop_all}
+use Rattle.std.proofs.{Common.{◌+◌, sym, ◌∙◌, drop}, lemmas.List.drop_all}
 use Rattle.policy.proofs.TextLemmas.{texts_left, first_twice-here, first_twice-later, first_twice-none, all_after}
 use Rattle.policy.proofs.registrar.first_twice.Goals as goal
 

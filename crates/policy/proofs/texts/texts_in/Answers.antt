@@ -1,6 +1,4 @@
-use Rattle.std.proofs.Common.{◌+◌, ℕ, List, map, drop, arith}
-use Rattle.std.proofs.lemmas.Result.{err_from_is_err_and}
-use Rattle.std.proofs.lemmas.List.{drop_all, length-append}
+use Rattle.std.proofs.{Common.{◌+◌, ℕ, List, map, drop, arith}, lemmas.{Result.err_from_is_err_and, List.{drop_all, length-append}}}
 use Rattle.toml.specs.View.{view}
 use Rattle.policy.proofs.TextLemmas.{entries_left, texts_in-cons, texts_in-nil, texts_in-fails}
 use Rattle.policy.proofs.texts.texts_in.Goals as goal

@@ -1,6 +1,5 @@
 use Rattle.std.proofs.Common.{sym, ◌∙◌}
-use Rattle.rules.specs.inner.Cases.{refusal_in}
-use Rattle.rules.specs.inner.KnownData.{grant_in}
+use Rattle.rules.specs.inner.{Cases.refusal_in, KnownData.grant_in}
 use Rattle.rules.proofs.LawLemmas.{granted-is-answered}
 use Rattle.rules.proofs.verdict.answer.Goals as goal
 

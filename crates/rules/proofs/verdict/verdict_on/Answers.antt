@@ -1,7 +1,6 @@
 use Rattle.std.proofs.Common.{◌≡◌, IfOk, subst, sym}
 use Rattle.protocol.specs.declared.command.Command.{Command}
-use Rattle.rules.specs.Verdicts.{judged}
-use Rattle.rules.specs.declared.verdict.Verdict.{Verdict}
+use Rattle.rules.specs.{Verdicts.judged, declared.verdict.Verdict.Verdict}
 use Rattle.rules.proofs.verdict.verdict_on.Goals as goal
 
 pub returns-in-Asked : goal.returns-in-Asked

@@ -1,6 +1,5 @@
 use Rattle.std.proofs.Common.{◌+◌, arith}
-use Rattle.sqlrows.proofs.Words.{IfOk-from_err, state, survives_then}
-use Rattle.sqlrows.proofs.StandLemmas.{on_err_always}
+use Rattle.sqlrows.proofs.{Words.{IfOk-from_err, state, survives_then}, StandLemmas.on_err_always}
 use Rattle.sqlrows.proofs.DefineLemmas.{stays_then, stands_then, leaves_no_more, text_at, texts_from, leads_next, writes_next, leads_on}
 use Rattle.sqlrows.proofs.definition.define.Goals as goal
 

@@ -1,5 +1,4 @@
-use Rattle.std.proofs.Common.{Err, Ok}
-use Rattle.std.proofs.lemmas.Result.{IfOk-from_err}
+use Rattle.std.proofs.{Common.{Err, Ok}, lemmas.Result.IfOk-from_err}
 use Rattle.sqlrows.proofs.StandLemmas.{on_err_always, stands_if_not_executed, commits_later, stays_if_executed}
 use Rattle.sqlrows.proofs.SoundLemmas.{executed_open, steady}
 use Rattle.sqlrows.proofs.record.write.Goals as goal

@@ -1,6 +1,5 @@
 use Rattle.std.proofs.Common.{Ok, Err}
-use Rattle.sqlrows.proofs.Words.{MatchResult-from_err, state}
-use Rattle.sqlrows.proofs.TransactionLemmas.{began, begin_leaves}
+use Rattle.sqlrows.proofs.{Words.{MatchResult-from_err, state}, TransactionLemmas.{began, begin_leaves}}
 use Rattle.sqlrows.proofs.transaction.begin.Goals as goal
 
 pub returns-in_err-execute-clause-does : goal.returns-in_err-execute-clause-does

@@ -1,10 +1,7 @@
-use Rattle.std.proofs.Common.{rules, subst, sym, le_refl}
+use Rattle.std.proofs.{Common.{rules, subst, sym, le_refl}, KnownBytes.Consumes-kept, lemmas.Slice.take-put_mid_below}
 use Rattle.std.specs.Io.KnownBytes.{Consumes}
-use Rattle.std.proofs.KnownBytes.{Consumes-kept}
-use Rattle.std.proofs.lemmas.Slice.{take-put_mid_below}
-use Rattle.streams.proofs.MoveLemmas.{reads_on}
+use Rattle.streams.proofs.{MoveLemmas.reads_on, moves.read_to_fill.Goals.{in-Ok, in-Err}}
 use Rattle.streams.proofs.moves.read_to_fill.Goals as goal
-use Rattle.streams.proofs.moves.read_to_fill.Goals.{in-Ok, in-Err}
 
 pub reads-preserved : goal.reads-preserved
 reads-preserved g c =

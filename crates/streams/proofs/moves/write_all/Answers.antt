@@ -1,8 +1,6 @@
-use Rattle.std.proofs.Common.{ℕ, arith, length-take, length-drop}
-use Rattle.std.proofs.KnownBytes.{Appends-kept}
-use Rattle.streams.proofs.MoveLemmas.{writes_on}
+use Rattle.std.proofs.{Common.{ℕ, arith, length-take, length-drop}, KnownBytes.Appends-kept}
+use Rattle.streams.proofs.{MoveLemmas.writes_on, moves.write_all.Goals.{in-Ok, in-Err}}
 use Rattle.streams.proofs.moves.write_all.Goals as goal
-use Rattle.streams.proofs.moves.write_all.Goals.{in-Ok, in-Err}
 
 pub writes-preserved : goal.writes-preserved
 writes-preserved g c =

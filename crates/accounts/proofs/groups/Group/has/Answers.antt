@@ -1,10 +1,8 @@
 use Rattle.std.proofs.Common.{◌≡◌, ◌∙◌, ℕ, List, Option, None, Some, sym, ap}
-use Rattle.std.specs.Prelude.{is_some}
-use Rattle.std.specs.List.{list_any, position}
+use Rattle.std.specs.{Prelude.is_some, List.{list_any, position}}
 use Rattle.basis.specs.Bag.{same}
 use Rattle.basis.proofs.BagLaws.{position-met, position-missed}
-use Rattle.accounts.specs.declared.line.Line.{Line}
-use Rattle.accounts.specs.Lines.{in_order, is_line}
+use Rattle.accounts.specs.{declared.line.Line.Line, Lines.{in_order, is_line}}
 use Rattle.accounts.proofs.LineLaws.{line-told}
 use Rattle.accounts.proofs.groups.Group.has.Goals as goal
 

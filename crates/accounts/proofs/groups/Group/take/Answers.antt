@@ -2,8 +2,7 @@ use Rattle.std.proofs.Common.{◌≡◌, ◌∙◌, ℕ, List, Option, None, Som
 use Rattle.std.specs.List.{list_any, position}
 use Rattle.basis.specs.Bag.{same, taken}
 use Rattle.basis.proofs.BagLaws.{position-met, position-missed, position-taken, taken-absent}
-use Rattle.accounts.specs.declared.line.Line.{Line}
-use Rattle.accounts.specs.Lines.{in_order, is_line}
+use Rattle.accounts.specs.{declared.line.Line.Line, Lines.{in_order, is_line}}
 use Rattle.accounts.proofs.LineLaws.{line-told}
 use Rattle.accounts.proofs.groups.Group.take.Goals as goal
 

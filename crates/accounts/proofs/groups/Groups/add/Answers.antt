@@ -1,11 +1,7 @@
 use Rattle.std.proofs.Common.{◌≡◌, ◌∙◌, ◌++◌, ◌∷◌, [], ℕ, BTreeMap, List, sym, ap}
-use Rattle.std.specs.BTreeMap.{insert_entry}
-use Rattle.std.specs.Cmp.Lexicographic.{slice_cmp}
-use Rattle.std.specs.Ordering.{nat_cmp}
+use Rattle.std.specs.{BTreeMap.insert_entry, Cmp.Lexicographic.slice_cmp, Ordering.nat_cmp}
 use Rattle.basis.specs.Bag.{add}
-use Rattle.accounts.specs.declared.line.Line.{Line}
-use Rattle.accounts.specs.Groups.{IsUnder}
-use Rattle.accounts.specs.Lines.{in_order}
+use Rattle.accounts.specs.{declared.line.Line.Line, Groups.IsUnder, Lines.in_order}
 use Rattle.accounts.proofs.GroupLaws.{bounded, bounded-on, insert-bag, insert-grouped, push-err, push-grouped, push-ok}
 use Rattle.accounts.proofs.groups.Groups.add.Goals as goal
 

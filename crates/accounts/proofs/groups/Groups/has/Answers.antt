@@ -1,8 +1,7 @@
 use Rattle.std.proofs.Common.{◌∙◌, List, ap, sym}
 use Rattle.std.specs.List.{list_any}
 use Rattle.basis.specs.Bag.{add, same, taken}
-use Rattle.accounts.specs.declared.line.Line.{Line}
-use Rattle.accounts.specs.Lines.{in_order}
+use Rattle.accounts.specs.{declared.line.Line.Line, Lines.in_order}
 use Rattle.accounts.proofs.GroupLaws.{absent-nowhere, present-there, put-back}
 use Rattle.accounts.proofs.groups.Groups.has.Goals as goal
 

@@ -2,8 +2,7 @@ use Rattle.std.proofs.Common.{◌∙◌, List, Some, Result, Ok, Err, ap, sym}
 use Rattle.std.specs.Result.{IfOk}
 use Rattle.basis.specs.Bag.{remade}
 use Rattle.objects.specs.declared.roid.Roid.{Roid}
-use Rattle.accounts.specs.declared.line.LineSwap.{LineSwap}
-use Rattle.accounts.specs.Lines.{in_order, roid_numbers, swapped_all, swaps_of}
+use Rattle.accounts.specs.{declared.line.LineSwap.LineSwap, Lines.{in_order, roid_numbers, swapped_all, swaps_of}}
 use Rattle.accounts.proofs.GroupLaws.{remade-none, swaps-found}
 use Rattle.accounts.proofs.groups.Groups.swaps.Goals as goal
 

@@ -1,11 +1,7 @@
-use Rattle.std.proofs.Common.{◌≡◌, ◌∙◌, ap, ℕ, List}
-use Rattle.std.proofs.lemmas.List.Elements.{same_from_all_zip}
-use Rattle.std.proofs.lemmas.Map.Entries.{entries_from_clone}
+use Rattle.std.proofs.{Common.{◌≡◌, ◌∙◌, ap, ℕ, List}, lemmas.{List.Elements.same_from_all_zip, Map.Entries.entries_from_clone}}
 use Rattle.std.specs.Array.{AllZipBelow}
 use Rattle.basis.specs.Bag.{bag_of}
-use Rattle.accounts.specs.declared.line.Line.{Line}
-use Rattle.accounts.specs.Groups.{all_lines}
-use Rattle.accounts.specs.Lines.{in_order}
+use Rattle.accounts.specs.{declared.line.Line.Line, Groups.all_lines, Lines.in_order}
 use Rattle.accounts.proofs.groups.GroupsClone.clone.Goals as goal
 
 same_groups : (c : goal.In_ok-clone) → c.in_ok-clone.field-0.entries ≡ c.self.inside.groups.entries

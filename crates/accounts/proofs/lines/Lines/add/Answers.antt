@@ -1,10 +1,7 @@
-use Rattle.std.proofs.Common.{◌≡◌, ◌∙◌, ◌+◌, ◌+ℤ◌, List, length, ap, arith, to_z, of_z}
+use Rattle.std.proofs.{Common.{◌≡◌, ◌∙◌, ◌+◌, ◌+ℤ◌, List, length, ap, arith, to_z, of_z}, lemmas.Int.ints}
 use Rattle.std.specs.Int.{w128}
-use Rattle.std.proofs.lemmas.Int.{ints}
-use Rattle.accounts.specs.declared.line.Line.{Line}
-use Rattle.accounts.specs.Lines.{balance}
-use Rattle.accounts.proofs.GroupLaws.{length-add, sum-fits}
-use Rattle.accounts.proofs.LineLaws.{balance-add}
+use Rattle.accounts.specs.{declared.line.Line.Line, Lines.balance}
+use Rattle.accounts.proofs.{GroupLaws.{length-add, sum-fits}, LineLaws.balance-add}
 use Rattle.accounts.proofs.lines.Lines.add.Goals as goal
 
 pub invariant_of-self-2 : goal.invariant_of-self-2

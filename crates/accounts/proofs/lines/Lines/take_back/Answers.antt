@@ -1,11 +1,8 @@
-use Rattle.std.proofs.Common.{◌≡◌, ◌∙◌, ◌+◌, ◌+ℤ◌, List, length, ap, arith, to_z, of_z}
+use Rattle.std.proofs.{Common.{◌≡◌, ◌∙◌, ◌+◌, ◌+ℤ◌, List, length, ap, arith, to_z, of_z}, lemmas.Int.ints}
 use Rattle.std.specs.Int.{w128}
-use Rattle.std.proofs.lemmas.Int.{ints}
 use Rattle.basis.specs.Bag.{add}
-use Rattle.accounts.specs.declared.line.Line.{Line}
-use Rattle.accounts.specs.Lines.{amount, balance, in_order}
-use Rattle.accounts.proofs.GroupLaws.{length-add, rest-fits}
-use Rattle.accounts.proofs.LineLaws.{balance-add}
+use Rattle.accounts.specs.{declared.line.Line.Line, Lines.{amount, balance, in_order}}
+use Rattle.accounts.proofs.{GroupLaws.{length-add, rest-fits}, LineLaws.balance-add}
 use Rattle.accounts.proofs.lines.Lines.take_back.Goals as goal
 
 fewer : (line : Line) (old new : List Line) → old ≡ add in_order line new → length old ≡ length new + 1

@@ -1,6 +1,5 @@
 use Rattle.std.proofs.Common.{◌∙◌, List, ap, sym}
-use Rattle.accounts.specs.declared.message.Message.{Message}
-use Rattle.accounts.specs.Queue.{dropped, put}
+use Rattle.accounts.specs.{declared.message.Message.Message, Queue.{dropped, put}}
 use Rattle.accounts.proofs.QueueLaws.{put-dropped}
 use Rattle.accounts.proofs.queue.Queue.has.Goals as goal
 

@@ -1,9 +1,6 @@
 use Rattle.std.proofs.Common.{◌≡◌, MutBor, Option, Some, None, refl, sym, subst, ap, ◌∙◌}
-use Rattle.std.specs.Cmp.{nat_cmp_total}
+use Rattle.std.specs.{Cmp.nat_cmp_total, FinMap.nat_cmp-IsAntisymmetric, Option.{IsSome, OnSome, option_copied_mut}, Ordering.nat_cmp}
 use Rattle.std.specs.FinMap as map
-use Rattle.std.specs.FinMap.{nat_cmp-IsAntisymmetric}
-use Rattle.std.specs.Option.{IsSome, OnSome, option_copied_mut}
-use Rattle.std.specs.Ordering.{nat_cmp}
 use Rattle.basis.proofs.MapLemmas.{entries_insert, get_placed}
 use Rattle.basis.proofs.maps.RegistrarMap.get_mut.Goals as goal
 

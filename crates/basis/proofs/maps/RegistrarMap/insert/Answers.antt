@@ -1,9 +1,6 @@
-use Rattle.std.proofs.Common.{◌≡◌, None, sym, ap, ◌∙◌, arith}
-use Rattle.std.proofs.lemmas.Grind.{common_steps}
-use Rattle.std.specs.Cmp.{nat_cmp_total}
+use Rattle.std.proofs.{Common.{◌≡◌, None, sym, ap, ◌∙◌, arith}, lemmas.Grind.common_steps}
+use Rattle.std.specs.{Cmp.nat_cmp_total, FinMap.nat_cmp-IsAntisymmetric, Ordering.nat_cmp}
 use Rattle.std.specs.FinMap as map
-use Rattle.std.specs.FinMap.{nat_cmp-IsAntisymmetric}
-use Rattle.std.specs.Ordering.{nat_cmp}
 use Rattle.basis.proofs.MapLemmas.{get_placed, entries_insert}
 use Rattle.basis.proofs.maps.RegistrarMap.insert.Goals as goal
 

@@ -1,8 +1,6 @@
-use Rattle.std.proofs.Common.{ℕ, List, rules, ap, ◌∙◌}
-use Rattle.std.proofs.lemmas.Fn.{always_returns_same}
-use Rattle.std.specs.Cmp.Lexicographic.{slice_cmp}
+use Rattle.std.proofs.{Common.{ℕ, List, rules, ap, ◌∙◌}, lemmas.Fn.always_returns_same}
+use Rattle.std.specs.{Cmp.Lexicographic.slice_cmp, Ordering.nat_cmp}
 use Rattle.std.specs.FinSet as set
-use Rattle.std.specs.Ordering.{nat_cmp}
 use Rattle.basis.proofs.SetLemmas.{contains_named}
 use Rattle.basis.proofs.sets.NameSet.contains.Goals as goal
 

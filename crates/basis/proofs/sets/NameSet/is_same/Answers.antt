@@ -1,5 +1,4 @@
-use Rattle.std.proofs.Common.{◌∙◌}
-use Rattle.std.proofs.lemmas.Slice.Eq.{bytes_eq-Decides, slice_eq-Decides}
+use Rattle.std.proofs.{Common.◌∙◌, lemmas.Slice.Eq.{bytes_eq-Decides, slice_eq-Decides}}
 use Rattle.basis.specs.Sets.{is_same_set}
 use Rattle.basis.proofs.SetLemmas.{is_same_named}
 use Rattle.basis.proofs.sets.NameSet.is_same.Goals as goal

@@ -1,5 +1,4 @@
-use Rattle.std.proofs.lemmas.List.Filters.{dedup_is}
-use Rattle.std.proofs.lemmas.List.Kept.{IsStrictlySortedBy-dedup}
+use Rattle.std.proofs.lemmas.List.{Filters.dedup_is, Kept.IsStrictlySortedBy-dedup}
 use Rattle.std.specs.Cmp.Lexicographic.{nat_list_cmp_total, texts_ties}
 use Rattle.basis.proofs.SetLemmas.{from_list-dedup}
 use Rattle.basis.proofs.sets.NameSet.of_list.Goals as goal

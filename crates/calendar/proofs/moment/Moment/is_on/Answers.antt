@@ -1,6 +1,5 @@
 use Rattle.std.proofs.Common.{◌∙◌, sym, ap, subst}
-use Rattle.calendar.specs.Moment.{IsMoment}
-use Rattle.calendar.specs.Reading.{date_fields}
+use Rattle.calendar.specs.{Moment.IsMoment, Reading.date_fields}
 use Rattle.calendar.proofs.DateTextLemmas.{spells-none, spells-date}
 use Rattle.calendar.proofs.moment.Moment.is_on.Goals as goal
 

@@ -1,8 +1,6 @@
 use Rattle.std.proofs.Common.{◌≡◌, ◌∙◌, sym, ap, Some, None}
-use Rattle.calendar.proofs.PartsLemmas.{IfSome-weaker}
-use Rattle.calendar.specs.Text.{parts_of, parts_text, moment_text}
-use Rattle.calendar.specs.Reading.{parts_in}
-use Rattle.calendar.proofs.ReadLemmas.{parts_in-parts_text, parts_found, AreShort-parts_of}
+use Rattle.calendar.proofs.{PartsLemmas.IfSome-weaker, ReadLemmas.{parts_in-parts_text, parts_found, AreShort-parts_of}}
+use Rattle.calendar.specs.{Text.{parts_of, parts_text, moment_text}, Reading.parts_in}
 use Rattle.calendar.proofs.moment.Moment.read_parts.Goals as goal
 
 pub returns-in_err-parts-clause-only : goal.returns-in_err-parts-clause-only

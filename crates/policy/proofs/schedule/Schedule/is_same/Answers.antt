@@ -1,6 +1,5 @@
 use Rattle.std.proofs.Common.{length, ap, subst, sym, ◌∙◌}
-use Rattle.policy.specs.declared.schedule.Schedule.{Schedule}
-use Rattle.policy.specs.Terms.{DaysContinue}
+use Rattle.policy.specs.{declared.schedule.Schedule.Schedule, Terms.DaysContinue}
 use Rattle.policy.proofs.ScheduleLemmas.{continues-itself, days-continue-Decides, same-schedule}
 use Rattle.policy.proofs.schedule.Schedule.is_same.Goals as goal
 
