@@ -15,23 +15,14 @@ use Rattle.accounts.proofs.{LineLaws.lines_in_order, MessageLaws.message_cmp_onl
 -- ---- an ordered set: two items put in, in either order
 
 module _ {K : Type 0} (R : K → K → Ordering) (o : IsTotalOrder R) (only : IsAntisymmetric R) where
-  at_less : (x : K) (y : K) (ys : List K) → R x y ≡ Less → insert_key R (y ∷ ys) x ≡ x ∷ y ∷ ys
-  at_less x y ys e = rw e refl
-
-  at_equal : (x : K) (y : K) (ys : List K) → R x y ≡ Equal → insert_key R (y ∷ ys) x ≡ y ∷ ys
-  at_equal x y ys e = rw e refl
-
-  at_greater : (x : K) (y : K) (ys : List K) → R x y ≡ Greater → insert_key R (y ∷ ys) x ≡ y ∷ insert_key R ys x
-  at_greater x y ys e = rw e refl
-
   turned : (x y : K) (r : Ordering) → R x y ≡ r → R y x ≡ ordering_reverse r
   turned x y r e = o.antisymm y x ∙ ap ordering_reverse e
 
   -- both before a list
   front : (x y : K) (zs : List K) (r : Ordering) → R x y ≡ r → insert_key R zs x ≡ x ∷ zs → insert_key R zs y ≡ y ∷ zs → insert_key R (y ∷ zs) x ≡ insert_key R (x ∷ zs) y
-  front x y zs Less e gx gy = at_less x y zs e ∙ sym (at_greater y x zs (turned x y Less e) ∙ ap (λ t. x ∷ t) gy)
-  front x y zs Equal e gx gy = at_equal x y zs e ∙ ap (λ (t : K). t ∷ zs) (sym (only x y e)) ∙ sym (at_equal y x zs (turned x y Equal e))
-  front x y zs Greater e gx gy = at_greater x y zs e ∙ ap (λ t. y ∷ t) gx ∙ sym (at_less y x zs (turned x y Greater e))
+  front x y zs Less e gx gy = rw (e, turned x y Less e, gy) refl
+  front x y zs Equal e gx gy = rw (e, turned x y Equal e) (ap (λ (t : K). t ∷ zs) (sym (only x y e)))
+  front x y zs Greater e gx gy = rw (e, turned x y Greater e, gx) refl
 
   -- what stands before z stands before what comes after z
   after_front : (x y z : K) → R x z ≡ Less → R y z ≡ Greater → R y x ≡ Greater
@@ -44,30 +35,17 @@ module _ {K : Type 0} (R : K → K → Ordering) (o : IsTotalOrder R) (only : Is
       → insert_key R (insert_key R zs y) x ≡ insert_key R (insert_key R zs x) y
       → insert_key R (insert_key R (z ∷ zs) y) x ≡ insert_key R (insert_key R (z ∷ zs) x) y
   swap_at x y z zs Less Less e f ih =
-      ap (λ l. insert_key R l x) (at_less y z zs f) ∙ front x y (z ∷ zs) (R x y) refl (at_less x z zs e) (at_less y z zs f) ∙ ap (λ l. insert_key R l y) (sym (at_less x z zs e))
-  swap_at x y z zs Less Equal e f ih =
-      ap (λ l. insert_key R l x) (at_equal y z zs f) ∙ at_less x z zs e
-      ∙ sym (ap (λ l. insert_key R l y) (at_less x z zs e) ∙ at_greater y x (z ∷ zs) (tied_front x y z e f) ∙ ap (λ l. x ∷ l) (at_equal y z zs f))
-  swap_at x y z zs Less Greater e f ih =
-      ap (λ l. insert_key R l x) (at_greater y z zs f) ∙ at_less x z (insert_key R zs y) e
-      ∙ sym (ap (λ l. insert_key R l y) (at_less x z zs e) ∙ at_greater y x (z ∷ zs) (after_front x y z e f) ∙ ap (λ l. x ∷ l) (at_greater y z zs f))
-  swap_at x y z zs Equal Less e f ih =
-      ap (λ l. insert_key R l x) (at_less y z zs f) ∙ at_greater x y (z ∷ zs) (tied_front y x z f e) ∙ ap (λ l. y ∷ l) (at_equal x z zs e)
-      ∙ sym (ap (λ l. insert_key R l y) (at_equal x z zs e) ∙ at_less y z zs f)
-  swap_at x y z zs Equal Equal e f ih =
-      ap (λ l. insert_key R l x) (at_equal y z zs f) ∙ at_equal x z zs e ∙ sym (ap (λ l. insert_key R l y) (at_equal x z zs e) ∙ at_equal y z zs f)
-  swap_at x y z zs Equal Greater e f ih =
-      ap (λ l. insert_key R l x) (at_greater y z zs f) ∙ at_equal x z (insert_key R zs y) e
-      ∙ sym (ap (λ l. insert_key R l y) (at_equal x z zs e) ∙ at_greater y z zs f)
-  swap_at x y z zs Greater Less e f ih =
-      ap (λ l. insert_key R l x) (at_less y z zs f) ∙ at_greater x y (z ∷ zs) (after_front y x z f e) ∙ ap (λ l. y ∷ l) (at_greater x z zs e)
-      ∙ sym (ap (λ l. insert_key R l y) (at_greater x z zs e) ∙ at_less y z (insert_key R zs x) f)
-  swap_at x y z zs Greater Equal e f ih =
-      ap (λ l. insert_key R l x) (at_equal y z zs f) ∙ at_greater x z zs e
-      ∙ sym (ap (λ l. insert_key R l y) (at_greater x z zs e) ∙ at_equal y z (insert_key R zs x) f)
-  swap_at x y z zs Greater Greater e f ih =
-      ap (λ l. insert_key R l x) (at_greater y z zs f) ∙ at_greater x z (insert_key R zs y) e ∙ ap (λ l. z ∷ l) ih
-      ∙ sym (ap (λ l. insert_key R l y) (at_greater x z zs e) ∙ at_greater y z (insert_key R zs x) f)
+      let before_x : insert_key R (z ∷ zs) x ≡ x ∷ z ∷ zs = rw e refl in
+      let before_y : insert_key R (z ∷ zs) y ≡ y ∷ z ∷ zs = rw f refl in
+      ap (λ l. insert_key R l x) before_y ∙ front x y (z ∷ zs) (R x y) refl before_x before_y ∙ ap (λ l. insert_key R l y) (sym before_x)
+  swap_at x y z zs Less Equal e f ih = rw (f, e, tied_front x y z e f, f) refl
+  swap_at x y z zs Less Greater e f ih = rw (f, e, after_front x y z e f, f) refl
+  swap_at x y z zs Equal Less e f ih = rw (e, f, tied_front y x z f e, e) refl
+  swap_at x y z zs Equal Equal e f ih = rw (f, e, f) refl
+  swap_at x y z zs Equal Greater e f ih = rw (f, e, f) refl
+  swap_at x y z zs Greater Less e f ih = rw (e, f, after_front y x z f e, e) refl
+  swap_at x y z zs Greater Equal e f ih = rw (f, e, f) refl
+  swap_at x y z zs Greater Greater e f ih = rw (f, e, f) (ap (λ (l : List K). z ∷ l) ih)
 
   pub insert_key-swap : (x y : K) (zs : List K) → insert_key R (insert_key R zs y) x ≡ insert_key R (insert_key R zs x) y
   insert_key-swap x y [] = front x y [] (R x y) refl refl refl
@@ -151,7 +129,7 @@ map-swap : (f g : Line → Line) → ((l : Line) → f (g l) ≡ g (f l)) → (l
 map-swap f g e [] = refl
 map-swap f g e (l ∷ ls) = λ i. e l i ∷ map-swap f g e ls i
 
-remade-swap : (f g : Line → Line) → ((l : Line) → f (g l) ≡ g (f l)) → (ls : List Line) → remade in_order f (remade in_order g ls) ≡ remade in_order g (remade in_order f ls)
+pub remade-swap : (f g : Line → Line) → ((l : Line) → f (g l) ≡ g (f l)) → (ls : List Line) → remade in_order f (remade in_order g ls) ≡ remade in_order g (remade in_order f ls)
 remade-swap f g e ls =
     remade-bag_of in_order lines_in_order f (map g ls) ∙ ap (bag_of in_order) (map-swap f g e ls) ∙ sym (remade-bag_of in_order lines_in_order g (map f ls))
 

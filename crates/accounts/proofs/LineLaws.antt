@@ -1,7 +1,7 @@
 -- Lines stand in an order, and balances are sums.
-use Rattle.std.proofs.Common.{◌≡◌, ℕ, ◌+◌, ◌<◌, ◌==◌, Bool, true, false, cond, ◌&&◌, nat_eq, List, [], ◌∷◌, ◌++◌, Option, Some, None, is_some, refl, sym, ap, ◌∙◌, arith, ℤ, pos, negsuc, ◌+ℤ◌, ◌-ℤ◌, ◌≤ℤ◌}
-use Rattle.std.proofs.lemmas.{Bool.Decides.nat_tests, Int.ints}
-use Rattle.std.specs.{Int.{saturate_signed, w128}, List.AllByRecursion}
+use Rattle.std.proofs.Common.{◌≡◌, ℕ, ◌+◌, ◌<◌, Bool, true, false, cond, nat_eq, List, [], ◌∷◌, ◌++◌, Option, Some, None, is_some, refl, sym, ap, ◌∙◌, arith, ℤ, pos, negsuc, ◌+ℤ◌, ◌-ℤ◌, ◌≤ℤ◌}
+use Rattle.std.proofs.lemmas.{Bool.Decides.{Decides-and, Decides-eqb, Decides-like, same_from_decides}, Int.ints}
+use Rattle.std.specs.{Bool.Decides, Int.{saturate_signed, w128}, List.AllByRecursion}
 use Rattle.basis.specs.Bag.{IsLinear, add, bag_of, same}
 use Rattle.basis.proofs.{BagLaws.{le-itself, same-is}, OrderLaws.linear_by_numbers}
 use Rattle.objects.specs.declared.roid.{ObjectKind.ObjectKind, Roid.Roid}
@@ -45,7 +45,7 @@ one_roid a b e f g =
     λ i. record { kind = kind i; creator = f i; serial = g i }
 
 -- the roids, and what follows them in the numbers
-roid_only : (x y : Option Roid) (rest more : List ℕ) → (roid_numbers x ++ rest) ≡ (roid_numbers y ++ more) → (x ≡ y) × (rest ≡ more)
+pub roid_only : (x y : Option Roid) (rest more : List ℕ) → (roid_numbers x ++ rest) ≡ (roid_numbers y ++ more) → (x ≡ y) × (rest ≡ more)
 roid_only None None rest more e = (refl, cc)
 roid_only None (Some b) rest more e = let heads : 0 ≡ 1 + object_rank b.kind = cc in absurd (omega (arith, heads))
 roid_only (Some a) None rest more e = let heads : 1 + object_rank a.kind ≡ 0 = cc in absurd (omega (arith, heads))
@@ -79,90 +79,57 @@ lines_in_order = linear_by_numbers numbers numbers_only
 
 -- ---- a line is told by what it says
 
-both-left : (a b : Bool) → (a && b) ≡ true → a ≡ true
-both-left true b e = refl
-both-left false b e = e
+kind-Decides : (a b : LineKind) → Decides (is_kind a b) (a ≡ b)
+kind-Decides a b = Decides-like _ (λ e. sym (kind_back a) ∙ ap kind_of e ∙ kind_back b) (ap kind_rank) (Decides-eqb (kind_rank a) (kind_rank b))
 
-both-right : (a b : Bool) → (a && b) ≡ true → b ≡ true
-both-right true b e = e
-both-right false b e = absurd (let never : false ≡ true = e in cc)
-
-same-number : (a b : ℕ) → (a == b) ≡ true → a ≡ b
-same-number a b e = grind (arith, nat_tests, e)
-
-itself-number : (a : ℕ) → (a == a) ≡ true
-itself-number a = grind (arith, nat_tests)
-
-same-kind : (a b : LineKind) → is_kind a b ≡ true → a ≡ b
-same-kind a b e = sym (kind_back a) ∙ ap kind_of (same-number (kind_rank a) (kind_rank b) e) ∙ kind_back b
+pub roid-Decides : (a b : Roid) → Decides (is_same_roid a b) (a ≡ b)
+roid-Decides a b = Decides-like _
+    (λ e. one_roid a b e.0 e.1.0 e.1.1)
+    (λ e. (ap (λ (r : Roid). object_rank r.kind) e, (ap (λ (r : Roid). r.creator) e, ap (λ (r : Roid). r.serial) e)))
+    (Decides-and _ _ (Decides-eqb (object_rank a.kind) (object_rank b.kind)) (Decides-and _ _ (Decides-eqb a.creator b.creator) (Decides-eqb a.serial b.serial)))
 
 pub same-roids : (a b : Roid) → is_same_roid a b ≡ true → a ≡ b
-same-roids a b e =
-    let kinds = both-left (object_rank a.kind == object_rank b.kind) _ e in
-    let rest = both-right (object_rank a.kind == object_rank b.kind) _ e in
-    one_roid a b (same-number _ _ kinds) (same-number _ _ (both-left (a.creator == b.creator) _ rest)) (same-number _ _ (both-right (a.creator == b.creator) _ rest))
-
-same-domains : (a b : Option Roid) → is_same_domain a b ≡ true → a ≡ b
-same-domains None None e = refl
-same-domains (Some a) (Some b) e = ap Some (same-roids a b e)
-same-domains None (Some b) e = cc
-same-domains (Some a) None e = cc
-
-same-numbers : (a b : Option ℕ) → is_same_number a b ≡ true → a ≡ b
-same-numbers None None e = refl
-same-numbers (Some a) (Some b) e = ap Some (same-number a b e)
-same-numbers None (Some b) e = cc
-same-numbers (Some a) None e = cc
-
-same-lines : (a b : Line) → is_line a b ≡ true → a ≡ b
-unfolding is_line is_line_for
-same-lines a b e =
-    let for = both-left (is_line_for a b) _ e in
-    let rest = both-right (is_line_for a b) _ e in
-    let kind = same-kind a.kind b.kind (both-left (is_kind a.kind b.kind) _ for) in
-    let for-2 = both-right (is_kind a.kind b.kind) _ for in
-    let roid = same-domains a.roid b.roid (both-left (is_same_domain a.roid b.roid) _ for-2) in
-    let for-3 = both-right (is_same_domain a.roid b.roid) _ for-2 in
-    let recorded = same-number a.recorded b.recorded (both-left (a.recorded == b.recorded) _ for-3) in
-    let years = same-number a.years b.years (both-right (a.recorded == b.recorded) _ for-3) in
-    let cents = same-number a.cents b.cents (both-left (a.cents == b.cents) _ rest) in
-    let rest-2 = both-right (a.cents == b.cents) _ rest in
-    let started = same-numbers a.started b.started (both-left (is_same_number a.started b.started) _ rest-2) in
-    let refunded = same-numbers a.refunded b.refunded (both-right (is_same_number a.started b.started) _ rest-2) in
-    λ i. record { kind = kind i; roid = roid i; recorded = recorded i; years = years i; cents = cents i; started = started i; refunded = refunded i }
+same-roids a b = (roid-Decides a b).0
 
 pub itself-roid : (a : Roid) → is_same_roid a a ≡ true
-itself-roid a = rw (itself-number (object_rank a.kind), itself-number a.creator, itself-number a.serial) refl
+itself-roid a = (roid-Decides a a).1 refl
 
-itself-domain : (a : Option Roid) → is_same_domain a a ≡ true
-itself-domain None = refl
-itself-domain (Some a) = itself-roid a
+pub some_only : {A : Type 0} (a b : A) → Some a ≡ Some b → a ≡ b
+some_only a b e = cc
 
-itself-numbers : (a : Option ℕ) → is_same_number a a ≡ true
-itself-numbers None = refl
-itself-numbers (Some a) = itself-number a
+domain-Decides : (a b : Option Roid) → Decides (is_same_domain a b) (a ≡ b)
+domain-Decides None None = (λ e. refl, λ e. refl)
+domain-Decides (Some a) (Some b) = Decides-like _ (ap Some) (some_only a b) (roid-Decides a b)
+domain-Decides None (Some b) = (λ e. cc, λ e. cc)
+domain-Decides (Some a) None = (λ e. cc, λ e. cc)
 
-itself-line : (a : Line) → is_line a a ≡ true
+number-Decides : (a b : Option ℕ) → Decides (is_same_number a b) (a ≡ b)
+number-Decides None None = (λ e. refl, λ e. refl)
+number-Decides (Some a) (Some b) = Decides-like _ (ap Some) (some_only a b) (Decides-eqb a b)
+number-Decides None (Some b) = (λ e. cc, λ e. cc)
+number-Decides (Some a) None = (λ e. cc, λ e. cc)
+
+line-Decides : (a b : Line) → Decides (is_line a b) (a ≡ b)
 unfolding is_line is_line_for
-itself-line a = rw (itself-number (kind_rank a.kind), itself-domain a.roid, itself-number a.recorded, itself-number a.years, itself-number a.cents, itself-numbers a.started, itself-numbers a.refunded) refl
-
-told : (a b : Line) (c d : Bool) → is_line a b ≡ c → same in_order a b ≡ d → c ≡ d
-told a b true true e f = refl
-told a b false false e f = refl
-told a b true false e f =
-    let is : a ≡ b = same-lines a b e in
-    let itself : same in_order a a ≡ true = rw (le-itself in_order lines_in_order a (in_order a a) refl) refl in
-    sym itself ∙ ap (same in_order a) is ∙ f
-told a b false true e f =
-    let is : a ≡ b = same-is in_order lines_in_order a b (in_order a b) (in_order b a) refl refl f in
-    sym e ∙ ap (is_line a) (sym is) ∙ itself-line a
-
--- in their order as well
-pub line-told : (a b : Line) → is_line a b ≡ same in_order a b
-line-told a b = told a b (is_line a b) (same in_order a b) refl refl
+line-Decides a b = Decides-like _
+    (λ e. λ i. record { kind = e.0.0 i; roid = e.0.1.0 i; recorded = e.0.1.1.0 i; years = e.0.1.1.1 i; cents = e.1.0 i; started = e.1.1.0 i; refunded = e.1.1.1 i })
+    (λ e. (
+      (ap (λ (l : Line). l.kind) e, (ap (λ (l : Line). l.roid) e, (ap (λ (l : Line). l.recorded) e, ap (λ (l : Line). l.years) e))),
+      (ap (λ (l : Line). l.cents) e, (ap (λ (l : Line). l.started) e, ap (λ (l : Line). l.refunded) e)),
+    ))
+    (Decides-and _ _
+    (Decides-and _ _ (kind-Decides a.kind b.kind) (Decides-and _ _ (domain-Decides a.roid b.roid) (Decides-and _ _ (Decides-eqb a.recorded b.recorded) (Decides-eqb a.years b.years))))
+    (Decides-and _ _ (Decides-eqb a.cents b.cents) (Decides-and _ _ (number-Decides a.started b.started) (number-Decides a.refunded b.refunded))))
 
 pub same-in_order : (a b : Line) → same in_order a b ≡ true → a ≡ b
 same-in_order a b e = same-is in_order lines_in_order a b (in_order a b) (in_order b a) refl refl e
+
+itself-in_order : (a : Line) → same in_order a a ≡ true
+itself-in_order a = rw (le-itself in_order lines_in_order a (in_order a a) refl) refl
+
+-- in their order as well
+pub line-told : (a b : Line) → is_line a b ≡ same in_order a b
+line-told a b = same_from_decides _ _ (line-Decides a b) (same-in_order a b, λ e. ap (λ (l : Line). same in_order a l) (sym e) ∙ itself-in_order a)
 
 -- ---- sums
 
@@ -194,19 +161,13 @@ bound true r c h = (omega (arith, ints), omega (arith, ints))
 bound false true c h = (omega (arith, ints), omega (arith, ints))
 bound false false c h = (omega (arith, ints), omega (arith, ints))
 
-bounded-nil : IsBounded []
-unfolding balance
-bounded-nil = record { low = omega (arith, ints); high = omega (arith, ints) }
-
-pub bounded-cons : (l : Line) (ls : List Line) → IsSmall l → IsBounded ls → IsBounded (l ∷ ls)
-unfolding balance
-bounded-cons l ls small h =
-    let most = bound (is_kind l.kind kinds.Deposit) (is_some l.refunded) l.cents small in
-    record { low = omega (arith, ints, h.low, most.0); high = omega (arith, ints, h.high, most.1) }
-
 pub bounded-small : (ls : List Line) → AllByRecursion IsSmall ls → IsBounded ls
-bounded-small [] small = bounded-nil
-bounded-small (l ∷ ls) small = bounded-cons l ls small.0 (bounded-small ls small.1)
+unfolding balance
+bounded-small [] small = record { low = omega (arith, ints); high = omega (arith, ints) }
+bounded-small (l ∷ ls) small =
+    let rest = bounded-small ls small.1 in
+    let most = bound (is_kind l.kind kinds.Deposit) (is_some l.refunded) l.cents small.0 in
+    record { low = omega (arith, ints, rest.low, most.0); high = omega (arith, ints, rest.high, most.1) }
 
 pub fits : (z : ℤ) → (pos 0 -ℤ pos 170_141_183_460_469_231_731_687_303_715_884_105_728) ≤ℤ z → z ≤ℤ pos 170_141_183_460_469_231_731_687_303_715_884_105_727 → saturate_signed w128 z ≡ z
 fits (pos n) low high = ap pos (omega (arith, ints, high))

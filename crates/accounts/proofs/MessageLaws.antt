@@ -10,7 +10,7 @@ use Rattle.accounts.specs.declared.message.CommandNotice.TheVariants as commands
 
 -- ---- messages that tie are one
 
-then_equal : (a b : Ordering) → ordering_then a b ≡ Equal → (a ≡ Equal) × (b ≡ Equal)
+pub then_equal : (a b : Ordering) → ordering_then a b ≡ Equal → (a ≡ Equal) × (b ≡ Equal)
 then_equal Less b e = cc
 then_equal Equal b e = (refl, e)
 then_equal Greater b e = cc

@@ -25,11 +25,7 @@ pub struct Account {
 pub fn saturating_next(counter: u64) -> u64
     ensures { result ≡ saturating_next counter }
 {
-    if counter == u64::MAX {
-        counter
-    } else {
-        counter + 1
-    }
+    counter.saturating_add(1)
 }
 
 impl Account {

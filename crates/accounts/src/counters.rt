@@ -43,8 +43,7 @@ impl Counters {
     {
         Counters {
             commands: saturating_next(self.commands),
-            messages: self.messages,
-            serial: self.serial,
+            ..self
         }
     }
 
@@ -53,9 +52,8 @@ impl Counters {
         ensures { result ≡ spec.next_message self }
     {
         Counters {
-            commands: self.commands,
             messages: saturating_next(self.messages),
-            serial: self.serial,
+            ..self
         }
     }
 
@@ -64,9 +62,8 @@ impl Counters {
         ensures { result ≡ spec.next_serial self }
     {
         Counters {
-            commands: self.commands,
-            messages: self.messages,
             serial: saturating_next(self.serial),
+            ..self
         }
     }
 

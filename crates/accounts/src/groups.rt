@@ -2,7 +2,7 @@
 ghost use Rattle.std.specs.Prelude.{◌≡◌, ◌<◌, ◌++◌, ◌∷◌, [], length, true, false, IfOk, IfSome, OnOk, OnErr};
 ghost use Rattle.std.specs.List.{filter, list_any, position};
 ghost use Rattle.basis.specs.Bag.{add, bag_of, remade, same, taken};
-ghost use Rattle.accounts.specs.{Groups.{IsBounded, IsSmall, all_lines}, Lines.in_order};
+ghost use Rattle.accounts.specs.{Groups.{all_lines, lines_at}, Lines.in_order};
 ghost use Rattle.accounts.specs.Lines as spec;
 
 use crate::line::{Line, LineChange, LineSwap, object_rank};
@@ -48,7 +48,6 @@ impl Group {
     fn push(&mut self, line: Line) -> Result<(), AllocError>
         ensures ok { OnOk result (self.new ≡ self.old ++ line ∷ []) }
         ensures err { OnErr result (self.new ≡ self.old) }
-        ensures small { IsSmall line }
     {
         // Names a field of the line for the borrow checker.
         let line = Line {
@@ -71,12 +70,6 @@ impl Group {
                 true
             }
         }
-    }
-
-    fn has(&self, line: &Line) -> bool
-        ensures { result ≡ list_any (same in_order line.now) self.now }
-    {
-        place_of(&self.lines, line).is_some()
     }
 }
 
@@ -117,6 +110,16 @@ fn key_of(roid: &Option<Roid>) -> [u64; 3]
             u64::from(roid.creator.place()),
             roid.serial,
         ],
+    }
+}
+
+/// The lines of the group with this key.
+fn lines_at(groups: &BTreeMap<[u64; 3], Group>, key: [u64; 3]) -> &[Line]
+    ensures { result.now ≡ lines_at key groups.now.entries }
+{
+    match groups.get(&key) {
+        Some(group) => &group.lines,
+        None => &[],
     }
 }
 
@@ -177,10 +180,7 @@ impl Groups {
     pub(crate) fn on(&self, roid: &Roid) -> &[Line]
         ensures { bag_of in_order result.now ≡ filter (spec.is_on roid.now) self.now }
     {
-        match self.groups.get(&key_of(&Some(*roid))) {
-            Some(group) => &group.lines,
-            None => &[],
-        }
+        lines_at(&self.groups, key_of(&Some(*roid)))
     }
 
     /// The lines on all domains and on none, in no order that says anything.
@@ -196,10 +196,7 @@ impl Groups {
         ensures back { result ≡ true
             → add in_order line.now (taken in_order line.now self.now) ≡ self.now }
     {
-        match self.groups.get(&key_of(&line.roid)) {
-            None => false,
-            Some(group) => group.has(line),
-        }
+        place_of(lines_at(&self.groups, key_of(&line.roid)), line).is_some()
     }
 
     /// One line for another, wherever the change makes another of it. It reads the lines of the
@@ -208,16 +205,13 @@ impl Groups {
         ensures { IfOk result (λ swaps. spec.swapped_all swaps.items self.now
             ≡ remade in_order (C.changed change.now) self.now) }
     {
-        match self.groups.get(&key_of(&Some(change.domain()))) {
-            None => Ok(Vec::new(self.alloc)),
-            Some(group) => swaps_of(self.alloc, &group.lines, change),
-        }
+        let lines = lines_at(&self.groups, key_of(&Some(change.domain())));
+        swaps_of(self.alloc, lines, change)
     }
 
     pub(crate) fn add(&mut self, line: Line) -> Result<(), AllocError>
         ensures ok { OnOk result (self.new ≡ add in_order line self.old) }
         ensures err { OnErr result (self.new ≡ self.old) }
-        ensures bounded { OnOk result (IsBounded self.new) }
     {
         let key = key_of(&line.roid);
         if let Some(group) = self.groups.get_mut(&key) {
@@ -234,7 +228,6 @@ impl Groups {
         ensures taken { self.new ≡ taken in_order line.now self.old }
         ensures found { result ≡ true → self.old ≡ add in_order line.now self.new }
         ensures missed { result ≡ false → self.new ≡ self.old }
-        ensures bounded { IsBounded self.new }
     {
         let Some(group) = self.groups.get_mut(&key_of(&line.roid)) else {
             return false;

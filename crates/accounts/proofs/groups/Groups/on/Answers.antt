@@ -1,17 +1,12 @@
-use Rattle.std.proofs.Common.{◌∙◌, Some, None, ap}
+use Rattle.std.proofs.Common.{◌∙◌, ℕ, List, ap}
 use Rattle.std.specs.List.{filter}
 use Rattle.basis.specs.Bag.{bag_of}
-use Rattle.accounts.specs.Lines.{in_order, is_on}
+use Rattle.accounts.specs.{Groups.lines_at, Lines.{in_order, is_on}}
 use Rattle.accounts.proofs.GroupLaws.{on-found}
 use Rattle.accounts.proofs.groups.Groups.on.Goals as goal
 
-pub returns-in-Some : goal.returns-in-Some
-returns-in-Some c =
-    ap (bag_of in_order) (c.deref.ensures.value ∙ c.group.view_is)
-    ∙ on-found c.args.roid.now c.key_of.result c.self.inside.groups.entries (Some c.in-Some.group.now) c.self.invariant c.key_of.ensures c.in-Some.ensures.value
-    ∙ ap (filter (is_on c.args.roid.now)) c.self.view_is
-
-pub returns-in-None : goal.returns-in-None
-returns-in-None c =
-    on-found c.args.roid.now c.key_of.result c.self.inside.groups.entries None c.self.invariant c.key_of.ensures c.in-None.ensures.value
+pub returns : goal.returns
+returns c =
+    ap (bag_of in_order) (c.lines_at.ensures ∙ ap (λ (key : List ℕ). lines_at key c.self.inside.groups.entries) c.key_of.ensures)
+    ∙ on-found c.args.roid.now c.self.inside.groups.entries c.self.invariant
     ∙ ap (filter (is_on c.args.roid.now)) c.self.view_is

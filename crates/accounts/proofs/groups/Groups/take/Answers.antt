@@ -1,43 +1,41 @@
-use Rattle.std.proofs.Common.{◌∙◌, ap, sym}
-use Rattle.basis.specs.Bag.{taken}
-use Rattle.accounts.specs.Lines.{in_order}
-use Rattle.accounts.proofs.GroupLaws.{bounded, taken-found, taken-grouped, taken-missed, taken-nowhere, taken-there}
+use Rattle.std.proofs.Common.{◌≡◌, ◌∙◌, ℕ, List, [], Option, Some, ap, sym}
+use Rattle.std.specs.{Prelude.unwrap_or, BTreeMap.is_at, Cmp.Lexicographic.slice_cmp, List.list_any, Map.{lookup, set_value}, Ordering.nat_cmp}
+use Rattle.basis.specs.Bag.{add, same, taken}
+use Rattle.accounts.specs.{declared.line.Line.Line, Groups.lines_at, Lines.{in_order, roid_numbers}}
+use Rattle.accounts.proofs.GroupLaws.{back, gone, taken-grouped, taken-there}
 use Rattle.accounts.proofs.groups.Groups.take.Goals as goal
 
 pub returns-in_default-clause-taken : goal.returns-in_default-clause-taken
 returns-in_default-clause-taken c =
-    rw c.get_mut.follows.holds-at-none (taken-nowhere c.args.line.now c.key_of.result c.self.inside.groups.entries c.self.invariant c.key_of.ensures c.in_default.ensures.value)
-    ∙ ap (taken in_order c.args.line.now) c.self.view_is
+    let key = ap (λ (key : List ℕ). lookup (is_at (slice_cmp nat_cmp key)) c.self.inside.groups.entries) c.key_of.ensures in
+    let none = ap (λ (o : Option (List Line)). list_any (same in_order c.args.line.now) (unwrap_or o [])) (sym (c.in_default.ensures.value ∙ key)) in
+    rw c.get_mut.follows.holds-at-none (sym (gone c.args.line.now c.self.inside.groups.entries c.self.invariant none) ∙ ap (taken in_order c.args.line.now) c.self.view_is)
 
-pub returns-in_default-clause-bounded : goal.returns-in_default-clause-bounded
-returns-in_default-clause-bounded c = rw c.get_mut.follows.holds-at-none (bounded c.self.inside.groups.entries c.self.invariant.under)
+at_line : (c : goal.After-self-2-1) → Some c.in-Some.group.now ≡ lookup (is_at (slice_cmp nat_cmp (roid_numbers c.args.line.now.roid))) c.self.inside.groups.entries
+at_line c = c.in-Some.ensures.value ∙ ap (λ (key : List ℕ). lookup (is_at (slice_cmp nat_cmp key)) c.self.inside.groups.entries) c.key_of.ensures
+
+after : (c : goal.After-self-2-1) → (c.get_mut.follows.lender c.take.new.self).entries ≡ set_value (is_at (slice_cmp nat_cmp (roid_numbers c.args.line.now.roid))) c.self.inside.groups.entries c.take.new.self
+after c = (c.get_mut.follows.holds c.take.new.self).0 ∙ ap (λ (key : List ℕ). set_value (is_at (slice_cmp nat_cmp key)) c.self.inside.groups.entries c.take.new.self) c.key_of.ensures
 
 pub invariant_of-self-2 : goal.invariant_of-self-2
 invariant_of-self-2 c =
-    let after = c.get_mut.follows.holds c.take.new.self in
-    taken-grouped c.args.line.now c.key_of.result c.self.inside.groups.entries c.self.invariant c.key_of.ensures (c.get_mut.follows.lender c.take.new.self).entries
-    c.in-Some.group.now c.take.new.self c.in-Some.ensures.value after.0 c.take.ensures.taken after.4
+    taken-grouped c.args.line.now c.self.inside.groups.entries c.self.invariant (c.get_mut.follows.lender c.take.new.self).entries c.in-Some.group.now c.take.new.self (at_line c) (after c)
+    c.take.ensures.taken (c.get_mut.follows.holds c.take.new.self).4
 
 pub returns-clause-taken : goal.returns-clause-taken
 returns-clause-taken c =
-    let after = c.get_mut.follows.holds c.take.new.self in
-    taken-there c.args.line.now c.key_of.result c.self.inside.groups.entries c.self.invariant c.key_of.ensures (c.get_mut.follows.lender c.take.new.self).entries
-    c.in-Some.group.now c.take.new.self c.in-Some.ensures.value after.0 c.take.ensures.taken
+    taken-there c.args.line.now c.self.inside.groups.entries c.self.invariant (c.get_mut.follows.lender c.take.new.self).entries c.in-Some.group.now c.take.new.self (at_line c) (after c) c.take.ensures.taken
     ∙ ap (taken in_order c.args.line.now) c.self.view_is
 
+there : (c : goal.After-self-2-1) → list_any (same in_order c.args.line.now) (lines_at (roid_numbers c.args.line.now.roid) c.self.inside.groups.entries) ≡ c.take.result
+there c = ap (λ (o : Option (List Line)). list_any (same in_order c.args.line.now) (unwrap_or o [])) (sym (at_line c)) ∙ sym c.take.ensures.there
+
 pub returns-clause-found : goal.returns-clause-found
-returns-clause-found c = λ there.
-    let after = c.get_mut.follows.holds c.take.new.self in
-    sym c.self.view_is
-    ∙ taken-found c.args.line.now c.key_of.result c.self.inside.groups.entries c.self.invariant c.key_of.ensures (c.get_mut.follows.lender c.take.new.self).entries
-    c.in-Some.group.now c.take.new.self c.in-Some.ensures.value after.0 c.take.ensures.taken c.take.result c.take.ensures.there there
+returns-clause-found c = λ is.
+    sym c.self.view_is ∙ sym (back c.args.line.now c.self.inside.groups.entries c.self.invariant (there c ∙ is))
+    ∙ ap (λ (ls : List Line). add in_order c.args.line.now (taken in_order c.args.line.now ls)) c.self.view_is
+    ∙ ap (add in_order c.args.line.now) (sym (returns-clause-taken c))
 
 pub returns-clause-missed : goal.returns-clause-missed
-returns-clause-missed c = λ gone.
-    let after = c.get_mut.follows.holds c.take.new.self in
-    taken-missed c.args.line.now c.key_of.result c.self.inside.groups.entries c.self.invariant c.key_of.ensures (c.get_mut.follows.lender c.take.new.self).entries
-    c.in-Some.group.now c.take.new.self c.in-Some.ensures.value after.0 c.take.ensures.taken c.take.result c.take.ensures.there gone
-    ∙ c.self.view_is
-
-pub returns-clause-bounded : goal.returns-clause-bounded
-returns-clause-bounded c = bounded (c.get_mut.follows.lender c.take.new.self).entries (invariant_of-self-2 c).under
+returns-clause-missed c = λ is.
+    returns-clause-taken c ∙ ap (taken in_order c.args.line.now) (sym c.self.view_is) ∙ gone c.args.line.now c.self.inside.groups.entries c.self.invariant (there c ∙ is) ∙ c.self.view_is

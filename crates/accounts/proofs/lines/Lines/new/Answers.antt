@@ -4,4 +4,4 @@ use Rattle.accounts.proofs.lines.Lines.new.Goals as goal
 
 pub invariant_of-result : goal.invariant_of-result
 unfolding balance
-invariant_of-result c = rw c.new.ensures (record { count = refl; few = omega arith; sum = refl })
+invariant_of-result c = rw c.new.ensures (record { count = refl; few = omega arith; small = tt; sum = refl })
