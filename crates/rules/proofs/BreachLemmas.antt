@@ -1,6 +1,6 @@
 -- A row that holds breaks the law of its cause.
 use Rattle.std.specs.List.{AllByRecursion}
-use Rattle.std.proofs.Common.{◌≡◌, ℕ, Bool, true, false, inl, inr, List, [], ◌∷◌, Option, Some, None, refl, ◌<◌, not, ◌&&◌, ◌||◌, nat_lt, ℤ, pos, int_lt, ◌≤ℤ◌, is_none, is_some, subst, arith, zero, suc}
+use Rattle.std.proofs.Common.{◌≡◌, ℕ, Bool, true, false, inl, inr, List, [], ◌∷◌, Option, Some, None, refl, ◌<◌, not, ◌&&◌, ◌||◌, nat_lt, ℤ, pos, int_lt, ◌≤ℤ◌, is_none, is_some, subst, ◌∙◌, arith, zero, suc}
 use Rattle.std.proofs.lemmas.{Bool.{and_right, false_from_ne_true, not_from_true}, Int.ints}
 use Rattle.policy.specs.Rules.{PolicyRules}
 use Rattle.facts.specs.declared.facts.Facts.{Facts}
@@ -8,11 +8,7 @@ use Rattle.protocol.specs.declared.command.Request.TheVariants.{InfoContact, Inf
 use Rattle.protocol.specs.declared.command.Request.{Request}
 use Rattle.protocol.specs.declared.transfer.TransferOp.TheVariants as ops
 use Rattle.rules.specs.{Causes.cause_of, Conditions.holds, Laws.KeepsLaw, Rules.table_of, declared.rules.Condition.Condition}
-use Rattle.rules.proofs.RowLemmas.{StandsIn}
-
-not-none : {A : Type 0} (o : Option A) → is_some o ≡ true → is_none o ≡ false
-not-none None e = absurd cc
-not-none (Some x) e = refl
+use Rattle.rules.proofs.RowLemmas.{StandsIn, not-none, stranger}
 
 -- a charge that isn't beyond the balance
 payable : (charge : ℕ) (balance : ℤ) → (0 < charge → pos charge ≤ℤ balance) → (nat_lt 0 charge && int_lt balance (pos charge)) ≡ false
@@ -22,11 +18,9 @@ payable (suc less) balance enough =
 
 -- who has a part in an object, or presents a secret, is no stranger
 no-stranger : (involved : Bool) (secret : Option (List ℕ)) → (involved || is_some secret) ≡ true → (not involved && is_none secret) ≡ false
-no-stranger true secret e = refl
-no-stranger false None e = absurd cc
-no-stranger false (Some presented) e = refl
+no-stranger involved secret e = stranger involved secret ∙ not_from_true _ e
 
-not-wrong : (involved right : Bool) (secret : Option (List ℕ)) → (is_some secret ≡ true → (involved || right) ≡ true) → (not involved && (is_some secret && not right)) ≡ false
+pub not-wrong : (involved right : Bool) (secret : Option (List ℕ)) → (is_some secret ≡ true → (involved || right) ≡ true) → (not involved && (is_some secret && not right)) ≡ false
 not-wrong true right secret entitled = refl
 not-wrong false true None entitled = refl
 not-wrong false true (Some presented) entitled = refl

@@ -11,26 +11,21 @@ use Rattle.protocol.specs.declared.command.Request.{Request}
 use Rattle.protocol.specs.declared.command.Action.TheVariants as actions
 use Rattle.protocol.specs.declared.transfer.TransferOp.TheVariants as ops
 use Rattle.rules.specs.{Causes.cause_of, Charges.charge_of, Conditions.{holds, is_involved, presents_secret}}
-use Rattle.rules.specs.Laws.{ActsOnObject, AltersObject, EndsTransfer, NamesAreKept, NothingExists, NothingIsMissing, IsEntitled, SecretIsRight, NoTransferIsPending, TransferIsThere, NoStatusProhibits, NoAssociationProhibits, IsRenewable, IsTransferable, ParametersFit, HoldsNoMore, IsPaid}
+use Rattle.rules.specs.Laws.{ActsOnObject, AltersObject, EndsTransfer, KeepsLaw}
 use Rattle.rules.specs.Rules.{table_of}
+use Rattle.rules.specs.declared.refusal.Cause.{Cause}
 use Rattle.rules.specs.declared.refusal.Cause.TheVariants.{NamesRefused, Exists, Missing, NotSponsor, WrongSecret, TransferPends, NoTransferPends, StatusProhibits, AssociationProhibits, NotRenewable, NotTransferable, ParametersRefused, LimitReached, BillingFailure}
 use Rattle.rules.specs.declared.rules.Condition.{Condition}
 use Rattle.rules.specs.declared.rules.Condition.TheVariants.{NameIsRefused, ListRepeats, IsThere, IsMissing, ReferenceIsMissing, NewNameIsTaken, SuperordinateIsMissing, IsAnothers, SuperordinateIsAnothers, SecretIsWrong, Shows, StillShows, SuperordinateIsDeleted, IsLinked, HasSubordinates, AddsWhatIsThere, RemovesWhatIsNot, LeavesTooMany, LeavesAddressesOutside, IsAtHoldingLimit, PassesTenYears, ExpiresOtherwise, IsNotIn, ReportDiffers, IsNotOldest, LacksMoney, SecretIsNotRight, IsStranger, StrangersSecretIsWrong, IsNotRequester, HasNoTransfer, IsPending, IsNotPending, IsOwn, IsLocked}
-use Rattle.rules.proofs.{ActionLemmas.{OfEach, of-action, of-each}, RowLemmas.{Clear, StandsIn}}
+use Rattle.rules.proofs.{ActionLemmas.{OfEach, of-action, of-each}, RowLemmas.{Clear, StandsIn, some-is, stranger}}
 
 there-is : (b : Bool) → not b ≡ false → b ≡ true
 there-is true e = refl
 there-is false e = absurd cc
 
-some-is : {A : Type 0} (o : Option A) → is_none o ≡ false → is_some o ≡ true
-some-is None e = absurd cc
-some-is (Some x) e = refl
-
 -- who isn't a stranger has a part in the object, or presents a secret
 no-stranger : (involved : Bool) (secret : Option (List ℕ)) → (not involved && is_none secret) ≡ false → (involved || is_some secret) ≡ true
-no-stranger true secret e = refl
-no-stranger false None e = absurd cc
-no-stranger false (Some presented) e = refl
+no-stranger involved secret e = there-is _ (sym (stranger involved secret) ∙ e)
 
 -- a secret that isn't a stranger's wrong one is right, or presented by who has a part in the object
 rightly : (involved right : Bool) (secret : Option (List ℕ)) → is_some secret ≡ true → (not involved && (is_some secret && not right)) ≡ false → (involved || right) ≡ true
@@ -96,20 +91,25 @@ module _ (p : PolicyRules) (r t : ℕ) (f : Facts) where
   ending actions.PollRequest is = absurd is
   ending _ is = search (inl, inr) depth 20
 
-  pub names-kept : (q : Request) → Clear p r t q f NamesRefused → NamesAreKept p q
-  names-kept q clear = record {
+  charged : (q : Request) → 0 < charge_of p t q f → StandsIn (table_of q) LacksMoney
+  charged (CreateDomain new) some = search (inl, inr) depth 20
+  charged (RenewDomain name expires years) some = search (inl, inr) depth 20
+  charged (ReportRestore name del_time res_time) some = search (inl, inr) depth 20
+  charged (TransferDomain name ops.Request secret) some = search (inl, inr) depth 20
+  charged (TransferContact name ops.Request secret) some = absurd (omega arith)
+  charged _ some = absurd (omega arith)
+
+  -- what no row of its cause stands against is kept
+  pub keeps : (q : Request) (cause : Cause) → Clear p r t q f cause → KeepsLaw p r t q f cause
+  keeps q NamesRefused clear = record {
     kept = λ other. by-row NameIsRefused q clear (of-each (IsAnswered NameIsRefused) q (names-given (asks_of q).action other));
     once = by-row ListRepeats q clear (of-each (IsAnswered ListRepeats) q (lists-given (asks_of q).action));
   }
-
-  pub nothing-exists : (q : Request) → Clear p r t q f Exists → NothingExists q f
-  nothing-exists q clear = record {
+  keeps q Exists clear = record {
     new = in-each IsThere actions.Create (search (inl, inr) depth 20) q clear;
     untaken = λ u is. in-form NewNameIsTaken (UpdateHost u) (search (inl, inr) depth 20) q clear is;
   }
-
-  pub nothing-missing : (q : Request) → Clear p r t q f Missing → NothingIsMissing p q f
-  nothing-missing q clear = record {
+  keeps q Missing clear = record {
     there = λ acts. there-is _ (by-row IsMissing q clear (of-each (IsAnswered IsMissing) q (acting (asks_of q).action acts)));
     creates_linked = λ new is. in-form ReferenceIsMissing (CreateDomain new) (search (inl, inr) depth 20) q clear is;
     updates_linked = λ u is. in-form ReferenceIsMissing (UpdateDomain u) (search (inl, inr) depth 20) q clear is;
@@ -117,34 +117,24 @@ module _ (p : PolicyRules) (r t : ℕ) (f : Facts) where
     updates_based = λ u is. in-form SuperordinateIsMissing (UpdateHost u) (search (inl, inr) depth 20) q clear is;
     oldest = λ is. there-is _ (in-each IsNotOldest actions.PollAck (search (inl, inr) depth 20) q clear is);
   }
-
-  pub entitled : (q : Request) → Clear p r t q f NotSponsor → IsEntitled p r q f
-  entitled q clear = record {
+  keeps q NotSponsor clear = record {
     sponsor = λ alters. by-row IsAnothers q clear (of-each (IsAnswered IsAnothers) q (altering (asks_of q).action alters));
     creates_below_own = λ new is. in-form SuperordinateIsAnothers (CreateHost new) (search (inl, inr) depth 20) q clear is;
     updates_below_own = λ u is. in-form SuperordinateIsAnothers (UpdateHost u) (search (inl, inr) depth 20) q clear is;
     involved = λ is. no-stranger (is_involved r q f) (asks_of q).secret (in-each IsStranger actions.QueryTransfer (search (inl, inr) depth 20) q clear is);
     requester = λ is. there-is _ (in-each IsNotRequester actions.CancelTransfer (search (inl, inr) depth 20) q clear is);
   }
-
-  pub secret-right : (q : Request) → Clear p r t q f WrongSecret → SecretIsRight r q f
-  secret-right q clear = record {
+  keeps q WrongSecret clear = record {
     shows = in-each SecretIsWrong actions.Info (search (inl, inr) depth 20) q clear;
     authorized = λ is. there-is _ (in-each SecretIsNotRight actions.RequestTransfer (search (inl, inr) depth 20) q clear is);
     queries = λ is some. rightly (is_involved r q f) (presents_secret q f) (asks_of q).secret some (in-each StrangersSecretIsWrong actions.QueryTransfer (search (inl, inr) depth 20) q clear is);
   }
-
-  pub no-transfer : (q : Request) → Clear p r t q f TransferPends → NoTransferIsPending q f
-  no-transfer q clear = record { not_twice = in-each IsPending actions.RequestTransfer (search (inl, inr) depth 20) q clear }
-
-  pub transfer-there : (q : Request) → Clear p r t q f NoTransferPends → TransferIsThere q f
-  transfer-there q clear = record {
+  keeps q TransferPends clear = record { not_twice = in-each IsPending actions.RequestTransfer (search (inl, inr) depth 20) q clear }
+  keeps q NoTransferPends clear = record {
     known = λ is. some-is _ (in-each HasNoTransfer actions.QueryTransfer (search (inl, inr) depth 20) q clear is);
     pending = λ ends. there-is _ (by-row IsNotPending q clear (of-each (IsAnswered IsNotPending) q (ending (asks_of q).action ends)));
   }
-
-  pub no-status : (q : Request) → Clear p r t q f StatusProhibits → NoStatusProhibits p q f
-  no-status q clear = record {
+  keeps q StatusProhibits clear = record {
     client_delete = in-each (Shows ClientDeleteProhibited) actions.Delete (search (inl, inr) depth 20) q clear;
     server_delete = in-each (Shows ServerDeleteProhibited) actions.Delete (search (inl, inr) depth 20) q clear;
     client_update = in-each (StillShows ClientUpdateProhibited) actions.Update (search (inl, inr) depth 20) q clear;
@@ -173,24 +163,16 @@ module _ (p : PolicyRules) (r t : ℕ) (f : Facts) where
     redeemable = λ is. there-is _ (in-each (IsNotIn Redemption) actions.RequestRestore (search (inl, inr) depth 20) q clear is);
     restoring = λ is. there-is _ (in-each (IsNotIn Restoring) actions.ReportRestore (search (inl, inr) depth 20) q clear is);
   }
-
-  pub no-association : (q : Request) → Clear p r t q f AssociationProhibits → NoAssociationProhibits q f
-  no-association q clear = record {
+  keeps q AssociationProhibits clear = record {
     linked = in-each IsLinked actions.Delete (search (inl, inr) depth 20) q clear;
     subordinates = in-each HasSubordinates actions.Delete (search (inl, inr) depth 20) q clear;
   }
-
-  pub renewable : (q : Request) → Clear p r t q f NotRenewable → IsRenewable t q f
-  renewable q clear = record { ten_years = in-each PassesTenYears actions.Renew (search (inl, inr) depth 20) q clear }
-
-  pub transferable : (q : Request) → Clear p r t q f NotTransferable → IsTransferable p r t q f
-  transferable q clear = record {
+  keeps q NotRenewable clear = record { ten_years = in-each PassesTenYears actions.Renew (search (inl, inr) depth 20) q clear }
+  keeps q NotTransferable clear = record {
     not_own = in-each IsOwn actions.RequestTransfer (search (inl, inr) depth 20) q clear;
     unlocked = in-each IsLocked actions.RequestTransfer (search (inl, inr) depth 20) q clear;
   }
-
-  pub parameters-fit : (q : Request) → Clear p r t q f ParametersRefused → ParametersFit p q f
-  parameters-fit q clear = record {
+  keeps q ParametersRefused clear = record {
     adds = in-each AddsWhatIsThere actions.Update (search (inl, inr) depth 20) q clear;
     removes = in-each RemovesWhatIsNot actions.Update (search (inl, inr) depth 20) q clear;
     creates_within = in-each LeavesTooMany actions.Create (search (inl, inr) depth 20) q clear;
@@ -200,20 +182,8 @@ module _ (p : PolicyRules) (r t : ℕ) (f : Facts) where
     expires = in-each ExpiresOtherwise actions.Renew (search (inl, inr) depth 20) q clear;
     reported = in-each ReportDiffers actions.ReportRestore (search (inl, inr) depth 20) q clear;
   }
-
-  pub holds-no-more : (q : Request) → Clear p r t q f LimitReached → HoldsNoMore q f
-  holds-no-more q clear = record {
+  keeps q LimitReached clear = record {
     creates = λ new is. in-form IsAtHoldingLimit (CreateDomain new) (search (inl, inr) depth 20) q clear is;
     takes = λ name secret is. in-form IsAtHoldingLimit (TransferDomain name ops.Request secret) (search (inl, inr) depth 20) q clear is;
   }
-
-  charged : (q : Request) → 0 < charge_of p t q f → StandsIn (table_of q) LacksMoney
-  charged (CreateDomain new) some = search (inl, inr) depth 20
-  charged (RenewDomain name expires years) some = search (inl, inr) depth 20
-  charged (ReportRestore name del_time res_time) some = search (inl, inr) depth 20
-  charged (TransferDomain name ops.Request secret) some = search (inl, inr) depth 20
-  charged (TransferContact name ops.Request secret) some = absurd (omega arith)
-  charged _ some = absurd (omega arith)
-
-  pub paid : (q : Request) → Clear p r t q f BillingFailure → IsPaid p t q f
-  paid q clear = record { paid = λ some. affordable _ _ some (clear LacksMoney (charged q some) refl) }
+  keeps q BillingFailure clear = record { paid = λ some. affordable _ _ some (clear LacksMoney (charged q some) refl) }

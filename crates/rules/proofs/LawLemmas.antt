@@ -1,5 +1,5 @@
 -- The laws that a verdict keeps.
-use Rattle.std.proofs.Common.{◌≡◌, ℕ, Bool, true, false, List, Option, Some, None, option_map, find, refl, sym, ap, ◌∙◌, not, ◌&&◌, ◌||◌, is_some, option_and_then, Result, Ok, Err, IfOk, subst, if◌then◌else◌}
+use Rattle.std.proofs.Common.{◌≡◌, ℕ, Bool, true, false, true≢false, Option, Some, None, option_map, find, refl, sym, ap, ◌∙◌, option_and_then, Result, Ok, Err, IfOk, subst, if◌then◌else◌}
 use Rattle.policy.specs.Rules.{PolicyRules}
 use Rattle.facts.specs.{Facts.domain_seen, declared.facts.{Facts.Facts, OldestMessage.OldestMessage}}
 use Rattle.lifecycle.specs.Turns.{turns}
@@ -14,14 +14,13 @@ use Rattle.protocol.specs.declared.transfer.TransferOp.{TransferOp}
 use Rattle.protocol.specs.declared.command.Action.TheVariants as actions
 use Rattle.protocol.specs.declared.transfer.TransferOp.TheVariants as ops
 use Rattle.rules.specs.{Causes.cause_of, Charges.{years_charged, years_needed}, Conditions.{holds, domain_in_full, full_domain}}
-use Rattle.rules.specs.{Deletion.goes_at_once, Laws.{AnswersLawfully, KeepsLaws, SecretIsRight, KeepsLaw}, Poll.code_of_poll}
+use Rattle.rules.specs.{Deletion.goes_at_once, Laws.{AnswersLawfully, KeepsLaws, SecretIsRight}, Poll.code_of_poll}
 use Rattle.rules.specs.{Refusals.{code_of, first_refusal}, Rules.table_of, Transfers.code_of_transfer}
 use Rattle.rules.specs.Verdicts.{granted, judged, unless_refused, code_granted}
-use Rattle.rules.specs.declared.refusal.Cause.TheVariants.{NamesRefused, Exists, Missing, NotSponsor, WrongSecret, TransferPends, NoTransferPends, StatusProhibits, AssociationProhibits, NotRenewable, NotTransferable, ParametersRefused, LimitReached, BillingFailure}
-use Rattle.rules.specs.declared.{refusal.Cause.Cause, rules.Condition.Condition, verdict.Verdict.Verdict}
-use Rattle.rules.proofs.{ActionLemmas.of-action, BreachLemmas.breaks}
-use Rattle.rules.proofs.CauseLemmas.{names-kept, nothing-exists, nothing-missing, entitled, secret-right, no-transfer, transfer-there, no-status, no-association, renewable, transferable, parameters-fit, holds-no-more, paid}
-use Rattle.rules.proofs.RowLemmas.{Clear, StandsIn, clear-of-none, clear-before, found, never-accepted}
+use Rattle.rules.specs.declared.refusal.Cause.TheVariants.{WrongSecret}
+use Rattle.rules.specs.declared.{rules.Condition.Condition, verdict.Verdict.Verdict}
+use Rattle.rules.proofs.{ActionLemmas.of-action, BreachLemmas.{breaks, not-wrong}, CauseLemmas.keeps}
+use Rattle.rules.proofs.RowLemmas.{StandsIn, clear-of-none, clear-before, found, never-accepted}
 
 -- ---- what is granted is accepted
 
@@ -47,17 +46,6 @@ granting (TransferDomain name op secret) f = by-operation op
 granting PollRequest f = by-message f.queue.oldest
 granting _ f = refl
 
--- who presents a stranger's wrong secret isn't answered
-not-wronged : (involved right : Bool) (secret : Option (List ℕ)) → (is_some secret ≡ true → (involved || right) ≡ true) → (not involved && (is_some secret && not right)) ≡ true → ⊥
-not-wronged true right secret entitled e = cc
-not-wronged false true None entitled e = cc
-not-wronged false true (Some presented) entitled e = cc
-not-wronged false false None entitled e = cc
-not-wronged false false (Some presented) entitled e = let right : false ≡ true = entitled refl in cc
-
-apart : true ≡ false → ⊥
-apart e = cc
-
 -- ---- the years for which a report charges
 
 -- the years that a domain needs are its turns
@@ -75,45 +63,28 @@ turns-law t f =
 -- ---- the laws of a verdict
 
 module _ (p : PolicyRules) (r t : ℕ) (f : Facts) where
-  -- what no row of its cause stands against is kept
-  keeps : (q : Request) (cause : Cause) → Clear p r t q f cause → KeepsLaw p r t q f cause
-  keeps q NamesRefused clear = names-kept p r t f q clear
-  keeps q Exists clear = nothing-exists p r t f q clear
-  keeps q Missing clear = nothing-missing p r t f q clear
-  keeps q NotSponsor clear = entitled p r t f q clear
-  keeps q WrongSecret clear = secret-right p r t f q clear
-  keeps q TransferPends clear = no-transfer p r t f q clear
-  keeps q NoTransferPends clear = transfer-there p r t f q clear
-  keeps q StatusProhibits clear = no-status p r t f q clear
-  keeps q AssociationProhibits clear = no-association p r t f q clear
-  keeps q NotRenewable clear = renewable p r t f q clear
-  keeps q NotTransferable clear = transferable p r t f q clear
-  keeps q ParametersRefused clear = parameters-fit p r t f q clear
-  keeps q LimitReached clear = holds-no-more p r t f q clear
-  keeps q BillingFailure clear = paid p r t f q clear
-
   by-first : (q : Request) (o : Option Condition) → find (holds p r t q f) (table_of q) ≡ o
       → KeepsLaws p r t q f (unless_refused (option_map (λ (condition : Condition). code_of (cause_of condition)) o) (granted p r t q f))
   by-first q None none =
-      let right : SecretIsRight r q f = keeps q WrongSecret (clear-of-none p r t q f none WrongSecret) in record {
-        carried_out = λ accepted cause. keeps q cause (clear-of-none p r t q f none cause);
+      let right : SecretIsRight r q f = keeps p r t f q WrongSecret (clear-of-none p r t q f none WrongSecret) in record {
+        carried_out = λ accepted cause. keeps p r t f q cause (clear-of-none p r t q f none cause);
         accepted = λ lawful. granting q f;
-        refused = λ refused. absurd (apart (sym (granting q f) ∙ refused));
+        refused = λ refused. absurd (true≢false (sym (granting q f) ∙ refused));
         outlasts = λ is d e. (turns-law t f q is d e).after;
         no_more = λ is d e years lt. (turns-law t f q is d e).before years lt;
-        secret = λ info wrong. absurd (apart (sym wrong ∙ right.shows info));
-        requesters_secret = λ requests wrong. absurd (apart (sym (right.authorized requests) ∙ wrong));
-        strangers_secret = λ queries wrong. absurd (not-wronged _ _ _ (right.queries queries) wrong);
+        secret = λ info wrong. absurd (true≢false (sym wrong ∙ right.shows info));
+        requesters_secret = λ requests wrong. absurd (true≢false (sym (right.authorized requests) ∙ wrong));
+        strangers_secret = λ queries wrong. absurd (true≢false (sym wrong ∙ not-wrong _ _ _ (right.queries queries)));
       }
   by-first q (Some condition) first =
       let row : StandsIn (table_of q) condition × (holds p r t q f condition ≡ true) = found (holds p r t q f) (table_of q) condition first in record {
-        carried_out = λ accepted. absurd (apart (sym accepted ∙ never-accepted (cause_of condition)));
-        accepted = λ lawful. absurd (apart (sym row.1 ∙ breaks p r t f q condition row.0 (lawful (cause_of condition))));
+        carried_out = λ accepted. absurd (true≢false (sym accepted ∙ never-accepted (cause_of condition)));
+        accepted = λ lawful. absurd (true≢false (sym row.1 ∙ breaks p r t f q condition row.0 (lawful (cause_of condition))));
         refused = λ refused. record {
           cause = cause_of condition;
           answer_is = refl;
-          broken = λ kept. apart (sym row.1 ∙ breaks p r t f q condition row.0 kept);
-          first = λ other less. keeps q other (clear-before p r t q f condition first other less);
+          broken = λ kept. true≢false (sym row.1 ∙ breaks p r t f q condition row.0 kept);
+          first = λ other less. keeps p r t f q other (clear-before p r t q f condition first other less);
         };
         outlasts = λ is d e. (turns-law t f q is d e).after;
         no_more = λ is d e years lt. (turns-law t f q is d e).before years lt;

@@ -1,5 +1,6 @@
 -- The laws that the answer to an order keeps.
-use Rattle.std.proofs.Common.{◌≡◌, Bool, true, false, inl, inr, Option, Some, None, option_map, unwrap_or, find, refl, sym, ◌∙◌, ◌<◌, ◌&&◌, ◌||◌, is_none, is_some, subst}
+use Rattle.std.proofs.Common.{◌≡◌, Bool, true, false, true≢false, inl, inr, Option, Some, None, option_map, unwrap_or, find, refl, sym, ◌∙◌, ◌<◌, ◌&&◌, subst}
+use Rattle.std.proofs.lemmas.Bool.{or_from, or_parts}
 use Rattle.model.specs.{declared.object.Object.Object, Objects.statuses_of}
 use Rattle.model.specs.declared.object.Object.TheVariants as objects
 use Rattle.protocol.specs.{declared.{code.Code.Code, order.StatusOrder.StatusOrder}, Requests.holds_of}
@@ -11,18 +12,7 @@ use Rattle.rules.specs.declared.order.OrderCondition.{OrderCondition}
 use Rattle.rules.specs.declared.order.OrderCondition.TheVariants.{IsMissing, ContradictsPendingState, HasUnknownStatus, HasAnothersStatus, ListRepeats, AddsWhatIsSet, RemovesWhatIsUnset}
 use Rattle.rules.specs.declared.{order.TheConstants.STATUS_ORDER, refusal.Cause.Cause}
 use Rattle.rules.specs.declared.refusal.Cause.TheVariants.{Missing, StatusProhibits, ParametersRefused}
-use Rattle.rules.proofs.RowLemmas.{StandsIn, earlier, found, never-accepted, unfound}
-
-apart : true ≡ false → ⊥
-apart e = cc
-
-there-is : (object : Option Object) → is_none object ≡ false → is_some object ≡ true
-there-is None e = absurd cc
-there-is (Some x) e = refl
-
-not-missing : (object : Option Object) → is_some object ≡ true → is_none object ≡ false
-not-missing None e = absurd cc
-not-missing (Some x) e = refl
+use Rattle.rules.proofs.RowLemmas.{StandsIn, earlier, found, never-accepted, not-none, some-is, unfound}
 
 -- what fails of what is there
 of-object : (test : Object → Bool) (object : Option Object) → holds_of test object ≡ false → (x : Object) → object ≡ Some x → test x ≡ false
@@ -43,18 +33,6 @@ not-both true true fails = let no : true ≡ false = fails refl in cc
 not-both true false fails = refl
 not-both false b fails = refl
 
-neither : (a b : Bool) → a ≡ false → b ≡ false → (a || b) ≡ false
-neither true b e g = absurd cc
-neither false b e g = g
-
-left : (a b : Bool) → (a || b) ≡ false → a ≡ false
-left true b e = absurd cc
-left false b e = refl
-
-right : (a b : Bool) → (a || b) ≡ false → b ≡ false
-right true b e = absurd cc
-right false b e = e
-
 module _ (o : StatusOrder) (object : Option Object) where
   -- no row of the cause holds
   abbrev IsClear : Cause → Type 0
@@ -63,13 +41,13 @@ module _ (o : StatusOrder) (object : Option Object) where
   fits-what-pends : IsClear StatusProhibits → FitsWhatPends o object
   fits-what-pends clear =
       let fails : (x : Object) → object ≡ Some x → contradicts_pending_state o.add x ≡ false = of-object (contradicts_pending_state o.add) object (clear ContradictsPendingState (search (inl, inr) depth 20) refl) in record {
-        deletion = λ d is pends. not-first _ _ (left _ _ (fails (objects.Domain d) is)) pends;
-        domain_transfer = λ d is pends. not-first _ _ (right _ _ (fails (objects.Domain d) is)) pends;
+        deletion = λ d is pends. not-first _ _ (or_parts _ _ (fails (objects.Domain d) is)).0 pends;
+        domain_transfer = λ d is pends. not-first _ _ (or_parts _ _ (fails (objects.Domain d) is)).1 pends;
         contact_transfer = λ c is pends. not-first _ _ (fails (objects.Contact c) is) pends;
       }
 
   keeps : (cause : Cause) → IsClear cause → KeepsOrder o object cause
-  keeps Missing clear = record { there = there-is object (clear IsMissing (inl refl) refl) }
+  keeps Missing clear = record { there = some-is object (clear IsMissing (inl refl) refl) }
   keeps StatusProhibits clear = fits-what-pends clear
   keeps ParametersRefused clear = record {
     known = clear HasUnknownStatus (search (inl, inr) depth 20) refl;
@@ -82,12 +60,12 @@ module _ (o : StatusOrder) (object : Option Object) where
 
   uncontradicted : FitsWhatPends o object → (x : Object) → object ≡ Some x → contradicts_pending_state o.add x ≡ false
   uncontradicted fits (objects.Contact c) is = not-both _ _ (fits.contact_transfer c is)
-  uncontradicted fits (objects.Domain d) is = neither _ _ (not-both _ _ (fits.deletion d is)) (not-both _ _ (fits.domain_transfer d is))
+  uncontradicted fits (objects.Domain d) is = or_from _ _ (not-both _ _ (fits.deletion d is)) (not-both _ _ (fits.domain_transfer d is))
   uncontradicted fits (objects.Host h) is = refl
 
   -- where the law of its cause is kept, the row doesn't hold
   breaks : (condition : OrderCondition) → KeepsOrder o object (cause_of_order condition) → order_holds o object condition ≡ false
-  breaks IsMissing kept = not-missing object kept.there
+  breaks IsMissing kept = not-none object kept.there
   breaks ContradictsPendingState kept = by-object (contradicts_pending_state o.add) object (uncontradicted kept)
   breaks HasUnknownStatus kept = kept.known
   breaks HasAnothersStatus kept = kept.operators
@@ -100,16 +78,16 @@ module _ (o : StatusOrder) (object : Option Object) where
   by-first None none = record {
     carried_out = λ accepted cause. keeps cause (λ condition stands is. unfound (order_holds o object) STATUS_ORDER.now none condition stands);
     accepted = λ lawful. refl;
-    refused = λ refused. absurd (apart refused);
+    refused = λ refused. absurd (true≢false refused);
   }
   by-first (Some condition) first =
       let row : StandsIn STATUS_ORDER.now condition × (order_holds o object condition ≡ true) = found (order_holds o object) STATUS_ORDER.now condition first in record {
-        carried_out = λ accepted. absurd (apart (sym accepted ∙ never-accepted (cause_of_order condition)));
-        accepted = λ lawful. absurd (apart (sym row.1 ∙ breaks condition (lawful (cause_of_order condition))));
+        carried_out = λ accepted. absurd (true≢false (sym accepted ∙ never-accepted (cause_of_order condition)));
+        accepted = λ lawful. absurd (true≢false (sym row.1 ∙ breaks condition (lawful (cause_of_order condition))));
         refused = λ refused. record {
           cause = cause_of_order condition;
           answer_is = refl;
-          broken = λ kept. apart (sym row.1 ∙ breaks condition kept);
+          broken = λ kept. true≢false (sym row.1 ∙ breaks condition kept);
           first = λ other less. keeps other (λ row stands is. earlier cause_of_order (order_holds o object) 0 STATUS_ORDER.now condition refl first row stands (subst (λ (x : Cause). place_of x < place_of (cause_of_order condition)) (sym is) less));
         };
       }

@@ -1,5 +1,5 @@
 -- The rows of a table that hold, and those that stand before the first.
-use Rattle.std.proofs.Common.{◌≡◌, ℕ, Bool, true, false, cond, ◌⊎◌, inl, inr, List, [], ◌∷◌, Option, Some, None, option_map, find, refl, sym, ap, ◌∙◌, ◌<◌, subst, arith, ◌≤◌, le_trans, le_of_eq}
+use Rattle.std.proofs.Common.{◌≡◌, ℕ, Bool, true, false, cond, ◌⊎◌, inl, inr, List, [], ◌∷◌, Option, Some, None, is_none, is_some, not, ◌&&◌, ◌||◌, option_map, find, refl, sym, ap, ◌∙◌, ◌<◌, subst, arith, ◌≤◌, le_trans, le_of_eq}
 use Rattle.std.proofs.lemmas.{Bool.{and_parts, leb-true}, Option.same_Some}
 use Rattle.policy.specs.Rules.{PolicyRules}
 use Rattle.facts.specs.declared.facts.Facts.{Facts}
@@ -17,6 +17,22 @@ StandsIn (first ∷ rest) condition = (first ≡ condition) ⊎ StandsIn rest co
 -- no condition of the cause holds that stands in the request's table
 abbrev pub Clear : PolicyRules → ℕ → ℕ → Request → Facts → Cause → Type 0
 Clear p r t q f cause = (condition : Condition) → StandsIn (table_of q) condition → cause_of condition ≡ cause → holds p r t q f condition ≡ false
+
+-- ---- what is there
+
+pub some-is : {A : Type 0} (o : Option A) → is_none o ≡ false → is_some o ≡ true
+some-is None e = absurd cc
+some-is (Some x) e = refl
+
+pub not-none : {A : Type 0} (o : Option A) → is_some o ≡ true → is_none o ≡ false
+not-none None e = absurd cc
+not-none (Some x) e = refl
+
+-- a stranger has no part in the object and presents no secret
+pub stranger : {A : Type 0} (involved : Bool) (secret : Option A) → (not involved && is_none secret) ≡ not (involved || is_some secret)
+stranger true secret = refl
+stranger false None = refl
+stranger false (Some presented) = refl
 
 -- ---- where no row holds
 

@@ -59,78 +59,6 @@ pub(crate) fn are_too_long(lists: Lists<'_>) -> bool
         || lists.addresses.len() > MOST_ADDRESSES
 }
 
-/// Whether the domain has something of the lists.
-fn the_domain_has(lists: Lists<'_>, domain: &Domain) -> bool
-    ensures { result ≡ spec.domain_has (lists_of lists.entry) domain.now }
-{
-    adds_what_is_there(domain.links.hosts.as_slice(), lists.hosts)
-        || adds_what_is_there(domain.links.admin.as_slice(), lists.admin)
-        || adds_what_is_there(domain.links.tech.as_slice(), lists.tech)
-        || any_set(domain.statuses.as_slice(), lists.statuses)
-}
-
-/// Whether the host has something of the lists.
-fn the_host_has(lists: Lists<'_>, host: &Host) -> bool
-    ensures { result ≡ spec.host_has (lists_of lists.entry) host.now }
-{
-    adds_what_is_there(host.addresses.as_slice(), lists.addresses)
-        || any_set(host.statuses.as_slice(), lists.statuses)
-}
-
-/// Whether the domain hasn't something of the lists.
-fn the_domain_lacks(lists: Lists<'_>, domain: &Domain) -> bool
-    ensures { result ≡ spec.domain_lacks (lists_of lists.entry) domain.now }
-{
-    removes_what_is_not(domain.links.hosts.as_slice(), lists.hosts)
-        || removes_what_is_not(domain.links.admin.as_slice(), lists.admin)
-        || removes_what_is_not(domain.links.tech.as_slice(), lists.tech)
-        || any_unset(domain.statuses.as_slice(), lists.statuses)
-}
-
-/// Whether the host hasn't something of the lists.
-fn the_host_lacks(lists: Lists<'_>, host: &Host) -> bool
-    ensures { result ≡ spec.host_lacks (lists_of lists.entry) host.now }
-{
-    removes_what_is_not(host.addresses.as_slice(), lists.addresses)
-        || any_unset(host.statuses.as_slice(), lists.statuses)
-}
-
-/// Whether the domain has more than a list's limit afterwards.
-fn the_domain_is_over(removed: Lists<'_>, added: Lists<'_>, domain: &Domain) -> bool
-    ensures { result ≡ spec.domain_is_over (lists_of removed.entry) (lists_of added.entry)
-        domain.now }
-{
-    let links = &domain.links;
-    is_over(
-        MOST_HOSTS,
-        links.hosts.as_slice(),
-        removed.hosts,
-        added.hosts,
-    ) || is_over(
-        MOST_CONTACTS,
-        links.admin.as_slice(),
-        removed.admin,
-        added.admin,
-    ) || is_over(
-        MOST_CONTACTS,
-        links.tech.as_slice(),
-        removed.tech,
-        added.tech,
-    )
-}
-
-/// Whether the host has more than a list's limit afterwards.
-fn the_host_is_over(removed: Lists<'_>, added: Lists<'_>, host: &Host) -> bool
-    ensures { result ≡ spec.host_is_over (lists_of removed.entry) (lists_of added.entry) host.now }
-{
-    is_over(
-        MOST_ADDRESSES,
-        host.addresses.as_slice(),
-        removed.addresses,
-        added.addresses,
-    )
-}
-
 // ---- where there is an object
 
 /// Whether there is a contact that has a status of the lists.
@@ -157,40 +85,48 @@ pub(crate) fn contact_lacks(lists: Lists<'_>, contact: Option<&Contact>) -> bool
 pub(crate) fn domain_has(lists: Lists<'_>, domain: Option<&Domain>) -> bool
     ensures { result ≡ is_met (spec.domain_has (lists_of lists.entry)) domain.entry }
 {
-    match domain {
-        None => false,
-        Some(domain) => the_domain_has(lists, domain),
-    }
+    let Some(domain) = domain else {
+        return false;
+    };
+    adds_what_is_there(domain.links.hosts.as_slice(), lists.hosts)
+        || adds_what_is_there(domain.links.admin.as_slice(), lists.admin)
+        || adds_what_is_there(domain.links.tech.as_slice(), lists.tech)
+        || any_set(domain.statuses.as_slice(), lists.statuses)
 }
 
 /// Whether there is a host that has something of the lists.
 pub(crate) fn host_has(lists: Lists<'_>, host: Option<&Host>) -> bool
     ensures { result ≡ is_met (spec.host_has (lists_of lists.entry)) host.entry }
 {
-    match host {
-        None => false,
-        Some(host) => the_host_has(lists, host),
-    }
+    let Some(host) = host else {
+        return false;
+    };
+    adds_what_is_there(host.addresses.as_slice(), lists.addresses)
+        || any_set(host.statuses.as_slice(), lists.statuses)
 }
 
 /// Whether there is a domain that hasn't something of the lists.
 pub(crate) fn domain_lacks(lists: Lists<'_>, domain: Option<&Domain>) -> bool
     ensures { result ≡ is_met (spec.domain_lacks (lists_of lists.entry)) domain.entry }
 {
-    match domain {
-        None => false,
-        Some(domain) => the_domain_lacks(lists, domain),
-    }
+    let Some(domain) = domain else {
+        return false;
+    };
+    removes_what_is_not(domain.links.hosts.as_slice(), lists.hosts)
+        || removes_what_is_not(domain.links.admin.as_slice(), lists.admin)
+        || removes_what_is_not(domain.links.tech.as_slice(), lists.tech)
+        || any_unset(domain.statuses.as_slice(), lists.statuses)
 }
 
 /// Whether there is a host that hasn't something of the lists.
 pub(crate) fn host_lacks(lists: Lists<'_>, host: Option<&Host>) -> bool
     ensures { result ≡ is_met (spec.host_lacks (lists_of lists.entry)) host.entry }
 {
-    match host {
-        None => false,
-        Some(host) => the_host_lacks(lists, host),
-    }
+    let Some(host) = host else {
+        return false;
+    };
+    removes_what_is_not(host.addresses.as_slice(), lists.addresses)
+        || any_unset(host.statuses.as_slice(), lists.statuses)
 }
 
 /// Whether there is a domain that has more than a list's limit afterwards.
@@ -198,10 +134,18 @@ pub(crate) fn domain_is_over(removed: Lists<'_>, added: Lists<'_>, domain: Optio
     ensures { result ≡ is_met (spec.domain_is_over (lists_of removed.entry) (lists_of added.entry))
         domain.entry }
 {
-    match domain {
-        None => false,
-        Some(domain) => the_domain_is_over(removed, added, domain),
-    }
+    let Some(domain) = domain else {
+        return false;
+    };
+    let links = &domain.links;
+    let (hosts, admin, tech) = (
+        links.hosts.as_slice(),
+        links.admin.as_slice(),
+        links.tech.as_slice(),
+    );
+    is_over(MOST_HOSTS, hosts, removed.hosts, added.hosts)
+        || is_over(MOST_CONTACTS, admin, removed.admin, added.admin)
+        || is_over(MOST_CONTACTS, tech, removed.tech, added.tech)
 }
 
 /// Whether there is a host that has more than a list's limit afterwards.
@@ -209,8 +153,14 @@ pub(crate) fn host_is_over(removed: Lists<'_>, added: Lists<'_>, host: Option<&H
     ensures { result ≡ is_met (spec.host_is_over (lists_of removed.entry) (lists_of added.entry))
         host.entry }
 {
-    match host {
-        None => false,
-        Some(host) => the_host_is_over(removed, added, host),
-    }
+    let Some(host) = host else {
+        return false;
+    };
+    let addresses = host.addresses.as_slice();
+    is_over(
+        MOST_ADDRESSES,
+        addresses,
+        removed.addresses,
+        added.addresses,
+    )
 }

@@ -53,10 +53,7 @@ pub(crate) fn full_domain(seen: Option<&Seen<FullDomain, DomainFace>>) -> Option
     ensures { option_copied result ≡ option_and_then spec.domain_in_full
         (option_copied seen.entry) }
 {
-    match seen {
-        Some(Seen::Full(known)) => Some(&known.domain),
-        _ => None,
-    }
+    Some(&full(seen)?.domain)
 }
 
 // ---- the object that the request is about
@@ -65,55 +62,38 @@ impl<'a> Case<'a> {
     fn contact_known(&self) -> Option<&'a ContactFacts>
         ensures { option_copied result ≡ in_case words.contact_known self.now }
     {
-        match self.request.contacts().first() {
-            None => None,
-            Some(name) => self.facts.contact(name),
-        }
+        self.facts.contact(self.request.contacts().first()?)
     }
 
     pub(crate) fn contact(&self) -> Option<&'a Seen<Contact, ContactFace>>
         ensures { option_copied result ≡ in_case spec.the_contact self.now }
     {
-        match self.request.contacts().first() {
-            None => None,
-            Some(name) => self.facts.contact_seen(name),
-        }
+        self.facts.contact_seen(self.request.contacts().first()?)
     }
 
     fn domain_known(&self) -> Option<&'a DomainFacts>
         ensures { option_copied result ≡ in_case spec.domain_known self.now }
     {
-        match self.request.domains().first() {
-            None => None,
-            Some(name) => self.facts.domain(name.text()),
-        }
+        self.facts.domain(self.request.domains().first()?.text())
     }
 
     pub(crate) fn domain(&self) -> Option<&'a Seen<FullDomain, DomainFace>>
         ensures { option_copied result ≡ in_case spec.the_domain self.now }
     {
-        match self.request.domains().first() {
-            None => None,
-            Some(name) => self.facts.domain_seen(name.text()),
-        }
+        self.facts
+            .domain_seen(self.request.domains().first()?.text())
     }
 
     fn host_known(&self) -> Option<&'a HostFacts>
         ensures { option_copied result ≡ in_case spec.host_known self.now }
     {
-        match self.request.hosts().first() {
-            None => None,
-            Some(name) => self.facts.host(name.text()),
-        }
+        self.facts.host(self.request.hosts().first()?.text())
     }
 
     fn host(&self) -> Option<&'a Host>
         ensures { option_copied result ≡ in_case spec.the_host self.now }
     {
-        match self.host_known() {
-            None => None,
-            Some(known) => known.host.as_ref(),
-        }
+        self.host_known()?.host.as_ref()
     }
 
     fn is_there(&self) -> bool
@@ -128,21 +108,7 @@ impl<'a> Case<'a> {
         match self.request.action() {
             Action::Create => self.host_known(),
             Action::Update => self.facts.at_new_name.as_ref(),
-            Action::Logout
-            | Action::Balance
-            | Action::Check
-            | Action::Info
-            | Action::Delete
-            | Action::Renew
-            | Action::RequestRestore
-            | Action::ReportRestore
-            | Action::RequestTransfer
-            | Action::QueryTransfer
-            | Action::ApproveTransfer
-            | Action::RejectTransfer
-            | Action::CancelTransfer
-            | Action::PollRequest
-            | Action::PollAck => None,
+            _ => None,
         }
     }
 }
@@ -165,10 +131,9 @@ impl Case<'_> {
         ensures { result ≡ requests.holds_of (spec.host_is_refused self.now.policy.now.zone)
             (requests.asks_of self.now.request.now).new_host }
     {
-        match self.request.new_host() {
-            None => false,
-            Some(name) => host_is_refused(self.policy.zone(), name),
-        }
+        self.request
+            .new_host()
+            .is_some_and(|name| host_is_refused(self.policy.zone(), name))
     }
 
     fn shows(&self, status: Status) -> bool
@@ -200,31 +165,18 @@ impl Case<'_> {
             || presents_wrong(self.caller, self.request.secret(), self.domain())
     }
 
-    fn contact_is_linked(&self) -> bool
-        ensures { result ≡ in_case spec.contact_is_linked self.now }
+    fn is_linked(&self) -> bool
+        ensures { result ≡ in_case spec.is_linked self.now }
     {
-        match self.contact_known() {
-            None => false,
-            Some(known) => known.linked,
-        }
-    }
-
-    fn host_is_linked(&self) -> bool
-        ensures { result ≡ in_case spec.host_is_linked self.now }
-    {
-        match self.host_known() {
-            None => false,
-            Some(known) => known.linked,
-        }
+        self.contact_known().is_some_and(|known| known.linked)
+            || self.host_known().is_some_and(|known| known.linked)
     }
 
     fn has_subordinates(&self) -> bool
         ensures { result ≡ in_case spec.has_subordinates self.now }
     {
-        match self.domain_known() {
-            None => false,
-            Some(known) => !known.subordinate.as_slice().is_empty(),
-        }
+        self.domain_known()
+            .is_some_and(|known| !known.subordinate.as_slice().is_empty())
     }
 
     fn adds_known(&self) -> bool
@@ -255,7 +207,8 @@ impl Case<'_> {
     }
 
     fn addresses_kept(&self) -> usize
-        ensures { result ≡ in_case words.addresses_left self.now }
+        ensures { result ≡ in_case (λ q f. spec.addresses_kept
+            (requests.asks_of q).removes.addresses (spec.the_host q f)) self.now }
     {
         match self.host() {
             None => 0,
@@ -351,7 +304,7 @@ impl Case<'_> {
             Condition::Shows(status) => self.shows(status),
             Condition::StillShows(status) => self.still_shows(status),
             Condition::SuperordinateIsDeleted => superordinate_is_deleted(zone, self.host_to_be()),
-            Condition::IsLinked => self.contact_is_linked() || self.host_is_linked(),
+            Condition::IsLinked => self.is_linked(),
             Condition::HasSubordinates => self.has_subordinates(),
             Condition::AddsWhatIsThere => self.adds_known(),
             Condition::RemovesWhatIsNot => self.removes_unknown(),
@@ -364,7 +317,7 @@ impl Case<'_> {
             Condition::ReportDiffers => self.report_differs(),
             Condition::IsNotOldest => !self.is_oldest(),
             Condition::LacksMoney => self.lacks_money(),
-            Condition::SecretIsNotRight => self.secret_is_not_right(),
+            Condition::SecretIsNotRight => !self.presents_secret(),
             Condition::IsStranger => self.is_stranger(),
             Condition::StrangersSecretIsWrong => self.strangers_secret_is_wrong(),
             Condition::IsNotRequester => !self.is_requester(),

@@ -46,18 +46,6 @@ fn price_of(policy: &Policy, action: Action) -> u32
         Action::Create => policy.create_price(),
         Action::Renew | Action::ReportRestore => policy.renew_price(),
         Action::RequestTransfer => policy.transfer_price(),
-        Action::Logout
-        | Action::Balance
-        | Action::Check
-        | Action::Info
-        | Action::Delete
-        | Action::Update
-        | Action::RequestRestore
-        | Action::QueryTransfer
-        | Action::ApproveTransfer
-        | Action::RejectTransfer
-        | Action::CancelTransfer
-        | Action::PollRequest
-        | Action::PollAck => 0,
+        _ => 0,
     }
 }

@@ -17,7 +17,7 @@ use objects::{
 
 /// An object with a sponsor, a secret and a last transfer.
 pub(crate) trait Sponsored {
-    ghost use Rattle.std.specs.Prelude.{◌≡◌, ◌==◌, List, Option, ℕ};
+    ghost use Rattle.std.specs.Prelude.{◌≡◌, List, Option, ℕ};
     ghost use Rattle.std.specs.Option.{option_copied};
     ghost use Rattle.objects.specs.Sight.{authorizes};
     ghost use Rattle.objects.specs.declared.transfer.Transfer.{Transfer};
@@ -33,12 +33,6 @@ pub(crate) trait Sponsored {
 
     fn last_transfer(&self) -> Option<Transfer>
         ensures { result ≡ transfer self.now };
-
-    fn is_of(&self, registrar: RegistrarNo) -> bool
-        ensures { result ≡ (sponsor self.now == registrar) }
-    {
-        self.sponsored_by() == registrar
-    }
 
     fn authorizes(&self, presented: Option<&Text>) -> bool
         ensures { result ≡ authorizes (option_copied presented.entry) (secret self.now) };
@@ -122,7 +116,7 @@ fn is_own<O: Sponsored, F>(caller: RegistrarNo, seen: &Seen<O, F>) -> bool
     ensures { result ≡ spec.is_own O.sponsor caller seen.now }
 {
     match seen {
-        Seen::Full(object) => object.is_of(caller),
+        Seen::Full(object) => object.sponsored_by() == caller,
         _ => false,
     }
 }
@@ -131,20 +125,14 @@ fn is_own<O: Sponsored, F>(caller: RegistrarNo, seen: &Seen<O, F>) -> bool
 pub(crate) fn is_anothers<O: Sponsored, F>(caller: RegistrarNo, seen: Option<&Seen<O, F>>) -> bool
     ensures { result ≡ spec.is_anothers O.sponsor caller (option_copied seen.entry) }
 {
-    match seen {
-        None => false,
-        Some(seen) => !is_own(caller, seen),
-    }
+    seen.is_some_and(|seen| !is_own(caller, seen))
 }
 
 /// Whether the caller sponsors what is seen.
 pub(crate) fn is_sponsored<O: Sponsored, F>(caller: RegistrarNo, seen: Option<&Seen<O, F>>) -> bool
     ensures { result ≡ is_met (spec.is_own O.sponsor caller) seen.entry }
 {
-    match seen {
-        None => false,
-        Some(seen) => is_own(caller, seen),
-    }
+    seen.is_some_and(|seen| is_own(caller, seen))
 }
 
 /// Whether the secret is that of what is seen.
@@ -174,7 +162,8 @@ pub(crate) fn presents_wrong<O: Sponsored, F>(
     };
     match seen {
         None => false,
-        Some(Seen::Full(object)) => !object.is_of(caller) && !object.authorizes(Some(presented)),
+        Some(Seen::Full(object)) => object.sponsored_by() != caller
+            && !object.authorizes(Some(presented)),
         Some(_) => true,
     }
 }
@@ -182,22 +171,21 @@ pub(crate) fn presents_wrong<O: Sponsored, F>(
 fn is_host_of(zone: &Zone, caller: RegistrarNo, known: &HostFacts, host: &Host) -> bool
     ensures { result ≡ spec.is_registrar caller (host_sponsor zone.now known.now host.now) }
 {
-    match known.sponsor(zone, host) {
-        None => false,
-        Some(sponsor) => sponsor == caller,
-    }
+    known
+        .sponsor(zone, host)
+        .is_some_and(|sponsor| sponsor == caller)
 }
 
 /// Whether another sponsors the host.
 pub(crate) fn host_is_anothers(zone: &Zone, caller: RegistrarNo, known: Option<&HostFacts>) -> bool
     ensures { result ≡ spec.host_is_anothers zone.now caller (option_copied known.entry) }
 {
-    match known {
+    let Some(known) = known else {
+        return false;
+    };
+    match &known.host {
         None => false,
-        Some(known) => match &known.host {
-            None => false,
-            Some(host) => !is_host_of(zone, caller, known, host),
-        },
+        Some(host) => !is_host_of(zone, caller, known, host),
     }
 }
 
@@ -207,10 +195,10 @@ pub(crate) fn host_is_anothers(zone: &Zone, caller: RegistrarNo, known: Option<&
 pub(crate) fn has_no_superordinate(zone: &Zone, known: Option<&HostFacts>) -> bool
     ensures { result ≡ is_met (spec.has_no_superordinate zone.now) known.entry }
 {
-    match known {
-        None => false,
-        Some(known) => { zone.has_superordinate(&known.name) && known.superordinate.is_none() }
-    }
+    let Some(known) = known else {
+        return false;
+    };
+    zone.has_superordinate(&known.name) && known.superordinate.is_none()
 }
 
 /// Whether the name lies in the zone, below a domain that another sponsors.
@@ -301,10 +289,7 @@ impl Shows for Host {
 pub(crate) fn is_shown<S: Shows>(status: Status, seen: Option<&S>) -> bool
     ensures { result ≡ spec.is_shown S.shown status (option_copied seen.entry) }
 {
-    match seen {
-        None => false,
-        Some(it) => it.is_shown(status),
-    }
+    seen.is_some_and(|it| it.is_shown(status))
 }
 
 // ---- statuses that are added and removed

@@ -1,6 +1,8 @@
 //! What the operator's orders are answered.
 ghost use Rattle.std.specs.{Prelude.◌≡◌, Option.option_copied};
+ghost use Rattle.model.specs.Objects.{statuses_of};
 ghost use Rattle.rules.specs.{Causes.cause_of_order, OrderLaws.AnswersOrderLawfully};
+ghost use Rattle.rules.specs.Conditions.{any_set, any_unset};
 ghost use Rattle.rules.specs.Orders as spec;
 ghost use Rattle.rules.specs.inner.Cases as words;
 
@@ -40,13 +42,13 @@ impl OrderCondition {
         ensures { result ≡ cause_of_order self }
     {
         match self {
-            OrderCondition::IsMissing => Cause::Missing,
-            OrderCondition::ContradictsPendingState => Cause::StatusProhibits,
-            OrderCondition::HasUnknownStatus
-            | OrderCondition::HasAnothersStatus
-            | OrderCondition::ListRepeats
-            | OrderCondition::AddsWhatIsSet
-            | OrderCondition::RemovesWhatIsUnset => Cause::ParametersRefused,
+            IsMissing => Cause::Missing,
+            ContradictsPendingState => Cause::StatusProhibits,
+            HasUnknownStatus
+            | HasAnothersStatus
+            | ListRepeats
+            | AddsWhatIsSet
+            | RemovesWhatIsUnset => Cause::ParametersRefused,
         }
     }
 }
@@ -105,19 +107,13 @@ fn meets(order: &StatusOrder, condition: OrderCondition, object: Option<&Object>
     }
 }
 
+/// Whether it prohibits that a deleted domain is deleted, or that what pends is transferred.
 fn contradicts(added: &[ObjectStatus], object: Option<&Object>) -> bool
     ensures { result ≡ words.is_met (spec.contradicts_pending_state added.now) object.entry }
 {
-    match object {
-        None => false,
-        Some(object) => contradicts_pending_state(added, object),
-    }
-}
-
-/// Whether it prohibits that a deleted domain is deleted, or that what pends is transferred.
-fn contradicts_pending_state(added: &[ObjectStatus], object: &Object) -> bool
-    ensures { result ≡ spec.contradicts_pending_state added.now object.now }
-{
+    let Some(object) = object else {
+        return false;
+    };
     match object {
         Object::Contact(contact) => {
             has_status(added, ObjectStatus::ServerTransferProhibited)
@@ -140,19 +136,13 @@ fn any_foreign(kind: ObjectKind, statuses: &[ObjectStatus]) -> bool
 }
 
 fn adds_set(added: &[ObjectStatus], object: Option<&Object>) -> bool
-    ensures { result ≡ words.is_met (words.has_a_status added.now) object.entry }
+    ensures { result ≡ words.is_met (λ it. any_set (statuses_of it) added.now) object.entry }
 {
-    match object {
-        None => false,
-        Some(object) => any_set(object.statuses(), added),
-    }
+    object.is_some_and(|object| any_set(object.statuses(), added))
 }
 
 fn removes_unset(removed: &[ObjectStatus], object: Option<&Object>) -> bool
-    ensures { result ≡ words.is_met (words.lacks_a_status removed.now) object.entry }
+    ensures { result ≡ words.is_met (λ it. any_unset (statuses_of it) removed.now) object.entry }
 {
-    match object {
-        None => false,
-        Some(object) => any_unset(object.statuses(), removed),
-    }
+    object.is_some_and(|object| any_unset(object.statuses(), removed))
 }

@@ -3,6 +3,7 @@ ghost use Rattle.std.specs.{Prelude.{◌≡◌, IfOk, map, option_map, unwrap_or
 ghost use Rattle.rules.specs.ResponseData as spec;
 ghost use Rattle.rules.specs.inner.KnownData.{
   contact_data,
+  data_in,
   domain_data,
   host_data,
   name_result,
@@ -10,7 +11,7 @@ ghost use Rattle.rules.specs.inner.KnownData.{
 };
 
 use crate::amended::{domain_is_refused, host_is_refused};
-use crate::case::full_domain;
+use crate::case::{Case, full_domain};
 use crate::charge::{charge_of, years_charged};
 use crate::deletion::deleted_data;
 use crate::poll::{left, polled_data};
@@ -33,17 +34,10 @@ use protocol::{
 use std::alloc::{AllocError, Global};
 
 /// The data of an accepted command.
-pub(crate) fn response_data(
-    alloc: Global,
-    facts: &Facts,
-    caller: RegistrarNo,
-    request: &Request,
-    moment: Moment,
-    policy: &Policy,
-) -> Result<Option<Data>, AllocError>
-    ensures { IfOk result (λ content. content ≡ spec.response_data policy.now caller moment
-        request.now facts.now) }
+pub(crate) fn response_data(alloc: Global, case: &Case<'_>) -> Result<Option<Data>, AllocError>
+    ensures { IfOk result (λ content. content ≡ data_in case.now) }
 {
+    let (facts, request, moment, policy) = (case.facts, case.request, case.moment, case.policy);
     match request {
         Request::Logout => Ok(None),
         Request::Balance => Ok(Some(Data::Balance(facts.account.balance))),
@@ -62,15 +56,11 @@ pub(crate) fn response_data(
             Ok(Some(Data::Checked(Seq::from_vec(results))))
         }
         Request::InfoContact { name, secret } => {
-            contact_data(alloc, policy, caller, secret.as_ref(), facts.contact(name))
+            contact_data(alloc, case, secret.as_ref(), facts.contact(name))
         }
-        Request::InfoDomain { name, secret } => domain_data(
-            alloc,
-            policy,
-            caller,
-            secret.as_ref(),
-            facts.domain(name.text()),
-        ),
+        Request::InfoDomain { name, secret } => {
+            domain_data(alloc, case, secret.as_ref(), facts.domain(name.text()))
+        }
         Request::InfoHost { name } => host_data(alloc, policy, facts.host(name.text())),
         Request::CreateContact(new) => Ok(Some(Data::Created(created_plain(&new.name, moment)?))),
         Request::CreateDomain(new) => {
@@ -91,12 +81,13 @@ pub(crate) fn response_data(
             renewed_data(charge, name, years, facts.domain_seen(name.text()))
         }
         Request::TransferContact { name, op, .. } => {
-            let after = seen_after(*op, caller, facts.contact_seen(name), moment, policy);
+            let after = seen_after(*op, case.caller, facts.contact_seen(name), moment, policy);
             transferred_data(alloc, policy, name, None, after)
         }
         Request::TransferDomain { name, op, .. } => {
             let charge = charge_shown(*op, charge_of(policy, request, facts, moment));
-            let after = seen_after(*op, caller, facts.domain_seen(name.text()), moment, policy);
+            let seen = facts.domain_seen(name.text());
+            let after = seen_after(*op, case.caller, seen, moment, policy);
             transferred_data(alloc, policy, name.text(), charge, after)
         }
         Request::PollRequest => polled_data(&facts.queue),
@@ -245,12 +236,12 @@ fn renewed(
 
 fn contact_data(
     alloc: Global,
-    policy: &Policy,
-    caller: RegistrarNo,
+    case: &Case<'_>,
     secret: Option<&Text>,
     known: Option<&ContactFacts>,
 ) -> Result<Option<Data>, AllocError>
-    ensures { IfOk result (λ it. it ≡ contact_data policy.now caller secret.entry known.entry) }
+    ensures { IfOk result (λ it. it ≡ contact_data case.now.policy.now case.now.caller secret.entry
+        known.entry) }
 {
     let Some(known) = known else {
         return Ok(None);
@@ -258,7 +249,7 @@ fn contact_data(
     match &known.seen {
         None => Ok(None),
         Some(seen) => {
-            let info = contact_info(alloc, policy, caller, secret, known.linked, seen)?;
+            let info = contact_info(alloc, case.policy, case.caller, secret, known.linked, seen)?;
             Ok(Some(Data::Contact(info)))
         }
     }
@@ -359,12 +350,12 @@ fn contact_hidden(
 
 fn domain_data(
     alloc: Global,
-    policy: &Policy,
-    caller: RegistrarNo,
+    case: &Case<'_>,
     secret: Option<&Text>,
     known: Option<&DomainFacts>,
 ) -> Result<Option<Data>, AllocError>
-    ensures { IfOk result (λ it. it ≡ domain_data policy.now caller secret.entry known.entry) }
+    ensures { IfOk result (λ it. it ≡ domain_data case.now.policy.now case.now.caller secret.entry
+        known.entry) }
 {
     let Some(known) = known else {
         return Ok(None);
@@ -373,7 +364,7 @@ fn domain_data(
         None => Ok(None),
         Some(seen) => {
             let below = &known.subordinate;
-            let info = domain_info(alloc, policy, caller, secret, below, seen)?;
+            let info = domain_info(alloc, case.policy, case.caller, secret, below, seen)?;
             Ok(Some(Data::Domain(info)))
         }
     }
@@ -432,28 +423,18 @@ fn domain_full_info(
         known.now) }
 {
     let sponsor = id_of(alloc, policy, known.domain.sponsor)?;
-    let hidden = domain_hidden(alloc, policy, secret, &known.domain)?;
+    let transfer = transfer_info(alloc, policy, known.domain.transfer)?;
     let subordinate = subordinate.clone()?;
+    let deletion = known.domain.deletion;
     Ok(DomainInfo {
         face: known.face(alloc)?,
         sponsor,
         subordinate,
-        hidden: Some(hidden),
-    })
-}
-
-fn domain_hidden(
-    alloc: Global,
-    policy: &Policy,
-    secret: Option<Text>,
-    domain: &Domain,
-) -> Result<DomainHidden, AllocError>
-    ensures { IfOk result (λ hidden. hidden ≡ spec.domain_hidden policy.now secret domain.now) }
-{
-    Ok(DomainHidden {
-        secret,
-        transfer: transfer_info(alloc, policy, domain.transfer)?,
-        deletion: domain.deletion,
+        hidden: Some(DomainHidden {
+            secret,
+            transfer,
+            deletion,
+        }),
     })
 }
 

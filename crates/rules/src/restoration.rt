@@ -1,5 +1,6 @@
 //! The conditions on a restoration (RFC 3915, 3.1 and 4.2.5).
 ghost use Rattle.std.specs.Prelude.{◌≡◌};
+ghost use Rattle.objects.specs.Graces.{is_phase};
 ghost use Rattle.rules.specs.Conditions as spec;
 ghost use Rattle.rules.specs.inner.Cases as words;
 
@@ -18,12 +19,9 @@ fn phase_seen(seen: &Seen<FullDomain, DomainFace>) -> Phase
 
 /// Whether the deletion of the domain has come to the phase.
 pub(crate) fn is_in(phase: Phase, seen: Option<&Seen<FullDomain, DomainFace>>) -> bool
-    ensures { result ≡ words.is_met (words.has_come_to phase) seen.entry }
+    ensures { result ≡ words.is_met (λ it. is_phase (spec.phase_seen it) phase) seen.entry }
 {
-    match seen {
-        None => false,
-        Some(seen) => phase_seen(seen).is(phase),
-    }
+    seen.is_some_and(|seen| phase_seen(seen).is(phase))
 }
 
 /// Whether a moment is reported that isn't the one that is kept.
@@ -40,19 +38,13 @@ fn is_another_moment(kept: Option<Moment>, reported: Option<Moment>) -> bool
 fn deleted_at(domain: &Domain) -> Option<Moment>
     ensures { result ≡ spec.deleted_at domain.now }
 {
-    match &domain.deletion {
-        None => None,
-        Some(deletion) => Some(deletion.deleted),
-    }
+    Some(domain.deletion?.deleted)
 }
 
 fn restore_requested_at(domain: &Domain) -> Option<Moment>
     ensures { result ≡ spec.restore_requested_at domain.now }
 {
-    match &domain.deletion {
-        None => None,
-        Some(deletion) => deletion.restore_requested,
-    }
+    domain.deletion?.restore_requested
 }
 
 /// Whether there is a domain, and the report isn't on its deletion, or not on the last request to
@@ -64,11 +56,9 @@ pub(crate) fn report_differs(
 ) -> bool
     ensures { result ≡ words.is_met (spec.is_another_report del_time res_time) domain.entry }
 {
-    match domain {
-        None => false,
-        Some(domain) => {
-            is_another_moment(deleted_at(domain), del_time)
-                || is_another_moment(restore_requested_at(domain), res_time)
-        }
-    }
+    let Some(domain) = domain else {
+        return false;
+    };
+    is_another_moment(deleted_at(domain), del_time)
+        || is_another_moment(restore_requested_at(domain), res_time)
 }

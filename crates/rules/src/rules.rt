@@ -107,36 +107,26 @@ impl Condition {
         ensures { result ≡ cause_of self }
     {
         match self {
-            Condition::NameIsRefused | Condition::ListRepeats => Cause::NamesRefused,
-            Condition::IsThere | Condition::NewNameIsTaken => Cause::Exists,
-            Condition::IsMissing
-            | Condition::ReferenceIsMissing
-            | Condition::SuperordinateIsMissing
-            | Condition::IsNotOldest => Cause::Missing,
-            Condition::IsAnothers
-            | Condition::SuperordinateIsAnothers
-            | Condition::IsStranger
-            | Condition::IsNotRequester => Cause::NotSponsor,
-            Condition::SecretIsWrong
-            | Condition::SecretIsNotRight
-            | Condition::StrangersSecretIsWrong => Cause::WrongSecret,
-            Condition::IsPending => Cause::TransferPends,
-            Condition::HasNoTransfer | Condition::IsNotPending => Cause::NoTransferPends,
-            Condition::Shows(_)
-            | Condition::StillShows(_)
-            | Condition::SuperordinateIsDeleted
-            | Condition::IsNotIn(_) => Cause::StatusProhibits,
-            Condition::IsLinked | Condition::HasSubordinates => Cause::AssociationProhibits,
-            Condition::PassesTenYears => Cause::NotRenewable,
-            Condition::IsOwn | Condition::IsLocked => Cause::NotTransferable,
-            Condition::AddsWhatIsThere
-            | Condition::RemovesWhatIsNot
-            | Condition::LeavesTooMany
-            | Condition::LeavesAddressesOutside
-            | Condition::ExpiresOtherwise
-            | Condition::ReportDiffers => Cause::ParametersRefused,
-            Condition::IsAtHoldingLimit => Cause::LimitReached,
-            Condition::LacksMoney => Cause::BillingFailure,
+            NameIsRefused | ListRepeats => Cause::NamesRefused,
+            IsThere | NewNameIsTaken => Cause::Exists,
+            IsMissing | ReferenceIsMissing | SuperordinateIsMissing | IsNotOldest => Cause::Missing,
+            IsAnothers | SuperordinateIsAnothers | IsStranger | IsNotRequester => Cause::NotSponsor,
+            SecretIsWrong | SecretIsNotRight | StrangersSecretIsWrong => Cause::WrongSecret,
+            IsPending => Cause::TransferPends,
+            HasNoTransfer | IsNotPending => Cause::NoTransferPends,
+            Shows(_) | StillShows(_) | SuperordinateIsDeleted | IsNotIn(_) =>
+                Cause::StatusProhibits,
+            IsLinked | HasSubordinates => Cause::AssociationProhibits,
+            PassesTenYears => Cause::NotRenewable,
+            IsOwn | IsLocked => Cause::NotTransferable,
+            AddsWhatIsThere
+            | RemovesWhatIsNot
+            | LeavesTooMany
+            | LeavesAddressesOutside
+            | ExpiresOtherwise
+            | ReportDiffers => Cause::ParametersRefused,
+            IsAtHoldingLimit => Cause::LimitReached,
+            LacksMoney => Cause::BillingFailure,
         }
     }
 }
@@ -367,32 +357,6 @@ pub const DOMAIN_TRANSFER_CANCEL: &[Condition] = &[
     IsNotPending,
 ];
 
-/// The table of an operation on a contact's transfer.
-fn contact_transfer_table(op: TransferOp) -> &'static [Condition]
-    ensures table { result.now ≡ spec.contact_transfer_table op }
-    ensures ordered { IsTrue (in_order cause_of result.now) }
-{
-    match op {
-        TransferOp::Request => CONTACT_TRANSFER_REQUEST,
-        TransferOp::Query => CONTACT_TRANSFER_QUERY,
-        TransferOp::Approve | TransferOp::Reject => CONTACT_TRANSFER_ANSWER,
-        TransferOp::Cancel => CONTACT_TRANSFER_CANCEL,
-    }
-}
-
-/// The table of an operation on a domain's transfer.
-fn domain_transfer_table(op: TransferOp) -> &'static [Condition]
-    ensures table { result.now ≡ spec.domain_transfer_table op }
-    ensures ordered { IsTrue (in_order cause_of result.now) }
-{
-    match op {
-        TransferOp::Request => DOMAIN_TRANSFER_REQUEST,
-        TransferOp::Query => DOMAIN_TRANSFER_QUERY,
-        TransferOp::Approve | TransferOp::Reject => DOMAIN_TRANSFER_ANSWER,
-        TransferOp::Cancel => DOMAIN_TRANSFER_CANCEL,
-    }
-}
-
 /// RFC 5730, 2.9.2.3.
 pub const MESSAGE_ACKNOWLEDGEMENT: &[Condition] = &[IsNotOldest];
 
@@ -423,8 +387,18 @@ pub fn table(request: &Request) -> &'static [Condition]
         Request::RenewDomain { .. } => DOMAIN_RENEWAL,
         Request::RequestRestore { .. } => RESTORE_REQUEST,
         Request::ReportRestore { .. } => RESTORE_REPORT,
-        Request::TransferContact { op, .. } => contact_transfer_table(*op),
-        Request::TransferDomain { op, .. } => domain_transfer_table(*op),
+        Request::TransferContact { op, .. } => match op {
+            TransferOp::Request => CONTACT_TRANSFER_REQUEST,
+            TransferOp::Query => CONTACT_TRANSFER_QUERY,
+            TransferOp::Approve | TransferOp::Reject => CONTACT_TRANSFER_ANSWER,
+            TransferOp::Cancel => CONTACT_TRANSFER_CANCEL,
+        },
+        Request::TransferDomain { op, .. } => match op {
+            TransferOp::Request => DOMAIN_TRANSFER_REQUEST,
+            TransferOp::Query => DOMAIN_TRANSFER_QUERY,
+            TransferOp::Approve | TransferOp::Reject => DOMAIN_TRANSFER_ANSWER,
+            TransferOp::Cancel => DOMAIN_TRANSFER_CANCEL,
+        },
         Request::PollAck { .. } => MESSAGE_ACKNOWLEDGEMENT,
     }
 }

@@ -1,11 +1,13 @@
 //! Transfers of contacts and domains: the conditions on them, and the state of the last one after an
 //! operation on it (RFC 5730, 2.9.2.4 and 2.9.3.4).
-ghost use Rattle.std.specs.Prelude.{◌≡◌, IfOk, is_none, not, option_and_then, option_map};
+ghost use Rattle.std.specs.Prelude.{◌≡◌, IfOk, is_none, option_and_then, option_map};
 ghost use Rattle.std.specs.Option.{option_copied};
 ghost use Rattle.lifecycle.specs.Transfers.{ended};
+ghost use Rattle.objects.specs.Transfers as transfers;
+ghost use Rattle.protocol.specs.Requests.{holds_of};
 ghost use Rattle.rules.specs.Conditions as conditions;
 ghost use Rattle.rules.specs.ResponseData.{transferred_data};
-ghost use Rattle.rules.specs.inner.Cases.{in_case, is_named, of_caller};
+ghost use Rattle.rules.specs.inner.Cases.{in_case, of_caller};
 ghost use Rattle.rules.specs.Transfers as spec;
 
 use crate::case::{Case, full_domain};
@@ -25,10 +27,7 @@ use std::alloc::{AllocError, Global};
 fn ended_of(state: TransferState, moment: Moment, last: Option<Transfer>) -> Option<Transfer>
     ensures { result ≡ option_map (ended state moment) last }
 {
-    match last {
-        None => None,
-        Some(transfer) => Some(ended(state, moment, &transfer)),
-    }
+    Some(ended(state, moment, &last?))
 }
 
 /// The last transfer of an object after a registrar's operation on it at the moment. The
@@ -85,9 +84,7 @@ pub(crate) fn seen_after<O: Sponsored, F: Faced>(
     ensures { result ≡ option_and_then (spec.seen_after O.sponsor F.sponsor O.transfer policy.now
         caller moment op) (option_copied seen.entry) }
 {
-    let Some(it) = seen else {
-        return None;
-    };
+    let it = seen?;
     let (sponsor, last) = (sponsor_seen(it), last_seen(seen));
     transfer_after(op, caller, sponsor, last, moment, policy)
 }
@@ -153,7 +150,8 @@ impl Case<'_> {
     }
 
     fn is_named(&self) -> bool
-        ensures { result ≡ of_caller is_named self.now }
+        ensures { result ≡ of_caller (λ r q f. holds_of (transfers.names r)
+            (conditions.the_transfer q f)) self.now }
     {
         match self.transfer() {
             None => false,
@@ -167,17 +165,11 @@ impl Case<'_> {
         self.sponsors() || self.is_named()
     }
 
-    fn presents_secret(&self) -> bool
+    pub(crate) fn presents_secret(&self) -> bool
         ensures { result ≡ in_case conditions.presents_secret self.now }
     {
         is_authorized(self.request.secret(), self.contact())
             || is_authorized(self.request.secret(), self.domain())
-    }
-
-    pub(crate) fn secret_is_not_right(&self) -> bool
-        ensures { result ≡ not (in_case conditions.presents_secret self.now) }
-    {
-        !self.presents_secret()
     }
 
     pub(crate) fn is_stranger(&self) -> bool
@@ -189,7 +181,7 @@ impl Case<'_> {
     pub(crate) fn strangers_secret_is_wrong(&self) -> bool
         ensures { result ≡ of_caller conditions.strangers_secret_is_wrong self.now }
     {
-        !self.is_involved() && self.request.secret().is_some() && self.secret_is_not_right()
+        !self.is_involved() && self.request.secret().is_some() && !self.presents_secret()
     }
 
     /// Whether the caller asked for the last transfer.
@@ -211,10 +203,8 @@ impl Case<'_> {
     pub(crate) fn transfer_is_pending(&self) -> bool
         ensures { result ≡ in_case conditions.transfer_is_pending self.now }
     {
-        match self.transfer() {
-            None => false,
-            Some(transfer) => transfer.is_pending(),
-        }
+        self.transfer()
+            .is_some_and(|transfer| transfer.is_pending())
     }
 
     pub(crate) fn domain_is_locked(&self) -> bool

@@ -82,10 +82,9 @@ fn answer(alloc: Global, case: &Case<'_>) -> Result<Verdict, AllocError>
 fn grant(alloc: Global, case: &Case<'_>) -> Result<Verdict, AllocError>
     ensures { IfOk result (λ verdict. verdict ≡ grant_in case.now) }
 {
-    let (facts, request) = (case.facts, case.request);
-    let content = response_data(alloc, facts, case.caller, request, case.moment, case.policy)?;
+    let content = response_data(alloc, case)?;
     Ok(Verdict {
-        code: code_granted(request, facts),
+        code: code_granted(case.request, case.facts),
         content,
     })
 }

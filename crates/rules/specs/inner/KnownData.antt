@@ -25,7 +25,7 @@ use Rattle.rules.specs.Deletion.{deleted}
 use Rattle.rules.specs.Poll.{polled}
 use Rattle.rules.specs.Verdicts.{granted, unless_refused}
 use Rattle.rules.specs.inner.Cases.{refusal_in}
-use Rattle.rules.specs.ResponseData.{contact_info_at, domain_info_at, domain_result, host_info_at, host_result, renewed}
+use Rattle.rules.specs.ResponseData.{contact_info_at, domain_info_at, domain_result, host_info_at, host_result, renewed, response_data}
 
 -- of a name, by the kind that it is to name
 abbrev pub name_result : Named → ZoneRules → Facts → RequestedName → CheckResult
@@ -53,6 +53,10 @@ domain_data p r secret known = option_map res_data.Domain (option_and_then (doma
 
 abbrev pub host_data : PolicyRules → Option (Bor HostFacts) → Option Data
 host_data p known = option_map res_data.Host (option_and_then (host_info_at p) (option_copied known))
+
+-- the data of a case
+abbrev pub data_in : Case → Option Data
+data_in it = response_data it.policy.now it.caller it.moment it.request.now it.facts.now
 
 -- what a well formed command is answered, and what unless it is refused
 abbrev pub grant_in : Case → Verdict
