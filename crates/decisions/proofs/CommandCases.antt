@@ -1,5 +1,5 @@
 -- What holds of no change, and of what each command changes that isn't refused, holds of what a command changes.
-use Rattle.std.proofs.Common.{◌≡◌, ◌≢◌, ◌⊎◌, inl, inr, ℕ, Bool, true, false, not, ◌&&◌, ◌||◌, nat_lt, List, [], ◌∷◌, Option, Some, None, is_none, is_some, option_and_then, option_map, refl, sym, ap, ap₂, subst, ◌∙◌, if◌then◌else◌}
+use Rattle.std.proofs.Common.{◌≡◌, ◌≢◌, ◌⊎◌, inl, inr, ℕ, Bool, true, false, not, ◌&&◌, ◌||◌, nat_lt, List, [], ◌∷◌, Option, Some, None, is_none, is_some, option_and_then, option_map, refl, sym, ap, subst, ◌∙◌, if◌then◌else◌}
 use Rattle.std.proofs.Common.{◌+◌, ◌≤◌, length, cond, arith}
 use Rattle.decisions.proofs.Words.{ClientCancelled, domain_seen, is_pending_state, PendingTransfer, restored_domain, restoring_domain, superordinate_of_domain}
 use Rattle.decisions.proofs.Words.{ClientApproved, ClientRejected, deleted_domain, domain_sponsor, DomainFacts, renewed_domain, transfer_after, updated_domain}
@@ -9,7 +9,7 @@ use Rattle.decisions.proofs.Words.{charge_of, Full, is_pending, keeps_host, new_
 use Rattle.decisions.proofs.Words.{Ack, DropHost, eqb-false, HostFacts, is_locked, NewDomain, not-false, presented, PutDomain, refund_at, requested, unrefused}
 use Rattle.decisions.proofs.Words.{charge, Contact, holds_of, is_empty, LineKind, list_any, lookups, name_of, or_parts, Registry, StandsIn, table_of, Transfer}
 use Rattle.decisions.proofs.Words.{Domain, ended, Facts, facts, get, Host, judged, NewHost, Post, PutHost, Request, Roid}
-use Rattle.decisions.proofs.CommandLemmas.{ContactSight, Covers, DomainSight, IsTaken, contact-at, domain-at, domain-full, host-at, known, owned, where-contact, where-domain}
+use Rattle.decisions.proofs.CommandLemmas.{Covers, DomainSight, IsTaken, contact-at, domain-at, domain-full, host-at, known, owned, where-contact, where-domain, where-seen}
 use Rattle.decisions.proofs.Words.{cents_of, Charge, cond_both, deposit_line, deposited, deposited_to, has_id, is_accepted}
 use Rattle.decisions.proofs.Words.{IsRegistrar, ltb-true, ObjectKind, Order, order_changes, order_decision, ordered, place_of, position_or_len}
 use Rattle.accounts.specs.declared.line.LineKind.TheVariants as lines
@@ -19,9 +19,10 @@ use Rattle.protocol.specs.declared.command.Request.TheVariants as requests
 use Rattle.protocol.specs.declared.transfer.TransferOp.TheVariants as ops
 use Rattle.protocol.specs.Requests.{asks_of, domains_asked, final_name, hosts_asked, of_domain, of_host}
 use Rattle.protocol.specs.{declared.order.StatusOrder.StatusOrder, Orders.name_ordered}
-use Rattle.decisions.specs.Decisions.{changes_after, changes_of, contact_changes, deletion_at, deletion_changes, domain_changes, ending, external_sponsor_after, host_changes, new_contact, new_host, new_roid, renaming, renewal_changes, report_changes, restore_changes, updated_contact, updated_host}
-use Rattle.decisions.specs.Transfers.{contact_transfer_changes, contact_transferred, contact_transferred_if, contact_with_transfer}
-use Rattle.decisions.specs.Transfers.{domain_transfer_changes, domain_transferred, domain_transferred_if, domain_with_transfer, give_back, tell}
+use Rattle.decisions.specs.Changes.{in_full}
+use Rattle.decisions.specs.Decisions.{changes_after, changes_of, deletion_at, ending, external_sponsor_after, host_changes, new_contact, new_host, new_roid, renaming, updated_contact, updated_host}
+use Rattle.decisions.specs.Transfers.{contact_transferred, contact_transferred_if, contact_with_transfer}
+use Rattle.decisions.specs.Transfers.{domain_transferred, domain_transferred_if, domain_with_transfer, give_back, tell}
 use Rattle.accounts.specs.declared.message.CommandNotice.{CommandNotice}
 use Rattle.accounts.specs.declared.message.CommandNotice.TheVariants as notices
 use Rattle.accounts.specs.declared.message.Subject.TheVariants as subjects
@@ -30,9 +31,14 @@ use Rattle.rules.specs.declared.rules.Condition.{Condition}
 use Rattle.rules.specs.Conditions.{any_host_refused, are_too_long, contact_is_linked, domain_has, domain_in_full, domain_is_over, domain_is_refused, domain_seen_shows, domain_transfer, has_no_superordinate, holds, host_has, host_is_over, host_is_refused, is_anothers, is_own, is_shown, last_seen, leaves_too_many, list_repeats, renewed_expiry, superordinate_is_deleted}
 use Rattle.rules.specs.Orders.{order_code}
 use Rattle.rules.specs.declared.rules.Condition.TheVariants as conditions
-use Rattle.model.specs.{declared.object.Object.Object, Objects.{object_at, object_ordered}}
+use Rattle.model.specs.{Objects.{object_at, object_ordered}}
 use Rattle.model.specs.declared.object.Object.TheVariants as objects
 use Rattle.protocol.specs.declared.order.Order.TheVariants as orders
+
+-- what holds where nothing is, and of what is there, holds
+some-or : {X : Type 0} (Q : Option X → Type 0) → Q None → (o : Option X) → ((x : X) → o ≡ Some x → Q (Some x)) → Q o
+some-or Q none None some = none
+some-or Q none (Some x) some = some x refl
 
 -- ---- what holds of no change, and of what each order changes that is carried out, holds of what an order changes
 
@@ -53,32 +59,20 @@ place_of-is : (p : PolicyRules) (id : List ℕ) (r : ℕ) → place_of id p ≡ 
 place_of-is p id r e = placed (position_or_len (has_id id) p.ids) (length p.ids) r (nat_lt (position_or_len (has_id id) p.ids) (length p.ids)) refl e
 
 module _ (p : PolicyRules) (s : Registry) (P : List Change → Type 0) (cases : OrderCases p s P) where
-  -- an order for what is found under a name
-  set-found : {X : Type 0} (o : StatusOrder) (make : X → Object) (found : Option X)
-      → ((x : X) → found ≡ Some x → P (order_changes o (Some (make x)))) → P (order_changes o (option_map make found))
-  set-found o make None set = cases.none
-  set-found o make (Some x) set = set x refl
-
   set-at : (o : StatusOrder) (kind : ObjectKind) (name : Option (List ℕ)) → P (order_changes o (option_and_then (object_at s kind) name))
   set-at o kind None = cases.none
-  set-at o kinds.Contact (Some name) = set-found o objects.Contact (get s.contacts name) (cases.contact_set o name)
-  set-at o kinds.Domain (Some name) = set-found o objects.Domain (get s.domains name) (cases.domain_set o name)
-  set-at o kinds.Host (Some name) = set-found o objects.Host (get s.hosts name) (cases.host_set o name)
-
-  paid-to : (cents : ℕ) (place : Option ℕ) → ((r : ℕ) → place ≡ Some r → IsRegistrar p r) → P (deposited_to s.clock cents place).changes
-  paid-to cents None registrar = cases.none
-  paid-to cents (Some r) registrar = cases.paid_in r cents (registrar r refl)
-
-  paid-in : (id : List ℕ) (cents : Option ℕ) → P (deposited p s.clock id cents).changes
-  paid-in id None = cases.none
-  paid-in id (Some cents) = paid-to cents (place_of id p) (place_of-is p id)
+  set-at o kinds.Contact (Some name) = some-or (λ found. P (order_changes o (option_map objects.Contact found))) cases.none (get s.contacts name) (cases.contact_set o name)
+  set-at o kinds.Domain (Some name) = some-or (λ found. P (order_changes o (option_map objects.Domain found))) cases.none (get s.domains name) (cases.domain_set o name)
+  set-at o kinds.Host (Some name) = some-or (λ found. P (order_changes o (option_map objects.Host found))) cases.none (get s.hosts name) (cases.host_set o name)
 
   pub order-cases : (order : Order) → P (order_decision p order s).changes
   order-cases (orders.Status o) =
       let found = object_ordered p.zone o s in
       cond_both (is_accepted (order_code o found)) (order_changes o found) [] P
       (λ e. set-at o o.kind (name_ordered p.zone o)) (λ e. cases.none)
-  order-cases (orders.Deposit id cents) = paid-in id (cents_of cents)
+  order-cases (orders.Deposit id cents) =
+      some-or (λ cents. P (deposited p s.clock id cents).changes) cases.none (cents_of cents) (λ cents e.
+      some-or (λ place. P (deposited_to s.clock cents place).changes) cases.none (place_of id p) (λ r e. cases.paid_in r cents (place_of-is p id r e)))
 
 -- ---- what is so of a request that isn't refused
 
@@ -235,17 +229,16 @@ module _ (p : PolicyRules) (r : ℕ) (cl_trid : Option (List ℕ)) (s : Registry
   free : (q : Request) → Took q → (condition : Condition) → StandsIn (table_of q) condition → holds p r s.clock q (facts_for q) condition ≡ false
   free q taken = unrefused p r s.clock q (facts_for q) taken
 
+  -- what a request changes of a domain that it sees in full
+  in-full : (q : Request) (name : RequestedName) (changes : FullDomain → List Change) → domains_asked q ≡ name ∷ []
+      → ((full : FullDomain) → get s.domains (name_of name) ≡ Some full.domain → domain_seen (facts_for q) (name_of name) ≡ Some (Full full) → P q (changes full))
+      → P q (in_full changes (domain_seen (facts_for q) (name_of name)))
+  in-full q name changes only full = where-domain p r cl_trid s q (P q) changes name only (cases.none q) full
+
   -- ---- new objects
 
   lists-fit : (q : Request) → (list_repeats (asks_of q).adds || list_repeats (asks_of q).removes) ≡ false → leaves_too_many q (facts_for q) ≡ false → AreListsFit q
   lists-fit q repeats many = record { once = (or_parts (list_repeats (asks_of q).adds) _ repeats).0; short = (or_parts (are_too_long (asks_of q).adds) _ many).0 }
-
-  -- a host that is to have a name, by what is known there
-  based-by : (name : List ℕ) (it : HostFacts) → it.name ≡ name → it.superordinate ≡ found_above s (last_two_of name) → has_no_superordinate p.zone it ≡ false → superordinate_is_deleted p.zone it ≡ false → IsBased p s name
-  based-by name it called above based alive = record {
-    based = sym (ap₂ (λ (n : List ℕ) (o : Option Superordinate). is_inside p.zone n && is_none o) called above) ∙ based;
-    alive = sym (ap₂ (λ (n : List ℕ) (o : Option Superordinate). is_inside p.zone n && holds_of (λ (it : Superordinate). it.is_deleted) o) called above) ∙ alive;
-  }
 
   -- ---- deletes
 
@@ -279,10 +272,6 @@ module _ (p : PolicyRules) (r : ℕ) (cl_trid : Option (List ℕ)) (s : Registry
     by-phase : (full : FullDomain) → it.seen ≡ Some (Full full) → (at_once : Bool) → P deletion (ending at_once s.clock it full.domain ∷ Post r (RefundRunning (refund_at s.clock full.domain)) ∷ [])
     by-phase full e true = cases.domain_dropped name full.domain (deletable full e)
     by-phase full e false = cases.domain_deleted name full.domain it.given_back.years (deletable full e)
-
-    by-seen : (seen : DomainSight) → it.seen ≡ seen → P deletion (deletion_changes r s.clock it seen)
-    by-seen (Some (Full full)) e = by-phase full e (goes_at_once (Some (Full full)))
-    by-seen _ e = cases.none deletion
 
   -- ---- updates
 
@@ -323,13 +312,7 @@ module _ (p : PolicyRules) (r : ℕ) (cl_trid : Option (List ℕ)) (s : Registry
         → holds_of (has_no_superordinate p.zone) (at_new given) ≡ false → holds_of (superordinate_is_deleted p.zone) (at_new given) ≡ false
         → P update (renaming (name_of u.name) (host_with p r s.clock u given h) given)
     by-name h e None is unused based alive = cases.hosts.updated u h (fits h e None is)
-    by-name h e (Some name) is unused based alive = cases.hosts.renamed u name h (fits h e (Some name) is) unused
-        (based-by (name_of name) (host_facts (lookups p r (Asked cl_trid update) s) (Asked cl_trid update) (name_of name)) refl refl based alive)
-
-    by-host : (seen : Option Host) → host_seen (facts_for update) (name_of u.name) ≡ seen → P update (host_changes p.zone r s.clock u seen)
-    by-host None e = cases.none update
-    by-host (Some h) e = by-name h e u.new_name refl (free update taken conditions.NewNameIsTaken (search (inl, inr) depth 20))
-        (free update taken conditions.SuperordinateIsMissing (search (inl, inr) depth 20)) (free update taken conditions.SuperordinateIsDeleted (search (inl, inr) depth 20))
+    by-name h e (Some name) is unused based alive = cases.hosts.renamed u name h (fits h e (Some name) is) unused (record { based = based; alive = alive })
 
   -- ---- what is charged for
 
@@ -358,8 +341,11 @@ module _ (p : PolicyRules) (r : ℕ) (cl_trid : Option (List ℕ)) (s : Registry
     abbrev seen : TransferOp → DomainSight
     seen op = domain_seen (facts_for (asks op)) (name_of name)
 
-    abbrev Done : TransferOp → DomainSight → Type 0
-    Done op seen = P (asks op) (domain_transfer_changes p r s.clock op (asks op) (facts_for (asks op)) seen)
+    abbrev changed_in : TransferOp → FullDomain → List Change
+    changed_in op full = domain_transferred_if p r s.clock op (asks op) (facts_for (asks op)) (transfer_after p r s.clock op full.domain.sponsor full.domain.transfer) full.domain
+
+    abbrev Done : TransferOp → Type 0
+    Done op = P (asks op) (in_full (changed_in op) (seen op))
 
     askable : (full : FullDomain) → seen ops.Request ≡ Some (Full full) → Took (asks ops.Request) → IsAskable p r s.clock full.domain
     unfolding domain_seen_shows
@@ -376,17 +362,13 @@ module _ (p : PolicyRules) (r : ℕ) (cl_trid : Option (List ℕ)) (s : Registry
           unlocked = sym (ap (λ (o : DomainSight). holds_of (is_locked p s.clock) (option_and_then domain_in_full o)) e) ∙ found conditions.IsLocked (search (inl, inr) depth 20);
         }
 
-    -- an operation on a domain that is seen in full
-    in-full : (op : TransferOp) → ((full : FullDomain) → get s.domains (name_of name) ≡ Some full.domain → seen op ≡ Some (Full full) → Done op (Some (Full full))) → Done op (seen op)
-    in-full op full = let none = cases.none (asks op) in where-domain p r cl_trid s (asks op) (Done op) name refl none (λ face x. none) (λ face. none) full
-
     -- one that ends a transfer, of a domain of which one is pending
     over : (op : TransferOp) (state : TransferState) → ((sponsor : ℕ) (last : Option Transfer) → transfer_after p r s.clock op sponsor last ≡ option_map (ended state s.clock) last)
         → not (is_pending (option_and_then (last_seen domain_transfer) (seen op))) ≡ false
         → ((full : FullDomain) → get s.domains (name_of name) ≡ Some full.domain → seen op ≡ Some (Full full) → (y : Transfer) → full.domain.transfer ≡ Some y → is_pending_state y.state ≡ true
         → P (asks op) (left p r cl_trid s P op (asks op) (ended state s.clock y) full.domain))
-        → Done op (seen op)
-    over op state after runs ends = in-full op (λ full at e.
+        → Done op
+    over op state after runs ends = in-full (asks op) name (changed_in op) refl (λ full at e.
         let pending : is_pending full.domain.transfer ≡ true = not-false (is_pending full.domain.transfer) (sym (ap (λ (o : DomainSight). not (is_pending (option_and_then (last_seen domain_transfer) o))) e) ∙ runs) in
         let changed : Option Transfer → Type 0 = λ last. P (asks op) (domain_transferred_if p r s.clock op (asks op) (facts_for (asks op)) last full.domain) in
         pending-is full.domain.transfer (changed (transfer_after p r s.clock op full.domain.sponsor full.domain.transfer)) pending (λ y is state_is.
@@ -396,10 +378,10 @@ module _ (p : PolicyRules) (r : ℕ) (cl_trid : Option (List ℕ)) (s : Registry
     queried d None = cases.none (asks ops.Query)
     queried d (Some y) = cases.none (asks ops.Query)
 
-    domain-op : (op : TransferOp) → Took (asks op) → Done op (seen op)
-    domain-op ops.Request taken = in-full ops.Request (λ full at e.
+    domain-op : (op : TransferOp) → Took (asks op) → Done op
+    domain-op ops.Request taken = in-full (asks ops.Request) name (changed_in ops.Request) refl (λ full at e.
         cases.domain_asked (asks ops.Request) (name_of name) full.domain at (askable full e taken) (free (asks ops.Request) taken conditions.LacksMoney (search (inl, inr) depth 20)))
-    domain-op ops.Query taken = in-full ops.Query (λ full at e. queried full.domain full.domain.transfer)
+    domain-op ops.Query taken = in-full (asks ops.Query) name (changed_in ops.Query) refl (λ full at e. queried full.domain full.domain.transfer)
     domain-op ops.Approve taken = over ops.Approve ClientApproved (λ sponsor last. refl) (free (asks ops.Approve) taken conditions.IsNotPending (search (inl, inr) depth 20)) (λ full at e y is state_is.
         cases.domain_approved (asks ops.Approve) (name_of name) full.domain at y is state_is (owned r (seen ops.Approve) full e _ (free (asks ops.Approve) taken conditions.IsAnothers (search (inl, inr) depth 20))))
     domain-op ops.Reject taken = over ops.Reject ClientRejected (λ sponsor last. refl) (free (asks ops.Reject) taken conditions.IsNotPending (search (inl, inr) depth 20)) (λ full at e y is state_is.
@@ -428,9 +410,10 @@ module _ (p : PolicyRules) (r : ℕ) (cl_trid : Option (List ℕ)) (s : Registry
       cases.hosts.created new
       (not-false _ (or_parts (host_is_refused p.zone new.name) false hosts.0).0)
       (lists-fit q (free q taken conditions.ListRepeats (search (inl, inr) depth 20)) (free q taken conditions.LeavesTooMany (search (inl, inr) depth 20)))
-      (based-by (name_of new.name) (host_facts (lookups p r (Asked cl_trid q) s) (Asked cl_trid q) (name_of new.name)) refl refl
-      (sym (ap (holds_of (has_no_superordinate p.zone)) at) ∙ free q taken conditions.SuperordinateIsMissing (search (inl, inr) depth 20))
-      (sym (ap (holds_of (superordinate_is_deleted p.zone)) at) ∙ free q taken conditions.SuperordinateIsDeleted (search (inl, inr) depth 20)))
+      (record {
+        based = sym (ap (holds_of (has_no_superordinate p.zone)) at) ∙ free q taken conditions.SuperordinateIsMissing (search (inl, inr) depth 20);
+        alive = sym (ap (holds_of (superordinate_is_deleted p.zone)) at) ∙ free q taken conditions.SuperordinateIsDeleted (search (inl, inr) depth 20);
+      })
   command-cases (requests.DeleteContact name) taken =
       let q : Request = requests.DeleteContact name in
       cases.contacts.dropped name (sym (ap (holds_of (λ (it : ContactFacts). it.linked)) (contact-at p r cl_trid s q name refl))
@@ -438,21 +421,20 @@ module _ (p : PolicyRules) (r : ℕ) (cl_trid : Option (List ℕ)) (s : Registry
   command-cases (requests.DeleteDomain name) taken =
       let q : Request = requests.DeleteDomain name in
       subst (λ (o : Option DomainFacts). P q (deletion_at r s.clock o)) (sym (it-is name taken))
-      (by-seen name taken (it name taken).seen refl)
+      (where-seen (P q) (λ full. ending (goes_at_once (Some (Full full))) s.clock (it name taken) full.domain ∷ Post r (RefundRunning (refund_at s.clock full.domain)) ∷ []) (cases.none q)
+      (it name taken).seen (λ full e. by-phase name taken full e (goes_at_once (Some (Full full)))))
   command-cases (requests.DeleteHost name) taken =
       let q : Request = requests.DeleteHost name in
       cases.hosts.dropped name (sym (ap (holds_of (λ (it : HostFacts). it.linked)) (host-at p r cl_trid s q name refl)) ∙ free q taken conditions.IsLinked (search (inl, inr) depth 20))
   command-cases (requests.UpdateContact u) taken =
       let q : Request = requests.UpdateContact u in
-      let none = cases.none q in
-      where-contact p r cl_trid s q (λ (seen : ContactSight). P q (contact_changes s.clock u seen)) u.name refl none (λ face x. none) (λ face. none) (λ c at. cases.contacts.updated u c at)
+      where-contact p r cl_trid s q (P q) (λ c. PutContact (updated_contact s.clock u c) ∷ []) u.name refl (cases.none q) (cases.contacts.updated u)
   command-cases (requests.UpdateDomain u) taken =
       let q : Request = requests.UpdateDomain u in
-      let none = cases.none q in
       let has : DomainSight → Bool = λ seen. holds_of (domain_has (of_domain u.add)) (option_and_then domain_in_full seen) in
       let is_over : DomainSight → Bool = λ seen. holds_of (domain_is_over (of_domain u.rem) (of_domain u.add)) (option_and_then domain_in_full seen) in
       let many = or_parts (are_too_long (of_domain u.add)) _ (free q taken conditions.LeavesTooMany (search (inl, inr) depth 20)) in
-      where-domain p r cl_trid s q (λ (seen : DomainSight). P q (domain_changes s.clock u seen)) u.name refl none (λ face x. none) (λ face. none) (λ full at e.
+      in-full q u.name (λ full. PutDomain (updated_domain s.clock u full.domain) ∷ []) refl (λ full at e.
       cases.domain_updated u full.domain
       (record {
         at = at;
@@ -462,29 +444,27 @@ module _ (p : PolicyRules) (r : ℕ) (cl_trid : Option (List ℕ)) (s : Registry
       })
       (free q taken conditions.ReferenceIsMissing (search (inl, inr) depth 20)))
   command-cases (requests.UpdateHost u) taken =
-      by-host u taken (host_seen (facts_for (requests.UpdateHost u)) (name_of u.name)) refl
+      let q : Request = requests.UpdateHost u in
+      some-or (λ seen. P q (host_changes p.zone r s.clock u seen)) (cases.none q) (host_seen (facts_for q) (name_of u.name)) (λ h e.
+      by-name u taken h e u.new_name refl (free q taken conditions.NewNameIsTaken (search (inl, inr) depth 20))
+      (free q taken conditions.SuperordinateIsMissing (search (inl, inr) depth 20)) (free q taken conditions.SuperordinateIsDeleted (search (inl, inr) depth 20)))
   command-cases (requests.RenewDomain name expires years) taken =
       let q : Request = requests.RenewDomain name expires years in
-      let none = cases.none q in
-      where-domain p r cl_trid s q (λ (seen : DomainSight). P q (renewal_changes p r s.clock q (facts_for q) seen)) name refl none (λ face x. none) (λ face. none) (λ full at e.
+      in-full q name (λ full. PutDomain (renewed_domain s.clock years full.domain) ∷ charge lines.Renew p r s.clock full.domain.roid q (facts_for q) ∷ []) refl (λ full at e.
       cases.renewed name expires years full.domain
       (payable q name full at e _ (free q taken conditions.IsAnothers (search (inl, inr) depth 20)) (free q taken conditions.LacksMoney (search (inl, inr) depth 20)))
       (sym (ap (λ (o : DomainSight). holds_of (λ (d : Domain). nat_lt (plus_years s.clock 10) (renewed_expiry years d)) (option_and_then domain_in_full o)) e)
       ∙ free q taken conditions.PassesTenYears (search (inl, inr) depth 20)))
   command-cases (requests.RequestRestore name) taken =
-      let q : Request = requests.RequestRestore name in
-      let none = cases.none q in
-      where-domain p r cl_trid s q (λ (seen : DomainSight). P q (restore_changes s.clock seen)) name refl none (λ face x. none) (λ face. none) (λ full at e. cases.restoring name full.domain at)
+      in-full (requests.RequestRestore name) name (λ full. PutDomain (restoring_domain s.clock full.domain) ∷ []) refl (λ full at e. cases.restoring name full.domain at)
   command-cases (requests.ReportRestore name del_time res_time) taken =
       let q : Request = requests.ReportRestore name del_time res_time in
-      let none = cases.none q in
-      where-domain p r cl_trid s q (λ (seen : DomainSight). P q (report_changes p r s.clock q (facts_for q) seen)) name refl none (λ face x. none) (λ face. none) (λ full at e.
+      in-full q name (λ full. PutDomain (restored_domain s.clock full.domain) ∷ charge lines.Restore p r s.clock full.domain.roid q (facts_for q) ∷ []) refl (λ full at e.
       cases.restored name del_time res_time full.domain
       (payable q name full at e _ (free q taken conditions.IsAnothers (search (inl, inr) depth 20)) (free q taken conditions.LacksMoney (search (inl, inr) depth 20))))
   command-cases (requests.TransferContact name op secret) taken =
       let q : Request = requests.TransferContact name op secret in
-      let none = cases.none q in
-      where-contact p r cl_trid s q (λ (seen : ContactSight). P q (contact_transfer_changes p r s.clock op seen)) name refl none (λ face x. none) (λ face. none) (λ c at. contact-op q name op c at c.transfer refl)
+      where-contact p r cl_trid s q (P q) (λ c. contact_transferred_if s.clock op (transfer_after p r s.clock op c.sponsor c.transfer) c) name refl (cases.none q) (λ c at. contact-op q name op c at c.transfer refl)
   command-cases (requests.TransferDomain name op secret) taken = domain-op name secret op taken
   command-cases (requests.PollAck id) taken = cases.acknowledged id
   command-cases q taken = cases.none q

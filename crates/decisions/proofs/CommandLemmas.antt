@@ -1,21 +1,19 @@
 -- What a command that isn't refused is known to find.
 use Rattle.std.proofs.Common.{◌≡◌, ℕ, nat_lt, ◌==◌, Bool, true, false, cond, not, ◌&&◌, ◌||◌, List, [], ◌∷◌, map, find, Option, Some, None, option_and_then, option_map, refl, sym, ap, ◌∙◌, eqb-true, pos, int_lt}
-use Rattle.decisions.proofs.Words.{bytes_decides, contact_face_of, ContactFacts, domain_sight, domain_sponsor, RequestedName, seen_by_outsider, TransferParty}
-use Rattle.decisions.proofs.Words.{account_of, authorizes, cond_both, contact_as, ContactFace, domain_seen, DomainFacts, is_anothers, PolicyRules, standing_of}
+use Rattle.decisions.proofs.Words.{bytes_decides, contact_face_of, ContactFacts, domain_sight, domain_sponsor, RequestedName, seen_by_outsider}
+use Rattle.decisions.proofs.Words.{account_of, authorizes, contact_as, ContactFace, domain_seen, DomainFacts, is_anothers, PolicyRules, standing_of}
 use Rattle.decisions.proofs.Words.{bytes_eq, DomainFace, Full, FullDomain, is_party, not-false, or_parts, presented, refusal_of, Registry, Transfer}
-use Rattle.decisions.proofs.Words.{Asked, balance, Command, Contact, Domain, face_of, Facts, facts, get, lookups, name_of, names, Public, Request, Seen}
-use Rattle.decisions.proofs.SightLemmas.{full_as}
+use Rattle.decisions.proofs.Words.{Asked, balance, Change, Command, Contact, Domain, face_of, Facts, facts, get, lookups, name_of, names, Request, Seen}
+use Rattle.decisions.proofs.SightLemmas.{full_as, outside}
 use Rattle.facts.specs.Facts.{contact_at, contact_facts, contact_seen, domain_at, domain_facts, host_at, host_facts}
 use Rattle.protocol.specs.Requests.{contacts_asked, domains_asked, hosts_asked, presented_contact}
+use Rattle.decisions.specs.Changes.{in_full}
 
 -- ---- what is seen in full is the object itself
 
 full-is : {O F : Type 0} (r : ℕ) (o : O) (face : F) (t : Option Transfer) (b : Bool) (x : O) → cond b (Full o) (seen_by_outsider r face t) ≡ Full x → o ≡ x
 full-is r o face t true x e = cc
-full-is r o face None false x e = absurd cc
-full-is {O} {F} r o face (Some t) false x e =
-    absurd (cond_both {A = Seen O F} (names r t) (TransferParty face t) (Public face) (λ seen. seen ≡ Full x → ⊥)
-    (λ a e. cc) (λ a e. cc) e)
+full-is {O} {F} r o face t false x e = absurd (outside (λ (seen : Seen O F). seen ≡ Full x → ⊥) r face t (λ a e. cc) (λ e. cc) e)
 
 pub contact-full : (r : ℕ) (presented : Option (List ℕ)) (found : Option Contact) (c : Contact) → option_map (contact_as r presented) found ≡ Some (Full c) → found ≡ Some c
 contact-full r presented None c e = absurd cc
@@ -48,13 +46,11 @@ DomainSight = Option (Seen FullDomain DomainFace)
 abbrev pub ContactSight : Type 0
 ContactSight = Option (Seen Contact ContactFace)
 
-where-seen : {O F : Type 0} (Q : Option (Seen O F) → Type 0) → Q None
-    → ((face : F) (x : Transfer) → Q (Some (TransferParty face x))) → ((face : F) → Q (Some (Public face)))
-    → (seen : Option (Seen O F)) → ((o : O) → seen ≡ Some (Full o) → Q (Some (Full o))) → Q seen
-where-seen Q nothing party public None full = nothing
-where-seen Q nothing party public (Some (Full o)) full = full o refl
-where-seen Q nothing party public (Some (TransferParty face x)) full = party face x
-where-seen Q nothing party public (Some (Public face)) full = public face
+pub where-seen : {O F : Type 0} (P : List Change → Type 0) (changes : O → List Change) → P []
+    → (seen : Option (Seen O F)) → ((o : O) → seen ≡ Some (Full o) → P (changes o)) → P (in_full changes seen)
+where-seen P changes nothing None full = nothing
+where-seen P changes nothing (Some (Full o)) full = full o refl
+where-seen P changes nothing (Some _) full = nothing
 
 module _ (p : PolicyRules) (r : ℕ) (cl_trid : Option (List ℕ)) (s : Registry) (q : Request) where
   abbrev asked : Command
@@ -82,17 +78,17 @@ module _ (p : PolicyRules) (r : ℕ) (cl_trid : Option (List ℕ)) (s : Registry
   pub host-at : (name : RequestedName) → hosts_asked q ≡ name ∷ [] → host_at known (name_of name) ≡ Some (host_facts (lookups p r asked s) asked (name_of name))
   host-at name only = rw only (at-itself (name_of name) (host_facts (lookups p r asked s) asked (name_of name)))
 
-  -- what holds of nothing seen, and of what is seen in part, and of an object that is seen in full where it stands
-  pub where-contact : (Q : ContactSight → Type 0) (name : List ℕ) → contacts_asked q ≡ name ∷ [] → Q None → ((face : ContactFace) (x : Transfer) → Q (Some (TransferParty face x))) → ((face : ContactFace) → Q (Some (Public face)))
-      → ((c : Contact) → get s.contacts name ≡ Some c → Q (Some (Full c))) → Q (contact_seen known name)
-  where-contact Q name only nothing party public full =
-      where-seen Q nothing party public (contact_seen known name) (λ c e.
+  -- what holds of no change, and of what an object makes change that is seen in full, where it stands
+  pub where-contact : (P : List Change → Type 0) (changes : Contact → List Change) (name : List ℕ) → contacts_asked q ≡ name ∷ [] → P []
+      → ((c : Contact) → get s.contacts name ≡ Some c → P (changes c)) → P (in_full changes (contact_seen known name))
+  where-contact P changes name only nothing full =
+      where-seen P changes nothing (contact_seen known name) (λ c e.
       full c (contact-full r (presented_contact asked name) (get s.contacts name) c (sym (ap (option_and_then (λ (it : ContactFacts). it.seen)) (contact-at name only)) ∙ e)))
 
-  pub where-domain : (Q : DomainSight → Type 0) (name : RequestedName) → domains_asked q ≡ name ∷ [] → Q None → ((face : DomainFace) (x : Transfer) → Q (Some (TransferParty face x))) → ((face : DomainFace) → Q (Some (Public face)))
-      → ((full : FullDomain) → get s.domains (name_of name) ≡ Some full.domain → domain_seen known (name_of name) ≡ Some (Full full) → Q (Some (Full full))) → Q (domain_seen known (name_of name))
-  where-domain Q name only nothing party public full =
-      where-seen Q nothing party public (domain_seen known (name_of name)) (λ it e.
+  pub where-domain : (P : List Change → Type 0) (changes : FullDomain → List Change) (name : RequestedName) → domains_asked q ≡ name ∷ [] → P []
+      → ((full : FullDomain) → get s.domains (name_of name) ≡ Some full.domain → domain_seen known (name_of name) ≡ Some (Full full) → P (changes full)) → P (in_full changes (domain_seen known (name_of name)))
+  where-domain P changes name only nothing full =
+      where-seen P changes nothing (domain_seen known (name_of name)) (λ it e.
       full it (domain-full p r s (presented asked (name_of name)) (get s.domains (name_of name)) it (sym (ap (option_and_then (λ (it : DomainFacts). it.seen)) (domain-at name only)) ∙ e)) e)
 
 -- what is seen in full, and isn't another's, is the registrar's own

@@ -6,6 +6,7 @@ use Rattle.decisions.proofs.Words.{add, any-add, contact_roid, DropDomain, DropH
 use Rattle.decisions.proofs.Words.{HasObjects, Host, host_roid, insert, IsContactOf, IsDomainOf, IsHostOf, IsRegistrar, links_with_host_renamed, map_values}
 use Rattle.decisions.proofs.Words.{names_contact, names_host, nat_cmp, nat_cmp-IsAntisymmetric, nat_cmp_total, PolicyRules, precedes, PutContact, PutDomain}
 use Rattle.decisions.proofs.Words.{PutHost, Registry, remove, renamed, RenameHost, Roid, slice_cmp, superordinate_of, with_account, with_host_renamed}
+use Rattle.decisions.proofs.Words.{cases_Bool, is_same_roid, same-roids, same_Some}
 use Rattle.decisions.proofs.GrowthLemmas.{Grows, contact-grown, domain-grown, host-grown, host-grown-below}
 use Rattle.decisions.proofs.NamedLemmas.{drop-cases, drop-keeps, drop-there, is-there, put-cases, put-is, put-keeps, put-there, remade-cases, remade-keeps}
 use Rattle.decisions.proofs.{LinkLemmas.has_name-filter, NamedLemmas.at-put, ViewLemmas.account-keep}
@@ -45,7 +46,18 @@ kept-account p r f rises s place is =
 abbrev pub IsItsOwn : {X : Type 0} → (X → Roid) → FinMap (slice_cmp nat_cmp) X → List ℕ → Roid → Type 0
 IsItsOwn {X} roid_of m k roid = (n : List ℕ) (x : X) → get m n ≡ Some x → roid_of x ≡ roid → n ≡ k
 
+-- what stands at a name is this one, where its ROID stands at no other name, or has another ROID
+pub one-or-apart : {X : Type 0} (roid_of : X → Roid) (m : FinMap (slice_cmp nat_cmp) X) (k : List ℕ) (v : X) → get m k ≡ Some v → IsItsOwn roid_of m k (roid_of v)
+    → (n : List ℕ) (x : X) → get m n ≡ Some x → (v ≡ x) ⊎ (is_same_roid (roid_of v) (roid_of x) ≡ false)
+one-or-apart roid_of m k v at own n x there = ⊎_elim
+    (λ same. inl (same_Some v x (sym at ∙ ap (get m) (sym (own n x there (sym (same-roids (roid_of v) (roid_of x) same)))) ∙ there)))
+    (λ other. inr other) (cases_Bool (is_same_roid (roid_of v) (roid_of x)))
+
 module _ {X : Type 0} (roid_of : X → Roid) (m : FinMap (slice_cmp nat_cmp) X) (apart : AreApart roid_of m) where
+  -- a value in place of another of its ROID
+  pub own-put : (k : List ℕ) (v : X) (n : List ℕ) (w : X) → get m n ≡ Some w → roid_of w ≡ roid_of v → n ≡ k → IsItsOwn roid_of (insert m k v) k (roid_of v)
+  own-put k v n w at same here a x there alike = ⊎_elim (λ put. put.0) (λ before. apart a n x w before at (alike ∙ sym same) ∙ here) (put-cases m k v a x there)
+
   apart-put : (k : List ℕ) (v : X) → IsItsOwn roid_of m k (roid_of v) → AreApart roid_of (insert m k v)
   apart-put k v own a b x y at-a at-b same = ⊎_elim
       (λ first. ⊎_elim (λ second. first.0 ∙ sym second.0) (λ second. first.0 ∙ sym (own b y second (sym same ∙ ap roid_of (sym first.1)))) (put-cases m k v b y at-b))

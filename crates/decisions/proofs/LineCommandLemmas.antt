@@ -1,14 +1,14 @@
 -- Each command and each order keeps what a well-formed registry says of lines.
 use Rattle.std.proofs.Common.{◌≡◌, ◌⊎◌, inl, inr, ⊎_elim, ℕ, ◌≤◌, ◌<◌, ◌+◌, Bool, true, false, cond, not, ◌&&◌, min, List, [], ◌∷◌, Option, Some, None, is_some, refl, sym, ap, subst, ◌∙◌, arith}
-use Rattle.decisions.proofs.Lemmas.{AsksFor, been-grown, begins-asks, CommandCases, Grows, IsItsOwn, known, order-cases}
+use Rattle.decisions.proofs.Lemmas.{AsksFor, been-grown, begins-asks, CommandCases, Grows, IsItsOwn, known, one-or-apart, order-cases, own-put}
 use Rattle.decisions.proofs.Lemmas.{OrderCases, put-cases, put-is, request-cases, roid-grown, waits-asks}
 use Rattle.decisions.proofs.Words.{account_of, and-false, Asked, Bad, Change, changed, changed_all, changes_after, Charge, charge, charge_line}
-use Rattle.decisions.proofs.Words.{ClientApproved, Command, count-none, deleted_domain, Deletion, Domain, domain_roid, effect, ended, expiry, Facts, facts}
+use Rattle.decisions.proofs.Words.{ClientApproved, Command, count-none, deleted_domain, Deletion, Domain, domain_roid, effect, expiry, Facts, facts}
 use Rattle.decisions.proofs.Words.{false_from_ne_true, gained, get, HasBeen, HasLines, HasLinesOn, HasObjects, HasRoid, is_kind, is_of, is_on, is_pending}
 use Rattle.decisions.proofs.Words.{is_pending_state, is_same_roid, IsDeletion, IsLineOf, IsRegistrar, IsRegistry, IsSettled, IsSound, last_clock, Line}
 use Rattle.decisions.proofs.Words.{list_any, name_of, new_domain, NewDomain, none-by, Order, order_decision, order_effect, PolicyRules, Post, Status}
 use Rattle.decisions.proofs.Words.{PutDomain, recursion_from_All, Registry, renewed_domain, Request, restored_domain, restoring_domain, Roid, same-roids}
-use Rattle.decisions.proofs.Words.{same_Some, TakeSerial, Transfer, updated_domain, waits, WasGiven, with_account, with_command}
+use Rattle.decisions.proofs.Words.{TakeSerial, Transfer, updated_domain, waits, WasGiven, with_account, with_command}
 use Rattle.decisions.proofs.WellFormedLemmas.{has-given, kept-counted, ungiven}
 use Rattle.decisions.proofs.LineKeepingLemmas.{AllFitLines, in_place, IsChargeIn, IsCharged, begun-by, lines-changed_all, lines-counted, lines-stay, on-again, on-same, rises}
 use Rattle.decisions.proofs.LineTransferLemmas.{asked-kept, lines-ended, lines-handed-over, post}
@@ -35,7 +35,7 @@ own-charge : (p : PolicyRules) (t : Registry) (r : ℕ) (name : List ℕ) (d : D
     → line.roid ≡ Some d.roid → is_kind line.kind lines.Transfer ≡ false → line.recorded ≤ t.clock → HasBeen t line.started → HasBeen t line.refunded → IsChargeIn p t r line
 own-charge p t r name d line at own has sponsor ahead of kind recorded started refunded = record {
   fits = record { roid = subst (WasGiven p t) (sym of) has; recorded = recorded; started = started; refunded = refunded };
-  domains = λ n e there. by n e there (is_same_roid d.roid e.roid) refl;
+  domains = λ n e there. ⊎_elim (λ is. inr (subst (IsCharged r line) is charged)) (λ other. inl (ap (is_of e.roid) of ∙ other)) (one-or-apart domain_roid t.domains name d at own n e there);
 }
   where
     charged : IsCharged r line d
@@ -44,13 +44,6 @@ own-charge p t r name d line at own has sponsor ahead of kind recorded started r
       waits = ap (λ (b : Bool). (b && (is_on d.roid line && not (is_some line.refunded))) && not (is_some line.started)) kind;
       awaited = λ x is pending. and-false (is_on d.roid line) _ (begun-by t x.ac_date line.started (omega (arith, ahead x is pending)) started);
     }
-
-    by : (n : List ℕ) (e : Domain) → get t.domains n ≡ Some e → (b : Bool) → is_same_roid d.roid e.roid ≡ b → (is_on e.roid line ≡ false) ⊎ IsCharged r line e
-    by n e there true same =
-        let here : n ≡ name = own n e there (sym (same-roids d.roid e.roid same)) in
-        let is : d ≡ e = same_Some d e (sym at ∙ ap (λ (m : List ℕ). get t.domains m) (sym here) ∙ there) in
-        inr (subst (IsCharged r line) is charged)
-    by n e there false other = inl (ap (is_of e.roid) of ∙ other)
 
 -- ---- commands
 
@@ -77,7 +70,7 @@ module _ (p : PolicyRules) (r : ℕ) (cl_trid : Option (List ℕ)) (s : Registry
       let t : Registry = changed p (PutDomain (in_place d e)) counted in
       let rise = rises s r with_command (λ a. omega arith) in
       let grown : Grows p p s t = record { zone = refl; place = λ q is. is; clock = omega arith; serial = rise } in
-      let own : IsItsOwn domain_roid t.domains d.name d.roid = λ n x there alike. ⊎_elim (λ put. put.0) (λ before. is.identities.domain_roids n name x d before at alike ∙ sym k.is_at.named) (put-cases s.domains d.name (in_place d e) n x there) in
+      let own = own-put domain_roid s.domains is.identities.domain_roids d.name (in_place d e) name d at refl (sym k.is_at.named) in
       let charged = own-charge p t r d.name (in_place d e) line (put-is counted.domains d.name (in_place d e)) own (roid-grown p p s t grown kinds.Domain d.roid k.is_at.roid) sponsor
       (awaited-ahead p s d k.is_at.deletion (settled.domains name d at)) of kind recorded (been-grown p p s t grown line.started started) (been-grown p p s t grown line.refunded refunded) in
       (put-again name d e at, (charged, tt))
@@ -137,11 +130,11 @@ module _ (p : PolicyRules) (r : ℕ) (cl_trid : Option (List ℕ)) (s : Registry
     renewed = λ name expires years d it fits. inl (put-charged (name_of name) d (renewed_domain s.clock years d) _ it.at it.own refl refl (omega arith) (omega arith) tt);
     restoring = λ name d at. inl (put-again (name_of name) d (restoring_domain s.clock d) at, tt);
     restored = λ name del_time res_time d it. inl (put-charged (name_of name) d (restored_domain s.clock d) _ it.at it.own refl refl (omega arith) tt tt);
-    domain_asked = λ q n d at askable paid. inr (post p d.sponsor _ _ (asked-kept p sound r s early objects has-counted q (known p r cl_trid s q) n d at askable));
+    domain_asked = λ q n d at askable paid. inr (post p d.sponsor _ _ (asked-kept p counted objects has-counted n d at sound early r q (known p r cl_trid s q) askable));
     domain_approved = λ q n d at y last pending own.
-        inr (post p y.requester _ _ (lines-handed-over p counted objects has-counted n d at (ended ClientApproved s.clock y) y last pending refl refl refl (d.years + gained d s.clock) (gained d s.clock)));
+        inr (post p y.requester _ _ (lines-handed-over p counted objects has-counted n d at ClientApproved y last pending refl (d.years + gained d s.clock) (gained d s.clock)));
     domain_turned_down = λ q n d at y last pending state to notice over down side.
-        inr (post p to _ _ (lines-ended p counted objects has-counted n d at (ended state s.clock y) y last pending refl over s.clock (omega arith)));
+        inr (post p to _ _ (lines-ended p counted objects has-counted n d at state y last pending over));
   }
 
   -- together with the count of the command

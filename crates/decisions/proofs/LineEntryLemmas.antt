@@ -1,10 +1,10 @@
 -- What is so of the lines of an account stays so as time enters into it.
-use Rattle.std.proofs.Common.{◌≡◌, ℕ, ◌≤◌, nat_lt, Bool, true, false, cond, not, ◌&&◌, List, [], ◌∷◌, ◌++◌, Option, Some, None, refl, sym, ap, subst, ◌∙◌, arith, ⊎_elim}
+use Rattle.std.proofs.Common.{◌≡◌, ℕ, ◌≤◌, nat_lt, Bool, true, false, not, ◌&&◌, List, [], ◌∷◌, ◌++◌, Option, Some, None, refl, sym, ap, subst, ◌∙◌, arith, ⊎_elim}
 use Rattle.decisions.proofs.Words.{Account, account_of, add, AllByRecursion, and_left, and_right, AutoRenewal, begins_after, begins_by, cases_Bool, cond_both}
 use Rattle.decisions.proofs.Words.{entered, FinMap, fold, get, given, in_order, is_begun_after, is_for_transfer, is_kind, is_of, is_on, is_same_roid, IsLineOf}
 use Rattle.decisions.proofs.Words.{LapseEntry, Line, list_any, nat_cmp, nat_tests, Notice, PolicyRules, posted, Posting, Registry, remade, Renewal}
 use Rattle.decisions.proofs.Words.{renewal_line, Roid, same-roids, slice_cmp, Start, start-elsewhere, start-stays, transfer_started, TransferStart, waits}
-use Rattle.decisions.proofs.Words.{WasGiven, with_account}
+use Rattle.decisions.proofs.Words.{and_cases, is_some, WasGiven, with_account}
 use Rattle.accounts.specs.declared.line.LineKind.TheVariants as kinds
 use Rattle.model.proofs.LineLemmas.{all-add, all-remade, and-false, count, count-add-none, count-remade, none-add, none-remade}
 use Rattle.decisions.proofs.{PostingLemmas.AllPosted, PostingLemmas.posted-both, PostingLemmas.posted-given, ViewLemmas.account-keep}
@@ -113,16 +113,13 @@ renewal-by roid r last le = and-false (is_on roid (renewal_line r)) (nat_lt last
 
 -- a charge whose grace was begun waits no more
 pub started-waits-not : (x : TransferStart) (l : Line) → waits x.roid (transfer_started x l) ≡ false
-started-waits-not x l = by l.started (is_for_transfer x.roid l) refl
+started-waits-not x l = cond_both (is_for_transfer x.roid l && not (begins_by l.started l.years x.moment x.years)) (record l { started = Some x.moment; years = x.years }) l (λ m. waits x.roid m ≡ false)
+    (λ e. and_right (is_for_transfer x.roid l) false refl)
+    (λ e. ⊎_elim (and_left (is_for_transfer x.roid l) _) (λ n. and_right (is_for_transfer x.roid l) _ (begun l.started n)) (and_cases (is_for_transfer x.roid l) _ e))
   where
-    by : (started : Option ℕ) (b : Bool) → is_for_transfer x.roid l ≡ b → (let m : Line = record l { started = started } in waits x.roid (cond (b && not (begins_by started l.years x.moment x.years)) (record m { started = Some x.moment; years = x.years }) m)) ≡ false
-    by None true e = and_right (is_for_transfer x.roid l) false refl
-    by None false e = ap (λ (b : Bool). b && true) e
-    by (Some start) b e =
-        let m : Line = record l { started = Some start } in
-        let none : (is_for_transfer x.roid l && false) ≡ false = and_right (is_for_transfer x.roid l) false refl in
-        cond_both (b && not (begins_by (Some start) l.years x.moment x.years))
-        (record m { started = Some x.moment; years = x.years }) m (λ n. waits x.roid n ≡ false) (λ e. none) (λ e. none)
+    begun : (started : Option ℕ) → not (begins_by started l.years x.moment x.years) ≡ false → not (is_some started) ≡ false
+    begun None n = absurd (let never : true ≡ false = n in cc)
+    begun (Some start) n = refl
 
 -- ---- each line is of a domain, and no grace begins ahead of the clock
 

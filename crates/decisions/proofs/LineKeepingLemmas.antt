@@ -5,7 +5,7 @@ use Rattle.decisions.proofs.Words.{account_changed, add, All-from_recursion, Cha
 use Rattle.decisions.proofs.Words.{HasLines, HasLinesOn, in_order, is_begun_after, is_for_transfer, is_on, is_pending_state, IsAwaitedIfPending, IsLineOf}
 use Rattle.decisions.proofs.Words.{Lapse, LapseContact, LapseDomain, Line, list_any, MoveClock, nat_tests, OpenAccount, PolicyRules, Post, PutDomain}
 use Rattle.decisions.proofs.Words.{recursion_from_All, refunded_by, RefundRunning, RefundTransfer, Registry, remade, RenameHost, Roid, RunningRefund, runs}
-use Rattle.decisions.proofs.Words.{TakeSerial, Transfer, waits, WasGiven, with_account, with_host_renamed, with_lines}
+use Rattle.decisions.proofs.Words.{and_parts, period_of, runs_from, TakeSerial, Transfer, waits, WasGiven, with_account, with_host_renamed, with_lines}
 use Rattle.decisions.proofs.{GrowthLemmas.{Grows, been-grown, roid-grown, AllFit, all-kept}, NamedLemmas.{drop-cases, remade-cases, at-put}}
 use Rattle.decisions.specs.Changes.{itself}
 use Rattle.decisions.proofs.{LineEntryLemmas.begins-asks, LineEntryLemmas.waits-asks, ViewLemmas.account-keep, ViewLemmas.serial-rises}
@@ -85,6 +85,19 @@ pub lines-counted : (p : PolicyRules) (s : Registry) (r : ℕ) (f : Account → 
 lines-counted p s r f keeps more is =
     lines-domains p p s (with_account r f s) (account-grows s r f p more) (lines-stay s r f keeps) is.domains is
 
+-- with its lines made anew none begins on a domain that didn't, and as many wait
+pub on-relined : (s : Registry) (r : ℕ) (g : List Line → List Line) (d : Domain) → ((last : Option ℕ) (ls : List Line) → list_any (begins_after d.roid last) ls ≡ false → list_any (begins_after d.roid last) (g ls) ≡ false)
+    → ((ls : List Line) → count (waits d.roid) (g ls) ≡ count (waits d.roid) ls) → HasLinesOn s d → HasLinesOn (with_account r (with_lines g) s) d
+on-relined s r g d none as_many = on-carried s (with_account r (with_lines g) s) d
+    (λ last q. lines-keep s r (with_lines g) (λ ls. list_any (begins_after d.roid last) ls ≡ false) q (λ own. none last (account_of q s).lines))
+    (λ q n. lines-keep s r (with_lines g) (λ ls. count (waits d.roid) ls ≡ n) q (λ own h. as_many (account_of q s).lines ∙ h))
+
+lines-relined : (p : PolicyRules) (s : Registry) (r : ℕ) (g : List Line → List Line) → let t : Registry = with_account r (with_lines g) s in
+    ((ls : List Line) → AllByRecursion (IsLineOf p t) ls → AllByRecursion (IsLineOf p t) (g ls)) → ((name : List ℕ) (d : Domain) → get s.domains name ≡ Some d → HasLinesOn t d) → HasLines p s → HasLines p t
+lines-relined p s r g fits on is =
+    let t : Registry = with_account r (with_lines g) s in
+    record { each = each-kept p p s t (account-grows s r (with_lines g) p (λ a. omega arith)) is (λ q. lines-keep s r (with_lines g) (AllByRecursion (IsLineOf p t)) q (λ own. fits (account_of q s).lines)); domains = on }
+
 -- ---- a charge
 
 -- for a domain of the registrar's own, which isn't for a transfer, and whose grace begins before a
@@ -98,38 +111,28 @@ pub record IsChargeIn (p : PolicyRules) (s : Registry) (r : ℕ) (line : Line) :
   pub fits : IsLineOf p s line
   pub domains : (name : List ℕ) (d : Domain) → get s.domains name ≡ Some d → (is_on d.roid line ≡ false) ⊎ IsCharged r line d
 
-module _ (p : PolicyRules) (s : Registry) (r : ℕ) where
-  abbrev with_line : Line → Registry
-  with_line line = with_account r (with_lines (add in_order line)) s
+module _ (p : PolicyRules) (s : Registry) (r : ℕ) (line : Line) where
+  abbrev with_line : Registry
+  with_line = with_account r (with_lines (add in_order line)) s
 
-  -- what is so of lines but of this one
-  none-charged : (line : Line) (test : Line → Bool) (q : ℕ) → (r ≡ q → test line ≡ false) → list_any test (account_of q s).lines ≡ false → list_any test (account_of q (with_line line)).lines ≡ false
-  none-charged line test q fails none =
-      lines-keep s r (with_lines (add in_order line)) (λ ls. list_any test ls ≡ false) q (λ own h. none-add in_order test line (account_of q s).lines (fails own) h) none
-
-  count-charged : (line : Line) (test : Line → Bool) (q n : ℕ) → test line ≡ false → count test (account_of q s).lines ≡ n → count test (account_of q (with_line line)).lines ≡ n
-  count-charged line test q n fails e =
-      lines-keep s r (with_lines (add in_order line)) (λ ls. count test ls ≡ n) q (λ own h. count-add-none in_order test line (account_of q s).lines fails ∙ h) e
-
-  charged-off : (line : Line) (d : Domain) → is_on d.roid line ≡ false → HasLinesOn s d → HasLinesOn (with_line line) d
-  charged-off line d off = on-carried s (with_line line) d (λ last q. none-charged line (begins_after d.roid last) q (λ own. begins-asks d.roid last line off)) (λ q n. count-charged line (waits d.roid) q n (waits-asks d.roid line off))
-
-  charged-own : (line : Line) (d : Domain) → IsCharged r line d → HasLinesOn s d → HasLinesOn (with_line line) d
-  charged-own line d charged h = record {
-    elsewhere = λ q other. none-charged line (begins_after d.roid d.transferred) q (λ own. absurd (other (sym own ∙ charged.sponsor))) (h.elsewhere q other);
-    waiting = λ q. count-charged line (waits d.roid) q (charges_waiting q d.transfer) charged.waits (h.waiting q);
-    awaited = awaited-carried s (with_line line) d d.transfer (λ x at pending none. none-charged line (begins_after d.roid (Some x.ac_date)) d.sponsor (λ own. charged.awaited x at pending) none) h.awaited;
+  charged-own : (d : Domain) → IsCharged r line d → HasLinesOn s d → HasLinesOn with_line d
+  charged-own d charged h = record {
+    elsewhere = λ q other. keep (λ ls. list_any (begins_after d.roid d.transferred) ls ≡ false) q (λ own h. absurd (other (sym own ∙ charged.sponsor))) (h.elsewhere q other);
+    waiting = λ q. keep (λ ls. count (waits d.roid) ls ≡ charges_waiting q d.transfer) q (λ own h. count-add-none in_order (waits d.roid) line (account_of q s).lines charged.waits ∙ h) (h.waiting q);
+    awaited = awaited-carried s with_line d d.transfer (λ x at pending none. keep (λ ls. list_any (begins_after d.roid (Some x.ac_date)) ls ≡ false) d.sponsor
+        (λ own h. none-add in_order (begins_after d.roid (Some x.ac_date)) line (account_of d.sponsor s).lines (charged.awaited x at pending) h) none) h.awaited;
   }
+    where
+      keep : (P : List Line → Type 0) (q : ℕ) → (r ≡ q → P (account_of q s).lines → P (add in_order line (account_of q s).lines)) → P (account_of q s).lines → P (account_of q with_line).lines
+      keep = lines-keep s r (with_lines (add in_order line))
 
-  pub lines-charged : (line : Line) → IsChargeIn p s r line → HasLines p s → HasLines p (with_line line)
-  lines-charged line charge is =
-      let t : Registry = with_line line in
-      let grows : Grows p p s t = account-grows s r (with_lines (add in_order line)) p (λ a. omega arith) in
-      record {
-        each = each-kept p p s t grows is (λ q. lines-keep s r (with_lines (add in_order line)) (AllByRecursion (IsLineOf p t)) q
-            (λ own. all-add in_order (IsLineOf p t) line (account_of q s).lines (line-grown p p s t grows line charge.fits)));
-        domains = λ name d at. ⊎_elim (λ off. charged-off line d off (is.domains name d at)) (λ own. charged-own line d own (is.domains name d at)) (charge.domains name d at);
-      }
+  pub lines-charged : IsChargeIn p s r line → HasLines p s → HasLines p with_line
+  lines-charged charge is = lines-relined p s r (add in_order line)
+      (λ ls. all-add in_order (IsLineOf p with_line) line ls (line-grown p p s with_line (account-grows s r (with_lines (add in_order line)) p (λ a. omega arith)) line charge.fits))
+      (λ name d at. ⊎_elim
+      (λ off. on-relined s r (add in_order line) d (λ last ls. none-add in_order (begins_after d.roid last) line ls (begins-asks d.roid last line off))
+      (λ ls. count-add-none in_order (waits d.roid) line ls (waits-asks d.roid line off)) (is.domains name d at))
+      (λ own. charged-own d own (is.domains name d at)) (charge.domains name d at)) is
 
 -- ---- what is given back
 
@@ -149,41 +152,27 @@ module _ (p : PolicyRules) (x : RunningRefund) where
   abbrev back : Line → Line
   back = refunded_by p x
 
+  has-begun : (l : Line) (started : Option ℕ) → runs_from p x.moment x.transferred started (period_of l.kind) ≡ true → not (is_some started) ≡ false
+  has-begun l None running = absurd (let never : false ≡ true = running in cc)
+  has-begun l (Some start) running = refl
+
   -- what waits for a transfer isn't given back
   refund-waits : (roid : Roid) (l : Line) → waits roid (back l) ≡ waits roid l
-  refund-waits roid l = by l.started
-    where
-      begun : (started : ℕ) (b : Bool) → (let m : Line = record l { started = Some started } in waits roid (cond b (record m { refunded = Some x.moment }) m)) ≡ (let m : Line = record l { started = Some started } in waits roid m)
-      begun started true = and-false _ false refl ∙ sym (and-false (is_for_transfer roid l) false refl)
-      begun started false = refl
-
-      by : (started : Option ℕ) → (let m : Line = record l { started = started } in waits roid (back m)) ≡ (let m : Line = record l { started = started } in waits roid m)
-      by None =
-          let m : Line = record l { started = None } in
-          let none : runs p x.moment x.roid x.transferred m ≡ false = and-false (is_on x.roid l) _ (and-false (not (is_some l.refunded)) false refl) in
-          ap (λ (b : Bool). waits roid (cond b (record m { refunded = Some x.moment }) m)) none
-      by (Some started) = begun started (runs p x.moment x.roid x.transferred (let m : Line = record l { started = Some started } in m))
+  refund-waits roid l = cond_both (runs p x.moment x.roid x.transferred l) (record l { refunded = Some x.moment }) l (λ m. waits roid m ≡ waits roid l)
+      (λ running.
+      let begun = has-begun l l.started (and_parts (not (is_some l.refunded)) _ (and_parts (is_on x.roid l) _ running).1).1 in
+      and-false _ (not (is_some l.started)) begun ∙ sym (and-false (is_for_transfer roid l) (not (is_some l.started)) begun)) (λ ended. refl)
 
   module _ (s : Registry) (r : ℕ) where
     abbrev refunded : Registry
     refunded = with_account r (with_lines (remade in_order back)) s
 
-    refunded-on : (d : Domain) → HasLinesOn s d → HasLinesOn refunded d
-    refunded-on d = on-carried s refunded d
-        (λ last q. lines-keep s r (with_lines (remade in_order back)) (λ ls. list_any (begins_after d.roid last) ls ≡ false) q
-        (λ own h. none-remade in_order (begins_after d.roid last) (begins_after d.roid last) back
-        (λ l e. refund-begins (runs p x.moment x.roid x.transferred l) x.moment d.roid last l ∙ e)
-        (account_of q s).lines h))
-        (λ q n. lines-keep s r (with_lines (remade in_order back)) (λ ls. count (waits d.roid) ls ≡ n) q (λ own h. count-remade in_order (waits d.roid) back (refund-waits d.roid) (account_of q s).lines ∙ h))
-
     pub lines-refunded : x.moment ≤ s.clock → HasLines p s → HasLines p (with_account r (with_lines (remade in_order (refunded_by p x))) s)
-    lines-refunded come is =
-        let grows : Grows p p s refunded = account-grows s r (with_lines (remade in_order back)) p (λ a. omega arith) in
-        record {
-          each = each-kept p p s refunded grows is (λ q. lines-keep s r (with_lines (remade in_order back)) (AllByRecursion (IsLineOf p refunded)) q
-              (λ own. all-remade in_order (IsLineOf p refunded) (IsLineOf p refunded) back (λ l. refund-line (runs p x.moment x.roid x.transferred l) p refunded x.moment come l) (account_of q s).lines));
-          domains = λ name d at. refunded-on d (is.domains name d at);
-        }
+    lines-refunded come is = lines-relined p s r (remade in_order back)
+        (all-remade in_order (IsLineOf p refunded) (IsLineOf p refunded) back (λ l. refund-line (runs p x.moment x.roid x.transferred l) p refunded x.moment come l))
+        (λ name d at. on-relined s r (remade in_order back) d
+        (λ last. none-remade in_order (begins_after d.roid last) (begins_after d.roid last) back (λ l e. refund-begins (runs p x.moment x.roid x.transferred l) x.moment d.roid last l ∙ e))
+        (count-remade in_order (waits d.roid) back (refund-waits d.roid)) (is.domains name d at)) is
 
 -- ---- each change
 

@@ -1,11 +1,11 @@
 -- A registry that lapses keeps what a well-formed one says of lines.
 use Rattle.std.proofs.Common.{◌≡◌, ◌≢◌, ⊎_elim, ℕ, ◌+◌, ◌≤◌, Bool, true, false, not, ◌||◌, List, ◌++◌, Option, Some, None, refl, sym, ap, subst, ◌∙◌, arith}
-use Rattle.std.proofs.Common.{zero, suc, ◌<◌, cond, nat_le, ◌&&◌, ◌∷◌}
+use Rattle.std.proofs.Common.{suc, ◌<◌, cond, nat_le, ◌&&◌, ◌∷◌}
 use Rattle.std.proofs.lemmas.Bool.{false_from_ne_true, and_cases, and_left, and_parts, and_right}
 use Rattle.decisions.proofs.Lemmas.{domain-left, domain-posted, drop-cases, due-is, Grows, line-grown, own-account, lapse-cases, postings-posted}
-use Rattle.decisions.proofs.Lemmas.{put-cases, renewal-by, renewal-waits-not, serial-posted, started-waits-not}
-use Rattle.decisions.proofs.Words.{All-from_recursion, contact_completed, get, IsAwaitedIfPending, nat_list_cmp_total, recursion_from_All, some-lapse-together}
-use Rattle.decisions.proofs.Words.{AllByRecursion, charges_waiting, eq_by_cmp_equiv, is_begun_after, is_pending_state, transfer_started, TransferApproved}
+use Rattle.decisions.proofs.Lemmas.{other_name, put-cases, renewal-by, renewal-waits-not, serial-posted, started-waits-not}
+use Rattle.decisions.proofs.Words.{All-from_recursion, contact_completed, get, IsAwaitedIfPending, recursion_from_All, some-lapse-together}
+use Rattle.decisions.proofs.Words.{AllByRecursion, charges_waiting, is_begun_after, is_pending_state, transfer_started, TransferApproved}
 use Rattle.decisions.proofs.Words.{begins_after, domain_notice, HasLines, is_same_roid, lapse_contact, one-or-other, renewal_line, TransferStart, with_account}
 use Rattle.decisions.proofs.Words.{account_of, AutoRenewal, HasLinesOn, HasObjects, none-weaker, not-itself, plus_years, PolicyRules, same-roids, swept-alike}
 use Rattle.decisions.proofs.Words.{Account, cond_some, in_order, IsAwaited, IsLineOf, list_any, nat_tests, postings, Registry, same_Some, slice_cmp, turns-are}
@@ -18,10 +18,11 @@ use Rattle.model.specs.Lapse.{Choice, accounts_at, at, domains_at, is_named, lap
 use Rattle.model.proofs.LineLemmas.{all-weaker, awaited-carried, count, count-add-none, count-none-remade, none-add}
 use Rattle.model.proofs.OneByOneLemmas.{one-lapses}
 use Rattle.basis.proofs.SweepLaws.{fold_append}
+use Rattle.decisions.proofs.PostingLemmas.{renewals-each}
 
 -- ---- a transfer that is due is pending
 
-due-pending : (t : ℕ) (o : Option Transfer) (x : Transfer) → due_by t o ≡ Some x → is_pending_state x.state ≡ true
+pub due-pending : (t : ℕ) (o : Option Transfer) (x : Transfer) → due_by t o ≡ Some x → is_pending_state x.state ≡ true
 due-pending t None x e = absurd cc
 due-pending t (Some y) x e =
     let is = cond_some (is_pending_state y.state && nat_le y.ac_date t) y x e in
@@ -40,24 +41,16 @@ renewal_at p d k = record { roid = d.roid; moment = plus_years d.created (d.year
 -- none begins after a moment by which all turns come
 none-renewals : (p : PolicyRules) (roid : Roid) (last r : ℕ) (d : Domain) (n : ℕ) → ((k : ℕ) → k < n → plus_years d.created (d.years + k) ≤ last)
     → AllKeep (λ ls. list_any (begins_after roid (Some last)) ls ≡ false) r (renewals p d n)
-unfolding renewals
-none-renewals p roid last r d zero by = tt
-none-renewals p roid last r d (suc n) by =
-    keep-both (λ ls. list_any (begins_after roid (Some last)) ls ≡ false) r (renewals p d n) _ (none-renewals p roid last r d n (λ k lt. by k (omega (arith, lt))))
-    (λ own ls none. none-add in_order (begins_after roid (Some last)) (renewal_line (renewal_at p d n)) ls (renewal-by roid (renewal_at p d n) last (by n (omega arith))) none, (λ own ls none. none, tt))
+none-renewals p roid last r d n by = renewals-each p (Keeps (λ ls. list_any (begins_after roid (Some last)) ls ≡ false) r) d n (λ k lt.
+    (λ own ls none. none-add in_order (begins_after roid (Some last)) (renewal_line (renewal_at p d k)) ls (renewal-by roid (renewal_at p d k) last (by k lt)) none, (λ own ls none. none, tt)))
 
 count-renewals : (p : PolicyRules) (roid : Roid) (c r : ℕ) (d : Domain) (n : ℕ) → AllKeep (λ ls. count (waits roid) ls ≡ c) r (renewals p d n)
-unfolding renewals
-count-renewals p roid c r d zero = tt
-count-renewals p roid c r d (suc n) =
-    keep-both (λ ls. count (waits roid) ls ≡ c) r (renewals p d n) _ (count-renewals p roid c r d n)
-    (λ own ls e. count-add-none in_order (waits roid) (renewal_line (renewal_at p d n)) ls (renewal-waits-not roid (renewal_at p d n)) ∙ e, (λ own ls e. e, tt))
+count-renewals p roid c r d n = renewals-each p (Keeps (λ ls. count (waits roid) ls ≡ c) r) d n (λ k lt.
+    (λ own ls e. count-add-none in_order (waits roid) (renewal_line (renewal_at p d k)) ls (renewal-waits-not roid (renewal_at p d k)) ∙ e, (λ own ls e. e, tt)))
 
 -- nothing else than its sponsor's account changes
 other-renewals : (p : PolicyRules) (P : List Line → Type 0) (r : ℕ) (d : Domain) (n : ℕ) → r ≢ d.sponsor → AllKeep P r (renewals p d n)
-unfolding renewals
-other-renewals p P r d zero other = tt
-other-renewals p P r d (suc n) other = keep-both P r (renewals p d n) _ (other-renewals p P r d n other) (λ own ls h. absurd (other (sym own)), (λ own ls h. h, tt))
+other-renewals p P r d n other = renewals-each p (Keeps P r) d n (λ k lt. (λ own ls h. absurd (other (sym own)), (λ own ls h. h, tt)))
 
 -- ---- what becomes of a domain and of the lines on it
 
@@ -220,11 +213,6 @@ module _ (p : PolicyRules) (s : Registry) (r : ℕ) where
 
 -- ---- one domain lapses first, and then all others
 
-not-named : (name n : List ℕ) → is_named name n ≡ false → n ≢ name
-not-named name n e same =
-    let never : true ≡ false = sym ((eq_by_cmp_equiv nat_list_cmp_total).refl n) ∙ ap (λ (q : List ℕ). is_named q n) same ∙ e in
-    absurd cc
-
 put-or-drop : {X : Type 0} (m : FinMap (slice_cmp nat_cmp) X) (name : List ℕ) (o : Option X) (n : List ℕ) (x : X) → n ≢ name → get (put_or_drop m name o) n ≡ Some x → get m n ≡ Some x
 put-or-drop m name None n x other found = (drop-cases m name n x found).1
 put-or-drop m name (Some y) n x other found = ⊎_elim (λ put. absurd (other put.0)) (λ before. before) (put-cases m name y n x found)
@@ -265,7 +253,7 @@ module _ (p : PolicyRules) (t : ℕ) (name : List ℕ) (s : Registry) where
         by : (b : Bool) → is_named name n ≡ b → AllKeep P r (lapse_if (not b) (lapse p t x) x).postings
         by true e = tt
         by false e =
-            let other : n ≢ name = not-named name n e in
+            let other : n ≢ name = λ same. other_name name n e (sym same) in
             off-keep d.roid P kept r (lapse p t x).postings (domain-off p d.roid t x (off n x (put-or-drop s.domains name (lapse p t d).object n x other there) other))
 
     -- what is so of the lines on a domain once it has lapsed is so once all have

@@ -1,13 +1,20 @@
 -- What a domain is to name is there: the lists of its links, in order or amended, name what commands
 -- and the domain named before.
 use Rattle.std.proofs.Common.{◌≡◌, ⊎_elim, ℕ, Bool, true, false, not, ◌||◌, List, [], ◌∷◌, ◌++◌, map, Option, Some, None, refl, sym, ap, ◌∙◌}
-use Rattle.std.proofs.{Math.Bool.{or-false, or_assoc, or_comm}, Common.{◌&&◌, filter, fold}}
+use Rattle.std.proofs.{Math.Bool.{or-false, or_assoc, or_comm}, Common.{◌&&◌, filter, fold}, lemmas.List.map-id}
 use Rattle.std.proofs.lemmas.Bool.{and_parts, not-false, or_cases, or_left, or_parts, or_right}
 use Rattle.decisions.proofs.Words.{amended, bytes_decides, bytes_eq, DomainUpdate, has_name, holds_of, Links, list_any, name_of, names_contact, RequestedName}
 use Rattle.decisions.proofs.Words.{add, any-add, any-filter_same, names_host, nat_cmp, NewDomain, precedes, slice_cmp}
 use Rattle.decisions.proofs.Words.{CreateDomain, is_among, itself, kept, list_any-append, references_fail, UpdateDomain}
 use Rattle.objects.specs.Links.{in_order}
 use Rattle.decisions.specs.Decisions.{new_links, or_old, updated_links}
+
+-- neither part holds of what doesn't
+pub or-first : (a b : Bool) → (a || b) ≡ false → a ≡ false
+or-first a b e = (or_parts a b e).0
+
+pub or-second : (a b : Bool) → (a || b) ≡ false → b ≡ false
+or-second a b e = (or_parts a b e).1
 
 -- ---- lists of names that are filtered, or put in order
 
@@ -49,10 +56,6 @@ module _ (there : List ℕ → Bool) where
   ordered-there : {A : Type 0} (text : A → List ℕ) (items : List A) (name : List ℕ) → list_any (λ item. not (there (text item))) items ≡ false → has_name (in_order (map text items)) name ≡ true → there name ≡ true
   ordered-there text items name none e = listed text items name none (sym (has_name-in_order (map text items) name) ∙ e)
 
-map-itself : (names : List (List ℕ)) → map itself names ≡ names
-map-itself [] = refl
-map-itself (x ∷ xs) = ap (λ (l : List (List ℕ)). x ∷ l) (map-itself xs)
-
 -- ---- links, where a command's tests of what is to be named don't fail
 
 module _ (contact host : List ℕ → Bool) where
@@ -62,17 +65,14 @@ module _ (contact host : List ℕ → Bool) where
 
   all-pass : (registrant : Bool) (admin tech : List (List ℕ)) (hosts : List RequestedName)
       → (registrant || (list_any (λ name. not (contact name)) admin || (list_any (λ name. not (contact name)) tech || list_any (λ name. not (host (name_of name))) hosts))) ≡ false → AllPass registrant admin tech hosts
-  all-pass registrant admin tech hosts none =
-      let first = or_parts registrant _ none in
-      let rest = or_parts (list_any (λ name. not (contact name)) admin) _ first.1 in
-      (first.0, (rest.0, or_parts (list_any (λ name. not (contact name)) tech) _ rest.1))
+  all-pass registrant admin tech hosts none = search (or-first, or-second)
 
   module _ (new : NewDomain) (passes : references_fail contact host (CreateDomain new) ≡ false) where
     pass : AllPass (not (contact new.registrant)) new.admin new.tech new.hosts
     pass = all-pass (not (contact new.registrant)) new.admin new.tech new.hosts passes
 
     plain-there : (names : List (List ℕ)) (name : List ℕ) → list_any (λ other. not (contact other)) names ≡ false → has_name (in_order names) name ≡ true → contact name ≡ true
-    plain-there names name none e = ordered-there contact itself names name none (ap (λ (l : List (List ℕ)). has_name (in_order l) name) (map-itself names) ∙ e)
+    plain-there names name none e = ordered-there contact itself names name none (ap (λ (l : List (List ℕ)). has_name (in_order l) name) (map-id names) ∙ e)
 
     pub new-contacts : (name : List ℕ) → names_contact name (new_links new) ≡ true → contact name ≡ true
     new-contacts name e =

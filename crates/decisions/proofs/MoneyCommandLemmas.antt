@@ -7,7 +7,7 @@ use Rattle.decisions.proofs.Words.{Facts, facts, get, host_renamed, IsRefundable
 use Rattle.decisions.proofs.Words.{Order, order_decision, PolicyRules, Post, refunded_by, RefundRunning, RefundTransfer, Registry, RenameHost, Renewal, runs}
 use Rattle.decisions.proofs.Words.{Start, Transfer, transfer_refunded, transfer_started, TransferState, waits, with_account, with_command, with_serial}
 use Rattle.decisions.proofs.CommandCases.{CommandCases, IsDeletable, request-cases}
-use Rattle.decisions.proofs.Lemmas.{all-kept, AllFit, Covers, lines-keep, lines-stay, order-cases, put-is}
+use Rattle.decisions.proofs.Lemmas.{account-keep, all-kept, AllFit, Covers, lines-stay, order-cases, put-is}
 use Rattle.model.proofs.MoneyChangeLemmas.{in-grace, turned-down, Follows, follows-changed, follows-charge}
 use Rattle.model.proofs.MoneyChangeLemmas.{running-given-back, transfer-begun, transfer-given-back}
 use Rattle.decisions.specs.Changes.{itself}
@@ -36,11 +36,24 @@ FitsMoney L u p _ s = Unit {0}
 abbrev pub AllFitMoney : (ℕ → ℕ → Line → Type 0) → ℕ → PolicyRules → List Change → Registry → Type 0
 AllFitMoney L u p changes s = AllFit p (FitsMoney L u p) changes s
 
-module _ (L : ℕ → ℕ → Line → Type 0) (u : ℕ) (p : PolicyRules) (q : ℕ) (begin : List Line) where
-  abbrev Follow : List Line → Type 0
-  Follow ls = Follows (L q) u begin ls
+-- what each change keeps of an account that is posted to, the changes keep
+module _ (L : ℕ → ℕ → Line → Type 0) (u : ℕ) (p : PolicyRules) (q : ℕ) (K : Account → Type 0)
+    (own : (what : AccountChange) (a : Account) → FitsAccount L u p q what a.lines → K a → K (account_changed p what a)) where
+  change-keeps : (change : Change) (s : Registry) → FitsMoney L u p change s → K (account_of q s) → K (account_of q (changed p change s))
+  change-keeps (Post r what) s fits h = account-keep K s r (account_changed p what) q
+      (λ same h. own what (account_of q s) (subst (λ (n : ℕ). FitsAccount L u p n what (account_of n s).lines) same fits) h) h
+  change-keeps (OpenAccount r) s fits h = account-keep K s r itself q (λ same h. h) h
+  change-keeps (RenameHost old host) s fits h = cond_both (may_rename s.hosts old host.name) (host_renamed old host s) s (λ (t : Registry). K (account_of q t)) (λ may. h) (λ else. h)
+  change-keeps _ s fits h = h
 
-  own-follows : (what : AccountChange) (a : Account) → FitsAccount L u p q what a.lines → Follow a.lines → Follow (account_changed p what a).lines
+  pub changes-keep : (changes : List Change) (s : Registry) → AllFitMoney L u p changes s → K (account_of q s) → K (account_of q (changed_all p changes s))
+  changes-keep = all-kept p (FitsMoney L u p) (λ s. K (account_of q s)) change-keeps
+
+module _ (L : ℕ → ℕ → Line → Type 0) (u : ℕ) (p : PolicyRules) (q : ℕ) (begin : List Line) where
+  abbrev Follow : Account → Type 0
+  Follow a = Follows (L q) u begin a.lines
+
+  own-follows : (what : AccountChange) (a : Account) → FitsAccount L u p q what a.lines → Follow a → Follow (account_changed p what a)
   own-follows (Charge line) a fits h = follows-charge (L q) u line begin a.lines fits.0 fits.1 h
   own-follows (RefundRunning x) a fits h = follows-changed (L q) u (refunded_by p x) (λ l. running-given-back (L q) u p x.moment x.roid x.transferred l (fits l)) begin a.lines h
   own-follows (RefundTransfer x) a fits h = follows-changed (L q) u (transfer_refunded x) (λ l. transfer-given-back (L q) u x l (fits l)) begin a.lines h
@@ -48,15 +61,8 @@ module _ (L : ℕ → ℕ → Line → Type 0) (u : ℕ) (p : PolicyRules) (q : 
   own-follows (Lapse (Start x)) a fits h = follows-changed (L q) u (transfer_started x) (transfer-begun (L q) u x fits) begin a.lines h
   own-follows _ a fits h = h
 
-  change-follows : (change : Change) (s : Registry) → FitsMoney L u p change s → Follow (account_of q s).lines → Follow (account_of q (changed p change s)).lines
-  change-follows (Post r what) s fits h = lines-keep s r (account_changed p what) Follow q
-      (λ own h. own-follows what (account_of q s) (subst (λ (n : ℕ). FitsAccount L u p n what (account_of n s).lines) own fits) h) h
-  change-follows (OpenAccount r) s fits h = lines-keep s r itself Follow q (λ own h. h) h
-  change-follows (RenameHost old host) s fits h = cond_both (may_rename s.hosts old host.name) (host_renamed old host s) s (λ (t : Registry). Follow (account_of q t).lines) (λ may. h) (λ else. h)
-  change-follows _ s fits h = h
-
-  pub changes-follow : (changes : List Change) (s : Registry) → AllFitMoney L u p changes s → Follow (account_of q s).lines → Follow (account_of q (changed_all p changes s)).lines
-  changes-follow = all-kept p (FitsMoney L u p) (λ s. Follow (account_of q s).lines) change-follows
+  pub changes-follow : (changes : List Change) (s : Registry) → AllFitMoney L u p changes s → Follow (account_of q s) → Follow (account_of q (changed_all p changes s))
+  changes-follow = changes-keep L u p q Follow own-follows
 
 -- what is charged is nothing, or the balance covers it
 affordable : (charge : ℕ) (money : ℤ) → (nat_lt 0 charge && int_lt money (pos charge)) ≡ false → (pos 0 ≤ℤ (pos 0 -ℤ pos charge)) ⊎ (pos 0 ≤ℤ ((pos 0 -ℤ pos charge) +ℤ money))

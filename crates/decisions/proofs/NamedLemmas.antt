@@ -1,9 +1,11 @@
 -- What stands at a name after a map by names was changed.
-use Rattle.std.proofs.Common.{◌≡◌, ◌≢◌, ◌⊎◌, inl, inr, ⊎_elim, ℕ, Bool, true, false, cond, List, [], ◌∷◌, map, Option, Some, None, IsSome, is_some, option_map, refl, sym, ap, ◌∙◌, suc, length, filter, eqb-true, arith}
+use Rattle.std.proofs.Common.{◌≡◌, ◌≢◌, ◌⊎◌, inl, inr, ⊎_elim, ℕ, Bool, true, false, cond, List, map, Option, Some, None, IsSome, is_some, option_map, refl, sym, ap, ◌∙◌, length, filter, ◌≤◌, arith}
 use Rattle.std.proofs.Common.{subst₂}
-use Rattle.std.specs.FinMap.{find, get-entries, keys, values, get-remove}
-use Rattle.decisions.proofs.Words.{cond_both, entries, eq_by_cmp, eq_by_cmp_equiv, Equal-is, FinMap, get, get-insert, get-map_values, insert, is_empty}
-use Rattle.decisions.proofs.Words.{list_any, map_values, names_apart, nat_cmp, nat_list_cmp_total, or_parts, remove, same_Some, slice_cmp}
+use Rattle.std.specs.FinMap.{keys, values, get-remove}
+use Rattle.decisions.proofs.Words.{cond_both, entries, eq_by_cmp, eq_by_cmp_equiv, Equal-is, false_from_ne_true, FinMap, get, get-insert, get-map_values, insert, is_empty}
+use Rattle.{basis.proofs.{EntryLaws.among_values, MapLemmas.entries-map_values}, std.proofs.lemmas.Simd.map-map}
+use Rattle.decisions.proofs.{OrderedSetLemmas.some-kept, Words.nat_tests}
+use Rattle.decisions.proofs.Words.{list_any, map_values, names_apart, nat_cmp, nat_list_cmp_total, remove, same_Some, slice_cmp}
 
 -- where no value is, there is none
 pub none-is : {X : Type 0} (o : Option X) → is_some o ≡ false → o ≡ None
@@ -25,13 +27,20 @@ same_name n k e = names_apart n k ((Equal-is (slice_cmp nat_cmp n k)).0 e)
 itself : (k : List ℕ) → eq_by_cmp (slice_cmp nat_cmp) k k ≡ true
 itself k = (eq_by_cmp_equiv nat_list_cmp_total).refl k
 
+pub other_name : (n k : List ℕ) → eq_by_cmp (slice_cmp nat_cmp) n k ≡ false → n ≢ k
+other_name n k other same = let never : true ≡ false = sym (itself k) ∙ ap (λ (q : List ℕ). eq_by_cmp (slice_cmp nat_cmp) q k) (sym same) ∙ other in cc
+
 module _ {X : Type 0} (m : FinMap (slice_cmp nat_cmp) X) (k : List ℕ) where
   -- ---- a value is put at a name
 
+  -- it is there, or something else at another name
+  pub put-either : (v : X) (n : List ℕ) (x : X) → get (insert m k v) n ≡ Some x → ((n ≡ k) × (v ≡ x)) ⊎ ((n ≢ k) × (get m n ≡ Some x))
+  put-either v n x e = cond_both (eq_by_cmp (slice_cmp nat_cmp) n k) (Some v) (get m n)
+      (λ o. o ≡ Some x → ((n ≡ k) × (v ≡ x)) ⊎ ((n ≢ k) × (get m n ≡ Some x))) (λ same e. inl (same_name n k same, same_Some v x e))
+      (λ other e. inr (other_name n k other, e)) (sym (get-insert nat_list_cmp_total m k v n) ∙ e)
+
   pub put-cases : (v : X) (n : List ℕ) (x : X) → get (insert m k v) n ≡ Some x → ((n ≡ k) × (v ≡ x)) ⊎ (get m n ≡ Some x)
-  put-cases v n x e = cond_both (eq_by_cmp (slice_cmp nat_cmp) n k) (Some v) (get m n)
-      (λ o. o ≡ Some x → ((n ≡ k) × (v ≡ x)) ⊎ (get m n ≡ Some x)) (λ same e. inl (same_name n k same, same_Some v x e))
-      (λ same e. inr e) (sym (get-insert nat_list_cmp_total m k v n) ∙ e)
+  put-cases v n x e = ⊎_elim (λ put. inl put) (λ before. inr before.1) (put-either v n x e)
 
   pub put-is : (v : X) → get (insert m k v) k ≡ Some v
   put-is v = get-insert nat_list_cmp_total m k v k ∙ ap (λ (b : Bool). cond b (Some v) (get m k)) (itself k)
@@ -52,7 +61,7 @@ module _ {X : Type 0} (m : FinMap (slice_cmp nat_cmp) X) (k : List ℕ) where
   pub drop-cases : (n : List ℕ) (x : X) → get (remove m k) n ≡ Some x → (n ≢ k) × (get m n ≡ Some x)
   drop-cases n x e = cond_both (eq_by_cmp (slice_cmp nat_cmp) n k) None (get m n)
       (λ o. o ≡ Some x → (n ≢ k) × (get m n ≡ Some x)) (λ same e. absurd cc)
-      (λ same e. (λ is. let never : true ≡ false = sym (itself k) ∙ ap (λ (q : List ℕ). eq_by_cmp (slice_cmp nat_cmp) q k) (sym is) ∙ same in cc, e))
+      (λ other e. (other_name n k other, e))
       (sym (get-remove nat_list_cmp_total m k n) ∙ e)
 
   pub drop-keeps : (n : List ℕ) → n ≢ k → IsSome (get m n) → IsSome (get (remove m k) n)
@@ -88,34 +97,19 @@ module _ {X : Type 0} (f : X → X) (m : FinMap (slice_cmp nat_cmp) X) (n : List
 
 -- ---- a test of all values
 
-found-fails : {X : Type 0} (test : X → Bool) (n : List ℕ) (x : X) (es : List (List ℕ × X)) → find (slice_cmp nat_cmp) n es ≡ Some x → list_any test (map (λ (e : List ℕ × X). e.1) es) ≡ false → test x ≡ false
-found-fails test n x [] e none = absurd cc
-found-fails {X} test n x (p ∷ es) e none =
-    let parts = or_parts (test p.1) (list_any test (map (λ (e : List ℕ × X). e.1) es)) none in
-    cond_both (eq_by_cmp (slice_cmp nat_cmp) n p.0) (Some p.1) (find (slice_cmp nat_cmp) n es)
-    (λ o. o ≡ Some x → test x ≡ false)
-    (λ same e. ap test (sym (same_Some p.1 x e)) ∙ parts.0) (λ same found. found-fails test n x es found parts.1) e
-
 -- what none of a map's values passes, no value passes that stands at a name
 pub value-fails : {X : Type 0} (test : X → Bool) (m : FinMap (slice_cmp nat_cmp) X) (n : List ℕ) (x : X) → get m n ≡ Some x → list_any test (values m) ≡ false → test x ≡ false
-value-fails test m n x e none = found-fails test n x (entries m) (sym (get-entries m n) ∙ e) none
+value-fails test m n x e none = false_from_ne_true (test x) (λ passes. let never : true ≡ false = sym (among_values (slice_cmp nat_cmp) test m n x passes e) ∙ none in cc)
 
 -- ---- a test of all names
 
-none-passes : (test : List ℕ → Bool) (k : List ℕ) (ks : List (List ℕ)) → is_empty (filter test (k ∷ ks)) ≡ true → (test k ≡ false) × (is_empty (filter test ks) ≡ true)
-none-passes test k ks e = cond_both (test k) (k ∷ filter test ks) (filter test ks)
-    (λ names. is_empty names ≡ true → (test k ≡ false) × (is_empty (filter test ks) ≡ true))
-    (λ is e. absurd (let none : suc (length (filter test ks)) ≡ 0 = eqb-true (suc (length (filter test ks))) 0 e in omega (arith, none)))
-    (λ is e. (is, e)) e
-
-listed-fails : {X : Type 0} (test : List ℕ → Bool) (n : List ℕ) (es : List (List ℕ × X)) → IsSome (find (slice_cmp nat_cmp) n es) → is_empty (filter test (map (λ (e : List ℕ × X). e.0) es)) ≡ true → test n ≡ false
-listed-fails test n [] there none = absurd cc
-listed-fails {X} test n (p ∷ es) there none =
-    let parts = none-passes test p.0 (map (λ (e : List ℕ × X). e.0) es) none in
-    cond_both (eq_by_cmp (slice_cmp nat_cmp) n p.0) (Some p.1) (find (slice_cmp nat_cmp) n es)
-    (λ o. IsSome o → test n ≡ false) (λ same there. ap test (same_name n p.0 same) ∙ parts.0)
-    (λ same there. listed-fails test n es there parts.1) there
-
 -- what no name of a map passes, no name passes at which something stands
 pub name-fails : {X : Type 0} (test : List ℕ → Bool) (m : FinMap (slice_cmp nat_cmp) X) (n : List ℕ) → IsSome (get m n) → is_empty (filter test (keys m)) ≡ true → test n ≡ false
-name-fails test m n there none = listed-fails test n (entries m) (ap is_some (sym (get-entries m n)) ∙ there) none
+name-fails {X} test m n there none = false_from_ne_true (test n) (λ passes.
+    let found = there-is (get m n) there in
+    let named : List ℕ → X → List ℕ = λ name x. name in
+    let some = among_values (slice_cmp nat_cmp) test (map_values named m) n n passes (get-map_values (slice_cmp nat_cmp) nat_list_cmp_total names_apart named m n ∙ ap (option_map (named n)) found.1) in
+    let same : values (map_values named m) ≡ keys m = ap (map (λ (e : List ℕ × List ℕ). e.1)) (entries-map_values (slice_cmp nat_cmp) named nat_list_cmp_total names_apart m)
+    ∙ map-map (λ (e : List ℕ × List ℕ). e.1) (λ (e : List ℕ × X). (e.0, e.0)) (entries m) in
+    let more : 1 ≤ length (filter test (keys m)) = some-kept test (keys m) (ap (list_any test) (sym same) ∙ some) in
+    grind (arith, nat_tests, more, none))

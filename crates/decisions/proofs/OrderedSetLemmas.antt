@@ -3,10 +3,13 @@ use Rattle.std.proofs.Common.{◌≡◌, ℕ, Bool, true, false, cond, not, ◌|
 use Rattle.std.proofs.Common.{◌+◌, ◌≤◌, nat_lt, length, length-append, arith}
 use Rattle.std.specs.List.Sorted.{IsStrictlySortedBy}
 use Rattle.std.specs.declared.{cmp.Ordering.Ordering, cmp.Ordering.TheVariants.Less, cmp.Ordering.TheVariants.Equal, cmp.Ordering.TheVariants.Greater}
-use Rattle.decisions.proofs.Words.{adds_what_is_there, AllByRecursion, false_from_ne_true, IsOrderedSet, list_any-append, nat_list_cmp_total, ordering_reverse}
+use Rattle.decisions.proofs.Words.{adds_what_is_there, AllByRecursion, false_from_ne_true, IsOrderedSet, nat_list_cmp_total, ordering_reverse}
 use Rattle.decisions.proofs.Words.{and_right, bytes_decides, bytes_eq, cond_both, has_name, has_twice, is_among, length-map, names_apart, nat_tests, slice_cmp}
 use Rattle.decisions.proofs.Words.{add, amended, any-add, is_le, is_over, itself, kept, list_any, nat_cmp, or_from, or_parts, precedes, renamed}
-use Rattle.decisions.proofs.LinkLemmas.{has_name-filter}
+use Rattle.decisions.proofs.LinkLemmas.{has_name-filter, has_name-in_order}
+use Rattle.model.proofs.LineLemmas.{all-add, all-weaker, none-weaker}
+use Rattle.std.proofs.lemmas.List.{Kept.IsStrictlySortedBy-filter, Filters.length-filter_both}
+use Rattle.{basis.proofs.SweepLaws.fold_append, policy.proofs.TextLemmas.list_any_of_map}
 use Rattle.objects.specs.Links.{in_order}
 
 abbrev Text : Type 0
@@ -17,9 +20,6 @@ cmp = slice_cmp nat_cmp
 
 abbrev le : Text → Text → Bool
 le = precedes (slice_cmp nat_cmp)
-
-abbrev Below : Text → List Text → Type 0
-Below x ys = AllByRecursion (λ y. cmp x y ≡ Less) ys
 
 -- ---- one text before another
 
@@ -55,28 +55,16 @@ other-turned x y other = false_from_ne_true (bytes_eq x y) (λ e.
     let turned : bytes_eq y x ≡ true = (bytes_decides y x).1 (sym ((bytes_decides x y).0 e)) in
     cc)
 
--- ---- an item is put where it belongs
+-- ---- an item is put where it belongs, that isn't there
 
-below-add : (x y : Text) (ys : List Text) → cmp y x ≡ Less → Below y ys → Below y (add le x ys)
-unfolding add
-below-add x y [] less below = (less, tt)
-below-add x y (z ∷ zs) less below =
-    cond_both (le x z) (x ∷ z ∷ zs) (z ∷ add le x zs) (Below y) (λ e. (less, below))
-    (λ e. (below.0, below-add x y zs less below.1))
-
-below-trans : (x y : Text) (zs : List Text) → cmp x y ≡ Less → Below y zs → Below x zs
-below-trans x y [] less below = tt
-below-trans x y (z ∷ zs) less below = (nat_list_cmp_total.trans x y z less below.0, below-trans x y zs less below.1)
-
--- that isn't there
 pub set-add : (x : Text) (ys : List Text) → has_name ys x ≡ false → IsOrderedSet ys → IsOrderedSet (add le x ys)
 unfolding add IsStrictlySortedBy
 set-add x [] new h = (tt, tt)
 set-add x (y ∷ ys) new h =
     let parts = or_parts (bytes_eq y x) (has_name ys x) new in
     cond_both (le x y) (x ∷ y ∷ ys) (y ∷ add le x ys) IsOrderedSet
-    (λ e. let less : cmp x y ≡ Less = first-of x y e parts.0 in ((less, below-trans x y ys less h.0), h))
-    (λ e. (below-add x y ys (turned x y e) h.0, set-add x ys parts.1 h.1))
+    (λ e. let less : cmp x y ≡ Less = first-of x y e parts.0 in ((less, all-weaker (λ z. cmp y z ≡ Less) (λ z. cmp x z ≡ Less) (λ z later. nat_list_cmp_total.trans x y z less later) ys h.0), h))
+    (λ e. (all-add le (λ z. cmp y z ≡ Less) x ys (turned x y e) h.0, set-add x ys parts.1 h.1))
 
 -- ---- items that differ, in order
 
@@ -112,20 +100,16 @@ set-in_order items once = set-fold items [] once (none-new items) tt
 
 -- ---- lists of a command
 
-among-map : {A : Type 0} (text : A → Text) (items : List A) (name : Text) → is_among itself (map text items) name ≡ is_among text items name
-among-map text [] name = refl
-among-map text (x ∷ xs) name = ap (λ (b : Bool). bytes_eq (text x) name || b) (among-map text xs name)
-
 twice-map : {A : Type 0} (text : A → Text) (items : List A) → has_twice itself (map text items) ≡ has_twice text items
 twice-map text [] = refl
-twice-map text (x ∷ xs) = λ i. among-map text xs (text x) i || twice-map text xs i
+twice-map text (x ∷ xs) = λ i. list_any_of_map (λ other. bytes_eq other (text x)) text xs i || twice-map text xs i
 
 pub set-texts : {A : Type 0} (text : A → Text) (items : List A) → has_twice text items ≡ false → IsOrderedSet (in_order (map text items))
 set-texts text items once = set-in_order (map text items) (twice-map text items ∙ once)
 
 -- ---- a set names nothing twice
 
-among-below : (x : Text) (ys : List Text) → Below x ys → is_among itself ys x ≡ false
+among-below : (x : Text) (ys : List Text) → AllByRecursion (λ y. cmp x y ≡ Less) ys → is_among itself ys x ≡ false
 among-below x [] below = refl
 among-below x (y ∷ ys) below = or_from (bytes_eq y x) (is_among itself ys x) (later-other x y below.0) (among-below x ys below.1)
 
@@ -134,56 +118,22 @@ unfolding IsStrictlySortedBy
 twice-set [] h = refl
 twice-set (x ∷ xs) h = or_from (is_among itself xs x) (has_twice itself xs) (among-below x xs h.0) (twice-set xs h.1)
 
-below-filter : (test : Text → Bool) (x : Text) (ys : List Text) → Below x ys → Below x (filter test ys)
-below-filter test x [] below = tt
-below-filter test x (y ∷ ys) below =
-    let rest = below-filter test x ys below.1 in
-    cond_both (test y) (y ∷ filter test ys) (filter test ys) (Below x) (λ e. (below.0, rest)) (λ e. rest)
-
-pub set-filter : (test : Text → Bool) (xs : List Text) → IsOrderedSet xs → IsOrderedSet (filter test xs)
-unfolding IsStrictlySortedBy
-set-filter test [] h = tt
-set-filter test (x ∷ xs) h =
-    let rest = set-filter test xs h.1 in
-    cond_both (test x) (x ∷ filter test xs) (filter test xs) IsOrderedSet (λ e. (below-filter test x xs h.0, rest))
-    (λ e. rest)
-
 -- ---- amended lists
 
-twice-append : (xs ys : List Text) → has_twice itself xs ≡ false → has_twice itself ys ≡ false → AreNew xs ys → has_twice itself (xs ++ ys) ≡ false
-twice-append [] ys once twice new = twice
-twice-append (x ∷ xs) ys once twice new =
-    let others = or_parts (is_among itself xs x) (has_twice itself xs) once in
-    or_from (is_among itself (xs ++ ys) x) (has_twice itself (xs ++ ys))
-    (list_any-append (λ other. bytes_eq other x) xs ys ∙ or_from (is_among itself xs x) (is_among itself ys x) others.0 (apart ys new))
-    (twice-append xs ys others.1 twice (fewer ys new))
-  where
-    apart : (zs : List Text) → AreNew (x ∷ xs) zs → is_among itself zs x ≡ false
-    apart [] new = refl
-    apart (z ∷ zs) new =
-        let parts = or_parts (has_name (x ∷ xs) z) (list_any (has_name (x ∷ xs)) zs) new in
-        or_from (bytes_eq z x) (is_among itself zs x) (other-turned z x (or_parts (bytes_eq x z) (has_name xs z) parts.0).0) (apart zs parts.1)
-
-    fewer : (zs : List Text) → AreNew (x ∷ xs) zs → AreNew xs zs
-    fewer [] new = refl
-    fewer (z ∷ zs) new =
-        let parts = or_parts (has_name (x ∷ xs) z) (list_any (has_name (x ∷ xs)) zs) new in
-        or_from (has_name xs z) (list_any (has_name xs) zs) (or_parts (bytes_eq x z) (has_name xs z) parts.0).1 (fewer zs parts.1)
-
 -- what wasn't there isn't left
-new-kept : {A : Type 0} (text : A → Text) (test : Text → Bool) (old : List Text) (added : List A) → adds_what_is_there text old added ≡ false → AreNew (filter test old) (map text added)
-new-kept text test old [] new = refl
-new-kept text test old (x ∷ xs) new =
-    let parts = or_parts (has_name old (text x)) (adds_what_is_there text old xs) new in
-    or_from (has_name (filter test old) (text x)) (list_any (has_name (filter test old)) (map text xs))
-    (has_name-filter test old (text x) ∙ and_right (test (text x)) _ parts.0) (new-kept text test old xs parts.1)
+new-kept : {A : Type 0} (text : A → Text) (test : Text → Bool) (old : List Text) (added : List A) → adds_what_is_there text old added ≡ false → AreNew (in_order (filter test old)) (map text added)
+new-kept text test old added new =
+    let left : List Text = in_order (filter test old) in
+    list_any_of_map (has_name left) text added
+    ∙ none-weaker (λ x. has_name old (text x)) (λ x. has_name left (text x)) (λ x none. has_name-in_order (filter test old) (text x) ∙ has_name-filter test old (text x) ∙ and_right (test (text x)) _ none) added new
 
 -- a set stays one, where what is added differs and wasn't there
 pub set-amended : {A : Type 0} (text : A → Text) (old : List Text) (removed added : List A) → has_twice text added ≡ false → adds_what_is_there text old added ≡ false → IsOrderedSet old → IsOrderedSet (amended text old removed added)
 set-amended text old removed added once new h =
     let left : List Text = kept text old removed in
-    set-in_order (left ++ map text added)
-    (twice-append left (map text added) (twice-set left (set-filter (λ name. not (is_among text removed name)) old h)) (twice-map text added ∙ once) (new-kept text (λ name. not (is_among text removed name)) old added new))
+    let test : Text → Bool = λ name. not (is_among text removed name) in
+    subst IsOrderedSet (sym (fold_append (λ bag item. add le item bag) [] left (map text added)))
+    (set-fold (map text added) (in_order left) (twice-map text added ∙ once) (new-kept text test old added new) (set-in_order left (twice-set left (IsStrictlySortedBy-filter cmp test old h))))
 
 -- ---- a host under a new name
 
@@ -192,11 +142,11 @@ pub set-renamed : (old new : Text) (hosts : List Text) → has_name hosts new �
 set-renamed old new hosts absent h =
     let others : List Text = filter (λ host. not (bytes_eq host old)) hosts in
     cond_both (has_name hosts old) (add le new others) hosts IsOrderedSet
-    (λ e. set-add new others (has_name-filter (λ host. not (bytes_eq host old)) hosts new ∙ and_right (not (bytes_eq new old)) _ absent) (set-filter (λ host. not (bytes_eq host old)) hosts h)) (λ e. h)
+    (λ e. set-add new others (has_name-filter (λ host. not (bytes_eq host old)) hosts new ∙ and_right (not (bytes_eq new old)) _ absent) (IsStrictlySortedBy-filter cmp (λ host. not (bytes_eq host old)) hosts h)) (λ e. h)
 
 -- ---- how many items such lists have: in order
 
-length-add : (x : Text) (ys : List Text) → length (add le x ys) ≡ length ys + 1
+pub length-add : (x : Text) (ys : List Text) → length (add le x ys) ≡ length ys + 1
 unfolding add
 length-add x [] = refl
 length-add x (y ∷ ys) = cond_both (le x y) (x ∷ y ∷ ys) (y ∷ add le x ys) (λ zs. length zs ≡ length (y ∷ ys) + 1) (λ e. omega arith)
@@ -224,23 +174,13 @@ within-amended text most old removed added fits =
 
 -- ---- and with a host under a new name
 
-filter-le : (test : Text → Bool) (xs : List Text) → length (filter test xs) ≤ length xs
-filter-le test [] = omega arith
-filter-le test (x ∷ xs) = cond_both (test x) (x ∷ filter test xs) (filter test xs) (λ ys. length ys ≤ length (x ∷ xs))
-    (λ e. omega (arith, filter-le test xs)) (λ e. omega (arith, filter-le test xs))
-
--- without an item that is there, there is one fewer at least
-one-fewer : (old : Text) (xs : List Text) → has_name xs old ≡ true → length (filter (λ x. not (bytes_eq x old)) xs) + 1 ≤ length xs
-one-fewer old [] there = absurd (let never : false ≡ true = there in cc)
-one-fewer old (x ∷ xs) there = by (bytes_eq x old) (one-fewer old xs) there
-  where
-    by : (b : Bool) → (has_name xs old ≡ true → length (filter (λ x. not (bytes_eq x old)) xs) + 1 ≤ length xs) → (b || has_name xs old) ≡ true
-        → length (cond (not b) (x ∷ filter (λ x. not (bytes_eq x old)) xs) (filter (λ x. not (bytes_eq x old)) xs)) + 1 ≤ length (x ∷ xs)
-    by true others e = omega (arith, filter-le (λ x. not (bytes_eq x old)) xs)
-    by false others e = omega (arith, others e)
+pub some-kept : (test : Text → Bool) (xs : List Text) → list_any test xs ≡ true → 1 ≤ length (filter test xs)
+some-kept test [] e = absurd (let never : false ≡ true = e in cc)
+some-kept test (x ∷ xs) e = elim (test x) as (λ (b : Bool). (b || list_any test xs) ≡ true → 1 ≤ length (cond b (x ∷ filter test xs) (filter test xs)))
+    [ true ↦ λ e. omega arith | false ↦ λ e. some-kept test xs e ] e
 
 pub within-renamed : (old new : Text) (hosts : List Text) (most : ℕ) → length hosts ≤ most → length (renamed old new hosts) ≤ most
 within-renamed old new hosts most few =
     let others : List Text = filter (λ host. not (bytes_eq host old)) hosts in
     cond_both (has_name hosts old) (add le new others) hosts (λ names. length names ≤ most)
-    (λ e. omega (arith, few, length-add new others, one-fewer old hosts e)) (λ e. few)
+    (λ e. omega (arith, few, length-add new others, length-filter_both (λ host. bytes_eq host old) (λ host. not (bytes_eq host old)) (λ host. refl) hosts, some-kept (λ host. bytes_eq host old) hosts e)) (λ e. few)

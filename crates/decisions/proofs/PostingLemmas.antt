@@ -51,15 +51,19 @@ lapse-cases p t d Q deleted gone alive = by d.deletion refl
 
 -- ---- what time posts of contacts and domains
 
+-- what is so of each turn's postings
+pub renewals-each : (p : PolicyRules) (R : Posting → Type 0) (d : Domain) (n : ℕ) → ((k : ℕ) → k < n → AllPosted R (turn p d k)) → AllPosted R (renewals p d n)
+unfolding renewals
+renewals-each p R d zero each = tt
+renewals-each p R d (suc n) each = posted-both R (renewals p d n) (turn p d n) (renewals-each p R d n (λ k lt. each k (omega (arith, lt)))) (each n (omega arith))
+
 module _ (p : PolicyRules) (t : ℕ) (R : Posting → Type 0) where
   -- of each turn of a domain's years that has come
   abbrev pub AllTurned : Domain → Type 0
   AllTurned d = (k : ℕ) → plus_years d.created (d.years + k) ≤ t → AllPosted R (turn p d k)
 
   renewals-posted : (d : Domain) (n : ℕ) → AllTurned d → ((k : ℕ) → k < n → plus_years d.created (d.years + k) ≤ t) → AllPosted R (renewals p d n)
-  unfolding renewals
-  renewals-posted d zero turned by = tt
-  renewals-posted d (suc n) turned by = posted-both R (renewals p d n) (turn p d n) (renewals-posted d n turned (λ k lt. by k (omega (arith, lt)))) (turned n (by n (omega arith)))
+  renewals-posted d n turned by = renewals-each p R d n (λ k lt. turned k (by k lt))
 
   -- a domain as it is when a transfer of it is completed
   abbrev before : Transfer → Domain → Domain

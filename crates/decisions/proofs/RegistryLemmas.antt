@@ -1,17 +1,16 @@
 -- Each step of the rules, and time alone, keep a registry well formed, with its clock, its objects, its lines, its messages and its shapes.
-use Rattle.std.proofs.Common.{[], arith, List, max, refl, subst, sym, ℕ, ◌<◌, ◌∙◌, ◌∷◌, ◌≡◌, ◌≤◌}
+use Rattle.std.proofs.Common.{[], arith, List, max, subst, sym, ℕ, ◌<◌, ◌∷◌, ◌≡◌, ◌≤◌}
 use Rattle.decisions.proofs.Words.{Account, account_changed, account_of, AccountChange, accounts_at, Ack, All, All-from_recursion, All-insert_key, All-tail}
-use Rattle.decisions.proofs.Words.{all-weaker, bytes_eq, CanBeAsked, Change, changed, changed_all, Command, cond_both, decision, effect, entered, fold}
-use Rattle.decisions.proofs.Words.{HasCome, HasLines, HasMessages, host_renamed, IsRefundable, IsRegistrar, IsRegistry, IsSettled, IsSound, Lapse, lapse}
-use Rattle.decisions.proofs.Words.{lapse_contact, lapse_registry, lapsed, LapseEntry, lapses-on, last_clock, Line, may_rename, nat_tests, Notice}
-use Rattle.decisions.proofs.Words.{Notify, now, numbered, OpenAccount, Order, order_decision, order_effect, PolicyRules, Post, posted, Posting, postings}
-use Rattle.decisions.proofs.Words.{recursion_from_All, registries-meet-standards, Registry, RenameHost, Renewal, saturating_next, with_account}
-use Rattle.decisions.proofs.Lemmas.{account-keep, all-kept, FitsLines, kept-lapse, Meets, clock-stays}
+use Rattle.decisions.proofs.Words.{all-weaker, bytes_eq, CanBeAsked, Change, changed_all, Command, cond_both, decision, effect, entered, fold}
+use Rattle.decisions.proofs.Words.{HasCome, HasLines, HasMessages, IsRefundable, IsRegistrar, IsRegistry, IsSettled, IsSound, Lapse, lapse}
+use Rattle.decisions.proofs.Words.{lapse_contact, lapse_registry, lapsed, LapseEntry, lapses-on, last_clock, Line, nat_tests, Notice}
+use Rattle.decisions.proofs.Words.{Notify, now, numbered, Order, order_decision, order_effect, PolicyRules, posted, Posting, postings}
+use Rattle.decisions.proofs.Words.{recursion_from_All, registries-meet-standards, Registry, Renewal, saturating_next, with_account}
+use Rattle.decisions.proofs.Lemmas.{account-keep, clock-kept, FitsLines, kept-lapse, Meets}
 use Rattle.decisions.proofs.LineCommandLemmas.{lines-effect, lines-order, fits-order}
-use Rattle.decisions.proofs.MoneyCommandLemmas.{command-lawful, order-lawful, AllFitMoney, FitsAccount, FitsMoney}
+use Rattle.decisions.proofs.MoneyCommandLemmas.{command-lawful, order-lawful, AllFitMoney, changes-keep, FitsAccount}
 use Rattle.decisions.proofs.ShapeCommandLemmas.{shapes-effect, shapes-order, shapes-lapse}
 use Rattle.decisions.proofs.PostingLemmas.{AllPosted, contact-posted, domain-posted, due-is, postings-posted}
-use Rattle.decisions.specs.Changes.{itself}
 use Rattle.decisions.proofs.{LineTimeLemmas.lines-lapse, WellFormedLemmas.kept-effect, WellFormedLemmas.kept-order, TransferLemmas.meets-decided}
 use Rattle.accounts.specs.declared.message.Message.{Message}
 use Rattle.accounts.specs.{Messages.message_cmp, Messages.message_id, Queue.acked}
@@ -19,12 +18,11 @@ use Rattle.accounts.specs.{Messages.message_cmp, Messages.message_id, Queue.acke
 -- ---- commands and orders leave the clock where it stands
 
 pub clock-effect : (p : PolicyRules) → IsSound p → (r : ℕ) (c : Command) (s : Registry) → IsRegistry p s → (effect p r c s).clock ≡ s.clock
-clock-effect p sound r c s is = all-kept p (Meets p r) (λ t. t.clock ≡ s.clock) (λ change t meets same. clock-stays p change t (λ u e. subst (λ (c : Change). Meets p r c t) e meets) ∙ same)
-    (decision p r c s).changes s (meets-decided p sound r c s (registries-meet-standards p s is)) refl
+clock-effect p sound r c s is =
+    clock-kept p (Meets p r) (λ u t never. never) (decision p r c s).changes s (meets-decided p sound r c s (registries-meet-standards p s is))
 
 pub clock-order : (p : PolicyRules) (order : Order) (s : Registry) → HasLines p s → (order_effect p order s).clock ≡ s.clock
-clock-order p order s has = all-kept p (FitsLines p) (λ t. t.clock ≡ s.clock) (λ change t fits same. clock-stays p change t (λ u e. subst (λ (c : Change). FitsLines p c t) e fits) ∙ same)
-    (order_decision p order s).changes s (fits-order p order s has) refl
+clock-order p order s has = clock-kept p (FitsLines p) (λ u t never. never) (order_decision p order s).changes s (fits-order p order s has)
 
 -- ---- no message is of a moment that hasn't come: none is told ahead of the clock, by a command or by time
 
@@ -36,25 +34,18 @@ acked-told t id (m ∷ ms) h = cond_both (bytes_eq (message_id m) id) ms (m ∷ 
     (λ e. All-tail (HasCome t) m ms h) (λ e. h)
 
 module _ (L : ℕ → ℕ → Line → Type 0) (u : ℕ) (p : PolicyRules) (q : ℕ) where
-  abbrev Told : List Message → Type 0
-  Told queue = All (HasCome u) queue
+  abbrev Told : Account → Type 0
+  Told a = All (HasCome u) a.queue
 
-  own-told : (what : AccountChange) (a : Account) → FitsAccount L u p q what a.lines → Told a.queue → Told (account_changed p what a).queue
+  own-told : (what : AccountChange) (a : Account) → FitsAccount L u p q what a.lines → Told a → Told (account_changed p what a)
   own-told (Lapse (Renewal x)) a fits h = absurd fits
   own-told (Lapse (Notice m)) a fits h = All-insert_key message_cmp m (HasCome u) a.queue h fits
   own-told (Notify n) a fits h = All-insert_key message_cmp (numbered (saturating_next a.messages) n) (HasCome u) a.queue h fits
   own-told (Ack id) a fits h = acked-told u id a.queue h
   own-told _ a fits h = h
 
-  change-told : (change : Change) (s : Registry) → FitsMoney L u p change s → Told (account_of q s).queue → Told (account_of q (changed p change s)).queue
-  change-told (Post r what) s fits h = account-keep (λ (a : Account). Told a.queue) s r (account_changed p what) q
-      (λ own h. own-told what (account_of q s) (subst (λ (n : ℕ). FitsAccount L u p n what (account_of n s).lines) own fits) h) h
-  change-told (OpenAccount r) s fits h = account-keep (λ (a : Account). Told a.queue) s r itself q (λ own h. h) h
-  change-told (RenameHost old host) s fits h = cond_both (may_rename s.hosts old host.name) (host_renamed old host s) s (λ (t : Registry). Told (account_of q t).queue) (λ may. h) (λ else. h)
-  change-told _ s fits h = h
-
-  pub changes-told : (changes : List Change) (s : Registry) → AllFitMoney L u p changes s → Told (account_of q s).queue → Told (account_of q (changed_all p changes s)).queue
-  changes-told = all-kept p (FitsMoney L u p) (λ s. Told (account_of q s).queue) change-told
+  pub changes-told : (changes : List Change) (s : Registry) → AllFitMoney L u p changes s → Told (account_of q s) → Told (account_of q (changed_all p changes s))
+  changes-told = changes-keep L u p q Told own-told
 
 -- ---- what time posts
 
@@ -106,12 +97,12 @@ registry-lapsed p moment s early is =
 
 -- what is told is told at the clock, which no command and no order moves
 messages-effect : (p : PolicyRules) → IsSound p → (r : ℕ) (c : Command) (s : Registry) → IsRegistry p s → HasMessages (effect p r c s)
-messages-effect p sound r c s is = subst (λ (t : ℕ). (q : ℕ) → All (HasCome t) (account_of q (effect p r c s)).queue) (sym (clock-effect p sound r c s is))
-    (λ q. changes-told (λ k. IsRefundable p k s (effect p r c s)) s.clock p q (decision p r c s).changes s (tt, command-lawful p r c s) (is.messages q))
+messages-effect p sound r c s is q = subst (λ (t : ℕ). All (HasCome t) (account_of q (effect p r c s)).queue) (sym (clock-effect p sound r c s is))
+    (changes-told (λ k. IsRefundable p k s (effect p r c s)) s.clock p q (decision p r c s).changes s (tt, command-lawful p r c s) (is.messages q))
 
 messages-order : (p : PolicyRules) (order : Order) (s : Registry) → IsRegistry p s → HasMessages (order_effect p order s)
-messages-order p order s is = subst (λ (t : ℕ). (q : ℕ) → All (HasCome t) (account_of q (order_effect p order s)).queue) (sym (clock-order p order s is.lines))
-    (λ q. changes-told (λ k. IsRefundable p k s (order_effect p order s)) s.clock p q (order_decision p order s).changes s (order-lawful p order s) (is.messages q))
+messages-order p order s is q = subst (λ (t : ℕ). All (HasCome t) (account_of q (order_effect p order s)).queue) (sym (clock-order p order s is.lines))
+    (changes-told (λ k. IsRefundable p k s (order_effect p order s)) s.clock p q (order_decision p order s).changes s (order-lawful p order s) (is.messages q))
 
 -- A registrar's command, where nothing is due, but that a serial at its greatest would be given twice. It
 -- asks for ten years at most, as its type keeps it.

@@ -1,13 +1,12 @@
 -- What a command or an order leaves of a registry in which nothing is due has nothing due in it.
-use Rattle.std.proofs.Common.{◌≡◌, inl, inr, ℕ, ◌+◌, ◌<◌, ◌≤◌, max, false, List, Option, Some, None, option_map, refl, sym, subst, ◌∙◌, arith}
-use Rattle.decisions.proofs.Words.{Asked, Bad, Change, changed, changed_all, ClientApproved, Command, cond_both, Contact, host_renamed, is_pending_state, may_rename}
-use Rattle.decisions.proofs.Words.{domain_with_transfer, order_decision, redemption_end, renewed_domain, restored_domain, restoring_domain, with_host_renamed}
-use Rattle.decisions.proofs.Words.{changes_after, completes_at, day-count, DropContact, LapseContact, order_effect, updated_domain, with_account, with_command}
-use Rattle.decisions.proofs.Words.{DropDomain, handed_over, is_pending, IsDeletion, LapseDomain, last_clock, plus_years, PolicyRules, PutContact, RenameHost}
-use Rattle.decisions.proofs.Words.{cases_lt, decision, Deletion, earlier, IsSettled, MoveClock, nat_tests, purge_at, PutDomain, Registry, requested, turns-are}
-use Rattle.decisions.proofs.Words.{Domain, due_at, due_by, due_of, effect, end, ended, expiry, gained, get, IsSound, later, name_of, Order, Transfer, turns}
-use Rattle.decisions.proofs.Lemmas.{all-kept, AllFit, CommandCases, order-cases, request-cases, clock-stays}
-use Rattle.decisions.proofs.NamedLemmas.{drop-cases, remade-cases, at-put}
+use Rattle.std.proofs.Common.{◌≡◌, inl, inr, ℕ, ◌+◌, ◌<◌, ◌≤◌, max, false, List, Option, Some, None, option_map, refl, sym, subst, arith}
+use Rattle.decisions.proofs.Words.{Asked, Bad, Change, changed_all, ClientApproved, Command, Contact, is_pending_state}
+use Rattle.decisions.proofs.Words.{domain_with_transfer, order_decision, redemption_end, renewed_domain, restored_domain, restoring_domain}
+use Rattle.decisions.proofs.Words.{changes_after, completes_at, day-count, order_effect, updated_domain, with_account, with_command}
+use Rattle.decisions.proofs.Words.{handed_over, is_pending, IsDeletion, last_clock, plus_years, PolicyRules}
+use Rattle.decisions.proofs.Words.{cases_lt, decision, Deletion, earlier, IsSettled, nat_tests, purge_at, Registry, requested, turns-are}
+use Rattle.decisions.proofs.Words.{Domain, due_at, due_by, due_of, effect, end, ended, expiry, gained, get, Host, IsSound, later, name_of, Order, Transfer, turns}
+use Rattle.decisions.proofs.Lemmas.{all-put, AllFit, CommandCases, order-cases, Puts, request-cases, clock-kept}
 use Rattle.calendar.proofs.YearLaws.{plus_years-lt, plus_years-zero}
 use Rattle.policy.specs.declared.days.Period.TheVariants as periods
 
@@ -79,39 +78,18 @@ restored-ahead p s t d deleted lt = by d.deletion deleted lt
 
 -- ---- changes that put nothing that is due
 
-abbrev pub PutsNothingDue : PolicyRules → ℕ → Change → Type 0
-PutsNothingDue p t (MoveClock u) = ⊥
-PutsNothingDue p t (PutContact c) = due_by t c.transfer ≡ None
-PutsNothingDue p t (PutDomain d) = t < due_at p d
-PutsNothingDue p t (LapseContact name left) = ⊥
-PutsNothingDue p t (LapseDomain name left) = ⊥
-PutsNothingDue p t _ = Unit {0}
+abbrev pub PutsNothingDue : PolicyRules → ℕ → Change → Registry → Type 0
+PutsNothingDue p t = Puts p (λ (c : Contact). due_by t c.transfer ≡ None) (λ (h : Host). Unit {0}) (λ (d : Domain). t < due_at p d)
 
-settled-changed : (p : PolicyRules) (change : Change) (s : Registry) → PutsNothingDue p s.clock change → IsSettled p s → IsSettled p (changed p change s)
-settled-changed p (MoveClock u) s none is = absurd none
-settled-changed p (PutContact c) s none is = search (at-put (λ n (y : Contact). due_by s.clock y.transfer ≡ None) s.contacts c.name c none is.contacts)
-settled-changed p (DropContact gone) s none is = record { contacts = λ name x at. is.contacts name x (drop-cases s.contacts gone name x at).1; domains = is.domains }
-settled-changed p (PutDomain d) s none is = search (at-put (λ n (y : Domain). s.clock < due_at p y) s.domains d.name d none is.domains)
-settled-changed p (DropDomain gone) s none is = record { contacts = is.contacts; domains = λ name x at. is.domains name x (drop-cases s.domains gone name x at).1 }
-settled-changed p (RenameHost old h) s none is = cond_both (may_rename s.hosts old h.name) (host_renamed old h s) s (IsSettled p)
-    (λ may. record {
-      contacts = is.contacts;
-      domains = λ name x at.
-          let was = remade-cases (with_host_renamed old h.name) s.domains name x at in
-          subst (λ (y : Domain). s.clock < due_at p y) was.2 (due-no-earlier p s.clock was.0 (with_host_renamed old h.name was.0) refl refl refl (omega arith) (is.domains name was.0 was.1));
-    })
-    (λ else. is)
-settled-changed p (LapseContact name left) s none is = absurd none
-settled-changed p (LapseDomain name left) s none is = absurd none
-settled-changed p _ s none is = record { contacts = is.contacts; domains = is.domains }
-
--- by the clock of the registry that the changes are made to
+-- by this moment
 abbrev PutNothingDue : PolicyRules → ℕ → List Change → Registry → Type 0
-PutNothingDue p t changes s = AllFit p (λ change s. PutsNothingDue p t change) changes s
+PutNothingDue p t changes s = AllFit p (PutsNothingDue p t) changes s
 
 settled-changed_all : (p : PolicyRules) (changes : List Change) (s : Registry) → PutNothingDue p s.clock changes s → IsSettled p s → IsSettled p (changed_all p changes s)
-settled-changed_all p changes s fit is = (all-kept p (λ change t. PutsNothingDue p s.clock change) (λ t. (t.clock ≡ s.clock) × IsSettled p t)
-    (λ change t none kept. (clock-stays p change t (λ u e. subst (λ (c : Change). PutsNothingDue p s.clock c) e none) ∙ kept.0, settled-changed p change t (subst (λ (m : ℕ). PutsNothingDue p m change) (sym kept.0) none) kept.1)) changes s fit (refl, is)).1
+settled-changed_all p changes s fit is =
+    let after = all-put p (λ (c : Contact). due_by s.clock c.transfer ≡ None) (λ (h : Host). Unit {0}) (λ (d : Domain). s.clock < due_at p d) changes s fit (search (is.contacts, is.domains)) in
+    let same = clock-kept p (PutsNothingDue p s.clock) (λ u t never. never) changes s fit in
+    record { contacts = λ n c at. rw same (after.contacts n c at); domains = λ n d at. rw same (after.domains n d at) }
 
 -- ---- commands
 
@@ -153,7 +131,7 @@ commands-settled : (p : PolicyRules) → IsSound p → (r : ℕ) (cl_trid : Opti
     → CommandCases p r cl_trid s (λ q changes. PutNothingDue p s.clock changes (with_account r with_command s))
 commands-settled p sound r cl_trid s early formed is = record {
   contacts = search (is.contacts, asked-not-due p sound s early, over-not-due);
-  hosts = search;
+  hosts = search (arith, due-no-earlier p s.clock);
   none = λ q. tt;
   acknowledged = λ id. (tt, tt);
   domain_created = λ new kept fit linked paid. (new-ahead p sound s early new.years, (tt, (tt, tt)));

@@ -1,25 +1,25 @@
 -- Each command, each order and each change, and time alone, keep the shapes of objects, where what is put has one.
-use Rattle.std.proofs.Common.{◌≡◌, ℕ, ◌-◌, ◌<◌, ◌≤◌, max, nat_lt, true, false, List, length, Option, Some, None, IsSome, is_some, refl, sym, subst, ◌∙◌, arith}
+use Rattle.std.proofs.Common.{◌≡◌, ℕ, ◌-◌, ◌<◌, ◌≤◌, max, nat_lt, true, false, List, Option, Some, None, IsSome, is_some, refl, sym, subst, ◌∙◌, arith}
 use Rattle.std.proofs.Common.{inl, inr, zero, suc, ◌+◌, ◌/◌, min}
 use Rattle.std.specs.Option.{IfSome}
-use Rattle.decisions.proofs.Words.{adds_what_is_there, AreSetsWithin, Asked, Bad, CanBeAsked, cases_lt, Change, changed, changed_all, changes_after, Status}
+use Rattle.decisions.proofs.Words.{AreSetsWithin, Asked, Bad, CanBeAsked, cases_lt, Change, changed_all, changes_after, Status}
 use Rattle.decisions.proofs.Words.{ClientApproved, Command, cond_both, decision, deleted_domain, Domain, domain_with_transfer, domains_at, DomainUpdate}
-use Rattle.decisions.proofs.Words.{DropDomain, DropHost, effect, ended, expiry, Facts, false_from_ne_true, final_name, gained, get, handed_over, has_name}
-use Rattle.decisions.proofs.Words.{has_twice, HasObjects, Host, host_renamed, HostUpdate, is_over, IsAskable, IsRegistry, itself, keeps_host, lapse}
-use Rattle.decisions.proofs.Words.{lapse_registry, LapseDomain, last_clock, left-of, may_rename, more_years, moved, name_of, nat_tests, new_domain, NewDomain}
-use Rattle.decisions.proofs.Words.{NewHost, or_else, or_parts, Order, order_decision, order_effect, plus_years, PolicyRules, PutDomain, PutHost}
-use Rattle.decisions.proofs.Words.{raised, Registry, remove, RenameHost, renewed_domain, requested, RequestedName, restored_domain, restoring_domain, Transfer}
-use Rattle.decisions.proofs.Words.{turns, turns-are, updated_domain, with_account, with_command, with_host_renamed, years_later, ZoneRules}
+use Rattle.decisions.proofs.Words.{effect, ended, expiry, Facts, false_from_ne_true, final_name, gained, get, handed_over, has_name}
+use Rattle.decisions.proofs.Words.{has_twice, HasObjects, Host, HostUpdate, IsAskable, IsRegistry, itself, keeps_host, lapse}
+use Rattle.decisions.proofs.Words.{lapse_registry, last_clock, left-of, more_years, moved, name_of, nat_tests, new_domain, NewDomain}
+use Rattle.decisions.proofs.Words.{NewHost, or_else, or_parts, Order, order_decision, order_effect, plus_years, PolicyRules}
+use Rattle.decisions.proofs.Words.{raised, Registry, renewed_domain, requested, RequestedName, restored_domain, restoring_domain, Transfer}
+use Rattle.decisions.proofs.Words.{Contact, turns, turns-are, updated_domain, with_account, with_command, with_host_renamed, years_later, ZoneRules}
 use Rattle.decisions.proofs.CommandCases.{AreListsFit, CommandCases, IsHostUpdateOf, IsUpdateOf, host_with, request-cases}
-use Rattle.decisions.proofs.Lemmas.{all-kept, AllFit, domain-lapsed, due-is, known, order-cases, OrderCases, transferred_by}
+use Rattle.decisions.proofs.Lemmas.{all-put, AllFit, Puts, domain-lapsed, due-is, known, order-cases, OrderCases, transferred_by}
+use Rattle.decisions.proofs.LinkLemmas.{or-first, or-second}
 use Rattle.decisions.proofs.OrderedSetLemmas.{set-amended, set-in_order, set-texts, within-amended, within-items}
 use Rattle.model.specs.Shapes.{HasShapes, IsDomainName, IsHostName, IsSetWithin, IsShaped, IsShapedHost, end_of_expiries}
 use Rattle.names.specs.Canonical.{IsCanonical}
 use Rattle.objects.specs.Links.{in_order}
 use Rattle.protocol.specs.declared.command.Request.TheVariants as requests
-use Rattle.protocol.specs.declared.lists.TheConstants.{MOST_ADDRESSES, MOST_CONTACTS, MOST_HOSTS}
-use Rattle.decisions.proofs.{OrderedSetLemmas.within-texts, OrderedSetLemmas.set-renamed, OrderedSetLemmas.within-renamed, NamedLemmas.drop-cases}
-use Rattle.decisions.proofs.{NamedLemmas.remade-cases, NamedLemmas.at-put, SettledLemmas.years-ahead}
+use Rattle.protocol.specs.declared.lists.TheConstants.{MOST_ADDRESSES, MOST_HOSTS}
+use Rattle.decisions.proofs.{OrderedSetLemmas.within-texts, OrderedSetLemmas.set-renamed, OrderedSetLemmas.within-renamed, SettledLemmas.years-ahead}
 use Rattle.calendar.specs.Calendar.{Date, date_of, day_number, days_of_years}
 use Rattle.calendar.proofs.CalendarLemmas.{IsReal, IsReal-date_of}
 use Rattle.calendar.proofs.YearLaws.{IsReal-years_later, day_number-year, days_of_years-mono, plus_years-zero}
@@ -102,14 +102,6 @@ renewed-end t created years more early fits h =
 
 -- ---- one change
 
--- What is put has its shape, and no domain names a host that a name is given to.
-abbrev pub FitsShapes : PolicyRules → Change → Registry → Type 0
-FitsShapes p (PutDomain d) s = IsShaped p.zone d
-FitsShapes p (PutHost h) s = IsShapedHost p.zone h
-FitsShapes p (RenameHost old h) s = IsShapedHost p.zone h × ((name : List ℕ) (d : Domain) → get s.domains name ≡ Some d → has_name d.links.hosts h.name ≡ false)
-FitsShapes p (LapseDomain name left) s = ⊥
-FitsShapes p _ s = Unit {0}
-
 -- a domain of the same name and links, which expires in time
 pub same-shape : (zone : ZoneRules) (d e : Domain) → e.name ≡ d.name → e.links ≡ d.links → expiry e < end_of_expiries → IsShaped zone d → IsShaped zone e
 same-shape zone d e name links expires h = record { name = subst (IsDomainName zone) (sym name) h.name; links = subst AreSetsWithin (sym links) h.links; expires = expires }
@@ -118,28 +110,14 @@ shape-renamed : (zone : ZoneRules) (old new : List ℕ) (d : Domain) → has_nam
 shape-renamed zone old new d absent h =
     search (set-renamed old new d.links.hosts absent h.links.hosts.0, within-renamed old new d.links.hosts MOST_HOSTS h.links.hosts.1)
 
-pub shapes-changed : (p : PolicyRules) (change : Change) (s : Registry) → FitsShapes p change s → HasShapes p.zone s → HasShapes p.zone (changed p change s)
-shapes-changed p (PutDomain d) s fits is = search (at-put (λ n. IsShaped p.zone) s.domains d.name d fits is.domains)
-shapes-changed p (DropDomain dropped) s fits is = record { domains = λ name e at. is.domains name e (drop-cases s.domains dropped name e at).1; hosts = is.hosts }
-shapes-changed p (PutHost h) s fits is = search (at-put (λ n. IsShapedHost p.zone) s.hosts h.name h fits is.hosts)
-shapes-changed p (DropHost dropped) s fits is = record { domains = is.domains; hosts = λ name g at. is.hosts name g (drop-cases s.hosts dropped name g at).1 }
-shapes-changed p (RenameHost old h) s fits is = cond_both (may_rename s.hosts old h.name) (host_renamed old h s) s (HasShapes p.zone)
-    (λ may. record {
-      domains = λ name e at.
-          let was = remade-cases (with_host_renamed old h.name) s.domains name e at in
-          subst (IsShaped p.zone) was.2 (shape-renamed p.zone old h.name was.0 (fits.1 name was.0 was.1) (is.domains name was.0 was.1));
-      hosts = at-put (λ n. IsShapedHost p.zone) (remove s.hosts old) h.name h fits.0 (λ name g at. is.hosts name g (drop-cases s.hosts old name g at).1);
-    })
-    (λ else. is)
-shapes-changed p (LapseDomain name left) s fits is = absurd fits
-shapes-changed p _ s fits is = record { domains = is.domains; hosts = is.hosts }
-
--- each of the changes fits when its turn comes
+-- what is put has its shape
 abbrev pub AllFitShapes : PolicyRules → List Change → Registry → Type 0
-AllFitShapes p changes s = AllFit p (FitsShapes p) changes s
+AllFitShapes p changes s = AllFit p (Puts p (λ (c : Contact). Unit {0}) (IsShapedHost p.zone) (IsShaped p.zone)) changes s
 
 pub shapes-changed_all : (p : PolicyRules) (changes : List Change) (s : Registry) → AllFitShapes p changes s → HasShapes p.zone s → HasShapes p.zone (changed_all p changes s)
-shapes-changed_all p = all-kept p (FitsShapes p) (HasShapes p.zone) (shapes-changed p)
+shapes-changed_all p changes s fit is =
+    let after = all-put p (λ (c : Contact). Unit {0}) (IsShapedHost p.zone) (IsShaped p.zone) changes s fit (record { contacts = λ n c at. tt; hosts = is.hosts; domains = is.domains }) in
+    record { domains = after.domains; hosts = after.hosts }
 
 -- ---- time
 
@@ -170,13 +148,7 @@ shapes-lapse p t s early is = record {
 shape-new : (zone : ZoneRules) (r t : ℕ) (f : Facts) (new : NewDomain) → t ≤ last_clock → new.years ≤ 10 → IsDomainName zone (name_of new.name) → AreListsFit (requests.CreateDomain new) → IsShaped zone (new_domain r t f new)
 shape-new zone r t f new early few named fit =
     let expires : EndsInTime t (max 1 new.years) = ten-end t (max 1 new.years) early (omega (arith, few)) in
-    let hosts = or_parts (has_twice name_of new.hosts) _ fit.once in
-    let admin = or_parts (has_twice itself new.admin) _ hosts.1 in
-    let tech = or_parts (has_twice itself new.tech) _ admin.1 in
-    let short_hosts = or_parts (nat_lt MOST_HOSTS (length new.hosts)) _ fit.short in
-    let short_admin = or_parts (nat_lt MOST_CONTACTS (length new.admin)) _ short_hosts.1 in
-    let short_tech = or_parts (nat_lt MOST_CONTACTS (length new.tech)) _ short_admin.1 in
-    search (set-in_order, set-texts, within-items, within-texts)
+    search (or-first, or-second, set-in_order, set-texts, within-items, within-texts)
 
 addresses-new : (new : NewHost) → AreListsFit (requests.CreateHost new) → IsSetWithin MOST_ADDRESSES (in_order new.addresses)
 addresses-new new fit = (set-in_order new.addresses (or_parts (has_twice itself new.addresses) false fit.once).0, within-items MOST_ADDRESSES new.addresses fit.short)
@@ -186,15 +158,7 @@ addresses-new new fit = (set-in_order new.addresses (or_parts (has_twice itself 
 -- the lists of an update name nothing twice, add what isn't there, and leave no more than may be
 shape-updated : (zone : ZoneRules) (t : ℕ) (s : Registry) (u : DomainUpdate) (d : Domain) → IsUpdateOf s u d → IsShaped zone d → IsShaped zone (updated_domain t u d)
 shape-updated zone t s u d it h =
-    let hosts = or_parts (has_twice name_of u.add.hosts) _ it.once in
-    let admin = or_parts (has_twice itself u.add.admin) _ hosts.1 in
-    let tech = or_parts (has_twice itself u.add.tech) _ admin.1 in
-    let new_hosts = or_parts (adds_what_is_there name_of d.links.hosts u.add.hosts) _ it.new in
-    let new_admin = or_parts (adds_what_is_there itself d.links.admin u.add.admin) _ new_hosts.1 in
-    let new_tech = or_parts (adds_what_is_there itself d.links.tech u.add.tech) _ new_admin.1 in
-    let few_hosts = or_parts (is_over name_of MOST_HOSTS d.links.hosts u.rem.hosts u.add.hosts) _ it.few in
-    let few_contacts = or_parts (is_over itself MOST_CONTACTS d.links.admin u.rem.admin u.add.admin) _ few_hosts.1 in
-    search (set-amended, within-amended)
+    search (or-first, or-second, set-amended, within-amended)
 
 -- the name that a host has after an update
 named-after : (zone : ZoneRules) (u : HostUpdate) (given : Option RequestedName) → IfSome (or_else given (Some u.name)) IsCanonical → keeps_host zone (final_name u given) ≡ true → IsHostName zone (final_name u given)
@@ -205,9 +169,7 @@ shape-host : (p : PolicyRules) (r : ℕ) (s : Registry) (u : HostUpdate) (given 
     → IsShapedHost p.zone (host_with p r s.clock u given h)
 shape-host p r s u given h askable it is =
     let name = named-after p.zone u given (subst (λ (o : Option RequestedName). IfSome (or_else o (Some u.name)) IsCanonical) it.is askable.host) it.kept in
-    let addresses = or_parts (has_twice itself u.add.addresses) _ it.once in
-    let new_addresses = or_parts (adds_what_is_there itself h.addresses u.add.addresses) _ it.new in
-    search (it.few, set-amended, within-amended)
+    search (or-first, it.few, set-amended, within-amended)
 
 -- a name at which no host is, no domain names
 unnamed : (p : PolicyRules) (s : Registry) → HasObjects p s → (name : List ℕ) → is_some (get s.hosts name) ≡ false → (n : List ℕ) (d : Domain) → get s.domains n ≡ Some d → has_name d.links.hosts name ≡ false
@@ -230,7 +192,13 @@ commands-fit p r cl_trid s is has early = record {
     created = λ new kept fit based askable. (record { name = record { canonical = askable.host; kept = kept }; addresses = addresses-new new fit }, (tt, tt));
     dropped = λ name free askable. (tt, tt);
     updated = λ u h it askable. (shape-host p r s u None h askable it (has.hosts (name_of u.name) h it.at), tt);
-    renamed = λ u name h it free based askable. ((shape-host p r s u (Some name) h askable it (has.hosts (name_of u.name) h it.at), unnamed p s is (name_of name) free), tt);
+    renamed = λ u name h it free based askable. (
+      (
+        shape-host p r s u (Some name) h askable it (has.hosts (name_of u.name) h it.at),
+        λ n d at. shape-renamed p.zone (name_of u.name) (name_of name) d (unnamed p s is (name_of name) free n d at),
+      ),
+      tt,
+    );
   };
   none = λ q askable. tt;
   acknowledged = λ id askable. (tt, tt);

@@ -1,19 +1,21 @@
 -- What a command changes meets what is asked of changes: transfers leave graces that no one else sees, and a face that
 -- can be told by who hands a domain over.
-use Rattle.std.proofs.Common.{◌≡◌, ◌≢◌, inl, inr, ℕ, Bool, true, false, cond, not, ◌&&◌, ◌||◌, map, List, [], ◌∷◌, Option, Some, None, is_some, refl, sym, ap, ◌∙◌}
+use Rattle.std.proofs.Common.{◌≡◌, ◌≢◌, inl, inr, ℕ, Bool, true, false, cond, not, ◌&&◌, map, List, Option, Some, None, is_some, refl, sym, ap, ◌∙◌}
 use Rattle.std.proofs.{Common.{⊎_elim, option_map}, lemmas.Bool.not-true}
-use Rattle.decisions.proofs.Words.{Domain, domain_with_transfer, false_from_ne_true, is_pending_state, nat_list_cmp_total, restoring_domain, transfer_refunded}
-use Rattle.decisions.proofs.Words.{account_changed, ClientApproved, eq_by_cmp_equiv, is_for_transfer, Line, restored_domain, start-elsewhere, transfer_started}
-use Rattle.decisions.proofs.Words.{deleted_domain, get-map_values, handed_over, MeetsStandards, RefundTransfer, renewed_domain, TransferRefund, updated_domain}
-use Rattle.decisions.proofs.Words.{changes_after, CreateDomain, decision, domain_sight, is_same_roid, nat_cmp_total, TransferStart, with_account, with_command}
-use Rattle.decisions.proofs.Words.{account_of, and_parts, any-bag_of, cases_Bool, names_apart, new_domain, PolicyRules, same-roids, standing_of, start-stays}
-use Rattle.decisions.proofs.Words.{and_right, cond_both, eq_by_cmp, graces_of, in_order, LineKind, period_of, Post, PutDomain, requested, runs_from, slice_cmp}
+use Rattle.decisions.proofs.Words.{Domain, false_from_ne_true, is_pending_state, nat_list_cmp_total, transfer_refunded}
+use Rattle.decisions.proofs.Words.{account_changed, ClientApproved, eq_by_cmp_equiv, is_for_transfer, Line, start-elsewhere, transfer_started}
+use Rattle.decisions.proofs.Words.{get-map_values, handed_over, MeetsStandards, RefundTransfer, TransferRefund}
+use Rattle.decisions.proofs.Words.{changes_after, decision, domain_sight, is_same_roid, nat_cmp_total, TransferStart, with_account, with_command}
+use Rattle.decisions.proofs.Words.{account_of, and_parts, any-bag_of, cases_Bool, names_apart, PolicyRules, standing_of, start-stays}
+use Rattle.decisions.proofs.Words.{and_right, cond_both, eq_by_cmp, graces_of, in_order, LineKind, period_of, Post, PutDomain, runs_from, slice_cmp}
 use Rattle.decisions.proofs.Words.{Account, changed, Command, entered, gained, is_kind, IsSound, list_any, name_of, nat_cmp, Registry, Roid, Transfer, unasked}
 use Rattle.decisions.proofs.Words.{Asked, Bad, ended, get, gives, graces, is_on, Lapse, remade, Start, view, waits}
 use Rattle.decisions.proofs.HandedOver.{graces-handed-over, transfer_alone}
-use Rattle.decisions.proofs.Lemmas.{AllMeet, AsksFor, CommandCases, graces-seen, graces_kept, graces_put, known, own-account, request-cases}
-use Rattle.decisions.proofs.{Lemmas.{sponsor-seen, test-elsewhere, none-is}, ViewLemmas.{KeepsGraces, Meets, lines-kept, own, same_number}}
+use Rattle.decisions.proofs.{CommandCases.{IsDeletable, IsPayable, IsUpdateOf}, Words.{DomainUpdate, Request}}
+use Rattle.decisions.proofs.Lemmas.{AllMeet, AsksFor, CommandCases, face-seen, graces_kept, graces_put, lines-stay, one-or-apart, own-account, request-cases}
+use Rattle.decisions.proofs.{Lemmas.{test-elsewhere, none-is}, Words.{domain_roid, DomainFace}, ViewLemmas.{KeepsGraces, Meets, own, same_number}}
 use Rattle.accounts.specs.declared.line.LineKind.TheVariants as kinds
+use Rattle.policy.proofs.TextLemmas.{list_any_of_map}
 
 -- ---- the graces of a domain that is put can be told from what is seen
 
@@ -34,7 +36,7 @@ module _ (p : PolicyRules) (r : ℕ) (s : Registry) where
       → graces_kept sponsor (get (view p r s).domains name) ≡ cond (eq_by_cmp nat_cmp before.sponsor sponsor) (graces_of p s before) transfer_alone
   kept-at sponsor name before found =
       ap (graces_kept sponsor) (get-map_values (slice_cmp nat_cmp) nat_list_cmp_total names_apart (λ name. domain_sight p r s None) s.domains name ∙ ap (option_map (domain_sight p r s None)) found)
-      ∙ (λ i. cond (eq_by_cmp nat_cmp (sponsor-seen r None (standing_of p s before) before i) sponsor) (graces-seen r None (standing_of p s before) before i) transfer_alone)
+      ∙ ap (λ (face : DomainFace). cond (eq_by_cmp nat_cmp face.sponsor sponsor) face.standing.graces transfer_alone) (face-seen r None (standing_of p s before) before)
 
   pub put-by : (d : Domain) (b : Bool) → eq_by_cmp nat_cmp d.sponsor r ≡ b → (b ≡ false → graces_of p s d ≡ graces_kept d.sponsor (get (view p r s).domains d.name)) → graces_of p s d ≡ graces_put p r d (view p r s)
   put-by d true e h = put-own d e
@@ -47,10 +49,6 @@ module _ (p : PolicyRules) (r : ℕ) (s : Registry) where
       ∙ ap (λ (b : Bool). cond b (graces_of p s before) transfer_alone) (ap (λ (k : ℕ). eq_by_cmp nat_cmp before.sponsor k) sponsor ∙ eq-self before.sponsor)))
 
 -- ---- graces that a posting leaves
-
-any-map : {A : Type 0} (test : A → Bool) (f : A → A) → ((x : A) → test (f x) ≡ test x) → (xs : List A) → list_any test (map f xs) ≡ list_any test xs
-any-map test f same [] = refl
-any-map test f same (x ∷ xs) = λ i. same x i || any-map test f same xs i
 
 module _ (p : PolicyRules) (t : ℕ) (roid : Roid) (since : Option ℕ) where
   abbrev gives_now : LineKind → Line → Bool
@@ -75,7 +73,7 @@ module _ (p : PolicyRules) (t : ℕ) (roid : Roid) (since : Option ℕ) where
   asks-for kind l off = unasked (is_kind l.kind kind) (is_on roid l) (not (is_some l.refunded) && runs_from p t since l.started (period_of l.kind)) off
 
   any-same : (kind : LineKind) (f : Line → Line) → ((l : Line) → gives_now kind (f l) ≡ gives_now kind l) → (ls : List Line) → list_any (gives_now kind) (remade in_order f ls) ≡ list_any (gives_now kind) ls
-  any-same kind f same ls = any-bag_of in_order (gives_now kind) (map f ls) ∙ any-map (gives_now kind) f same ls
+  any-same kind f same ls = any-bag_of in_order (gives_now kind) (map f ls) ∙ list_any_of_map (gives_now kind) f ls ∙ (λ i. list_any (λ (l : Line). same l i) ls)
 
   -- lines made anew that give what they gave
   graces-same : (f : Line → Line) → ((kind : LineKind) (l : Line) → gives_now kind (f l) ≡ gives_now kind l) → (ls : List Line) → graces p t roid since (remade in_order f ls) ≡ graces p t roid since ls
@@ -124,14 +122,9 @@ module _ (p : PolicyRules) (sound : IsSound p) (r : ℕ) (s : Registry) (is : Me
 
     -- the requester's other domains have the graces that they had
     start-keeps : y.requester ≢ d.sponsor → KeepsGraces p y.requester (account_changed p (Lapse (Start start))) counted
-    start-keeps other n e found own = ⊎_elim
-        (λ same.
-        let one : n ≡ name = is.identities.domain_roids n name e d found at (sym (same-roids d.roid e.roid same)) in
-        let alike : Some e ≡ Some d = sym found ∙ ap (get s.domains) one ∙ at in
-        let it : e ≡ d = cc in
-        absurd (other (sym own ∙ ap (λ (z : Domain). z.sponsor) it)))
+    start-keeps other n e found own = ⊎_elim (λ it. absurd (other (sym own ∙ ap (λ (z : Domain). z.sponsor) (sym it))))
         (λ apart. graces-elsewhere p s.clock e.roid e.transferred start apart (account_of y.requester counted).lines)
-        (cases_Bool (is_same_roid d.roid e.roid))
+        (one-or-apart domain_roid s.domains name d at (λ n e found same. is.identities.domain_roids n name e d found at same) n e found)
 
     -- a requester that approves it sees its own account
     pub start-meets : Meets p r (Post y.requester (Lapse (Start start))) counted
@@ -148,7 +141,7 @@ module _ (p : PolicyRules) (sound : IsSound p) (r : ℕ) (s : Registry) (is : Me
     lines-begun : (account_of y.requester begun).lines ≡ remade in_order (transfer_started start) (account_of y.requester s).lines
     lines-begun =
         ap (λ (a : Account). a.lines) (own-account y.requester (entered (Start start)) counted)
-        ∙ ap (remade in_order (transfer_started start)) (lines-kept p r r with_command (λ a. refl) s y.requester)
+        ∙ ap (remade in_order (transfer_started start)) (lines-stay s r with_command (λ a. refl) y.requester)
 
     -- its requester sees it by its own lines, and any other with the grace of the transfer alone
     pub handed-meets : Meets p r (PutDomain handed) begun
@@ -169,25 +162,19 @@ module _ (p : PolicyRules) (sound : IsSound p) (r : ℕ) (s : Registry) (is : Me
   again name d after at called sponsor alike = put-again p r counted d after (ap (get s.domains) (called ∙ (is.domains name d at).is_at.named) ∙ at) sponsor alike
 
   commands-meet : (cl_trid : Option (List ℕ)) → CommandCases p r cl_trid s (λ q changes. AllMeet p r changes counted)
-  commands-meet cl_trid = record {
-    contacts = search (inl, inr);
-    hosts = search inl;
-    none = λ q. tt;
-    acknowledged = λ id. (inl refl, tt);
-    domain_created = λ new kept fit linked paid. (put-own p r counted (new_domain r s.clock (known p r cl_trid s (CreateDomain new)) new) (eq-self r), (inl refl, (inl refl, tt)));
-    domain_dropped = λ name d it. (tt, (inl refl, tt));
-    domain_deleted = λ name d years it. (again (name_of name) d (deleted_domain s.clock years d) it.at refl refl refl, (inl refl, tt));
-    domain_updated = λ u d it linked. (again (name_of u.name) d (updated_domain s.clock u d) it.at refl refl refl, tt);
-    renewed = λ name expires years d it fits. (again (name_of name) d (renewed_domain s.clock years d) it.at refl refl refl, (inl refl, tt));
-    restoring = λ name d at. (again (name_of name) d (restoring_domain s.clock d) at refl refl refl, tt);
-    restored = λ name del_time res_time d it. (again (name_of name) d (restored_domain s.clock d) it.at refl refl refl, (inl refl, tt));
-    domain_asked = λ q n d at askable paid. (again n d (domain_with_transfer (requested p r d.sponsor s.clock) d) at refl refl refl, (inl refl, (inr (λ name d at own. refl), tt)));
-    domain_approved = λ q n d at y last pending own.
-        (start-meets n d at y last pending own, (handed-meets n d at y last pending own, (inr (λ name d at own. refl), tt)));
-    domain_turned_down = λ q n d at y last pending state to notice over down side.
-        let back = refund-keeps p y.requester (record { roid = d.roid; moment = s.clock }) (changed p (PutDomain (domain_with_transfer (ended state s.clock y) d)) counted) in
-        (again n d (domain_with_transfer (ended state s.clock y) d) at refl refl refl, (inr back, (inr (λ name d at own. refl), tt)));
-  }
+  commands-meet cl_trid = search (
+    inl,
+    inr,
+    again,
+    put-own p r counted,
+    eq-self,
+    start-meets,
+    handed-meets,
+    refund-keeps p,
+    λ (name : List ℕ) (d e : Domain) (it : IsDeletable r s name d). again name d e it.at,
+    λ (u : DomainUpdate) (d e : Domain) (it : IsUpdateOf s u d). again (name_of u.name) d e it.at,
+    λ (q : Request) (name : List ℕ) (d e : Domain) (it : IsPayable p r cl_trid s q name d). again name d e it.at,
+  )
 
 -- what a command changes meets what is asked
 pub meets-decided : (p : PolicyRules) → IsSound p → (r : ℕ) (c : Command) (s : Registry) → MeetsStandards p s → AllMeet p r (decision p r c s).changes s

@@ -1,16 +1,17 @@
 -- The facts of a command lie in the view, and each change is seen by the view alone.
-use Rattle.std.proofs.Common.{◌≡◌, ◌⊎◌, ⊎_elim, ℕ, ◌≤◌, ◌+◌, ◌==◌, suc, Bool, true, false, cond, List, [], ◌∷◌, map, filter, length, Option, Some, None, refl, sym, ap, subst, ◌∙◌, arith}
+use Rattle.std.proofs.Common.{◌≡◌, ◌⊎◌, inr, ⊎_elim, ℕ, ◌≤◌, ◌+◌, ◌==◌, Bool, true, false, cond, List, [], ◌∷◌, map, filter, length, Option, Some, None, refl, sym, ap, subst, ◌∙◌, arith}
 use Rattle.decisions.proofs.Words.{Account, account_of, Change, changed, changed_all, Command, Contact, contact_as, Domain, domain_sight, Host, host_renamed, may_rename}
 use Rattle.decisions.proofs.Words.{account_changed, cond_both, ContactFace, domain_as, DomainFace, DropContact, DropDomain, DropHost, empty_account, entries}
 use Rattle.decisions.proofs.Words.{eq_by_cmp, eq_by_cmp_equiv, Equal-is, facts, facts_by, FinMap, FullDomain, get, get-insert, given_back, Graces, graces}
-use Rattle.decisions.proofs.Words.{graces_of, held, insert, is_below, is_party, is_some, keys, LapseContact, LapseDomain, Line, Links, links_seen, list_any}
+use Rattle.decisions.proofs.Words.{graces_of, held, insert, is_below, is_party, is_some, keys, LapseContact, LapseDomain, Line, Links, list_any}
 use Rattle.decisions.proofs.Words.{Lookups, lookups, map_values, MoveClock, names_contact, names_host, nat_cmp, nat_cmp-IsAntisymmetric, nat_cmp_total}
 use Rattle.decisions.proofs.Words.{nat_list_cmp_total, OpenAccount, option_map, phase, PolicyRules, Post, presented, presented_contact, PutContact, PutDomain}
 use Rattle.decisions.proofs.Words.{PutHost, refund_at, Registry, remove, RenameHost, same_map, Seen, slice_cmp, Standing, standing_of, subordinate}
-use Rattle.decisions.proofs.Words.{superordinate_of_domain, unwrap_or, values, view, with_account, with_host_renamed, with_serial, ◌||◌}
-use Rattle.decisions.proofs.SightLemmas.{domain_again, forget, forget-domain, forget-contact, graces_seen, holds_seen, holds-seen, links-seen, Regrace, regraced, regraced-seen, relinked_seen, seen-relinked, sponsor_seen, superordinate_seen, superordinate-seen}
+use Rattle.decisions.proofs.Words.{superordinate_of_domain, unwrap_or, values, view, with_account, with_host_renamed, with_serial}
+use Rattle.decisions.proofs.SightLemmas.{domain_again, face-seen, face_seen, forget, forget-domain, forget-contact, holds_seen, holds-seen, Regrace, regraced, regraced-seen, relinked_seen, seen-relinked, superordinate_of_face, superordinate-seen}
 use Rattle.basis.proofs.MapLemmas.{names_apart, entries-map_values, get-map_values, map_values-insert, map_values-remove, map_values-twice, map-twice}
 use Rattle.objects.specs.Graces.{no_graces}
+use Rattle.{model.proofs.LineLemmas.{count-cons, one_if}, policy.proofs.TextLemmas.list_any_of_map, std.proofs.lemmas.Simd.map-map}
 use Rattle.decisions.specs.Changes.{itself}
 use Rattle.decisions.proofs.{GrowthLemmas.AllFit, HandedOver.transfer_alone}
 use Rattle.model.specs.View.{View, Secrets, view_for, view_with, secrets_of}
@@ -28,11 +29,11 @@ finds_in p r v = record {
   contact = λ name. get v.contacts name;
   domain = λ name. get v.domains name;
   host = λ name. get v.hosts name;
-  superordinate = λ name. option_map superordinate_seen (get v.domains name);
+  superordinate = λ name. option_map (λ (seen : Seen FullDomain DomainFace). superordinate_of_face (face_seen seen)) (get v.domains name);
   has_contact = λ name. is_some (get v.contacts name);
   has_host = λ name. is_some (get v.hosts name);
-  contact_is_linked = λ name. list_any (λ seen. names_contact name (links_seen seen)) (values v.domains);
-  host_is_linked = λ name. list_any (λ seen. names_host name (links_seen seen)) (values v.domains);
+  contact_is_linked = λ name. list_any (λ seen. names_contact name (face_seen seen).links) (values v.domains);
+  host_is_linked = λ name. list_any (λ seen. names_host name (face_seen seen).links) (values v.domains);
   hosts_below = λ name. filter (is_below name) (keys v.hosts);
   domains_held = length (filter (holds_seen r) (values v.domains));
   given_back = λ d. given_back p (refund_at v.clock d) v.account.lines;
@@ -51,38 +52,30 @@ module _ (p : PolicyRules) (r : ℕ) (c : Command) (s : Registry) where
   domain-found : (name : List ℕ) → get (view_for p r c s).domains name ≡ option_map (sight name) (get s.domains name)
   domain-found name = get-map_values (slice_cmp nat_cmp) nat_list_cmp_total names_apart sight s.domains name
 
-  superordinate-found : (name : List ℕ) → option_map superordinate_seen (get (view_for p r c s).domains name) ≡ option_map superordinate_of_domain (get s.domains name)
-  superordinate-found name = ap (option_map superordinate_seen) (domain-found name) ∙ map-twice (sight name) superordinate_seen superordinate_of_domain (λ d. superordinate-seen r (presented c name) (standing_of p s d) d) (get s.domains name)
+  superordinate-found : (name : List ℕ) → option_map (λ (seen : Seen FullDomain DomainFace). superordinate_of_face (face_seen seen)) (get (view_for p r c s).domains name) ≡ option_map superordinate_of_domain (get s.domains name)
+  superordinate-found name = ap (option_map _) (domain-found name) ∙ map-twice (sight name) (λ (seen : Seen FullDomain DomainFace). superordinate_of_face (face_seen seen)) superordinate_of_domain (λ d. superordinate-seen r (presented c name) (standing_of p s d) d) (get s.domains name)
 
   -- the values that are seen
   values-found : values (view_for p r c s).domains ≡ map (λ (e : List ℕ × Domain). sight e.0 e.1) (entries s.domains)
   values-found =
       ap (λ (es : List (List ℕ × Seen FullDomain DomainFace)). map (λ (e : List ℕ × Seen FullDomain DomainFace). e.1) es) (entries-map_values (slice_cmp nat_cmp) sight nat_list_cmp_total names_apart s.domains)
-      ∙ pairs-map (entries s.domains)
-    where
-      pairs-map : (es : List (List ℕ × Domain)) → map (λ (e : List ℕ × Seen FullDomain DomainFace). e.1) (map (λ (e : List ℕ × Domain). (e.0, sight e.0 e.1)) es) ≡ map (λ (e : List ℕ × Domain). sight e.0 e.1) es
-      pairs-map [] = refl
-      pairs-map (e ∷ es) = ap (λ (rest : List (Seen FullDomain DomainFace)). sight e.0 e.1 ∷ rest) (pairs-map es)
+      ∙ map-map (λ (e : List ℕ × Seen FullDomain DomainFace). e.1) (λ (e : List ℕ × Domain). (e.0, sight e.0 e.1)) (entries s.domains)
 
   -- a test of what all see of a domain
-  any-found : (test : Links → Bool) → list_any (λ seen. test (links_seen seen)) (values (view_for p r c s).domains) ≡ list_any (λ d. test d.links) (values s.domains)
-  any-found test = ap (list_any (λ seen. test (links_seen seen))) values-found ∙ by (entries s.domains)
-    where
-      by : (es : List (List ℕ × Domain)) → list_any (λ seen. test (links_seen seen)) (map (λ (e : List ℕ × Domain). sight e.0 e.1) es) ≡ list_any (λ d. test d.links) (map (λ (e : List ℕ × Domain). e.1) es)
-      by [] = refl
-      by (e ∷ es) = λ i. test (links-seen r (presented c e.0) (standing_of p s e.1) e.1 i) || by es i
+  any-found : (test : Links → Bool) → list_any (λ seen. test (face_seen seen).links) (values (view_for p r c s).domains) ≡ list_any (λ d. test d.links) (values s.domains)
+  any-found test = ap (list_any (λ seen. test (face_seen seen).links)) values-found
+      ∙ list_any_of_map (λ seen. test (face_seen seen).links) (λ (e : List ℕ × Domain). sight e.0 e.1) (entries s.domains)
+      ∙ (λ i. list_any (λ (e : List ℕ × Domain). test (face-seen r (presented c e.0) (standing_of p s e.1) e.1 i).links) (entries s.domains))
+      ∙ sym (list_any_of_map (λ d. test d.links) (λ (e : List ℕ × Domain). e.1) (entries s.domains))
 
   held-found : length (filter (holds_seen r) (values (view_for p r c s).domains)) ≡ held r s
   held-found = ap (λ (seen : List (Seen FullDomain DomainFace)). length (filter (holds_seen r) seen)) values-found ∙ by (entries s.domains)
     where
-      one : (d : Domain) (seen : Seen FullDomain DomainFace) (ds : List Domain) (rest : List (Seen FullDomain DomainFace)) (b : Bool) → holds_seen r seen ≡ b → is_party r d.sponsor d.transfer ≡ b
-          → length (filter (holds_seen r) rest) ≡ length (filter (λ d. is_party r d.sponsor d.transfer) ds) → length (filter (holds_seen r) (seen ∷ rest)) ≡ length (filter (λ d. is_party r d.sponsor d.transfer) (d ∷ ds))
-      one d seen ds rest true e f more = rw (e, f) (ap suc more)
-      one d seen ds rest false e f more = rw (e, f) more
-
       by : (es : List (List ℕ × Domain)) → length (filter (holds_seen r) (map (λ (e : List ℕ × Domain). sight e.0 e.1) es)) ≡ length (filter (λ d. is_party r d.sponsor d.transfer) (map (λ (e : List ℕ × Domain). e.1) es))
       by [] = refl
-      by (e ∷ es) = one e.1 (sight e.0 e.1) _ _ (is_party r e.1.sponsor e.1.transfer) (holds-seen r (presented c e.0) (standing_of p s e.1) e.1) refl (by es)
+      by (e ∷ es) = count-cons (holds_seen r) (sight e.0 e.1) (map (λ (e : List ℕ × Domain). sight e.0 e.1) es)
+          ∙ (λ i. one_if (holds-seen r (presented c e.0) (standing_of p s e.1) e.1 i) (by es i))
+          ∙ sym (count-cons (λ (d : Domain). is_party r d.sponsor d.transfer) e.1 (map (λ (e : List ℕ × Domain). e.1) es))
 
   lookups-view : lookups p r c s ≡ finds_in p r (view_for p r c s)
   unfolding finds_in
@@ -130,7 +123,7 @@ own r other f a = cond (eq_by_cmp nat_cmp r other) (f a) a
 -- another's from now on, it was handed over, and its transfer's grace runs alone.
 abbrev pub graces_kept : ℕ → Option (Seen FullDomain DomainFace) → Graces
 graces_kept sponsor None = no_graces
-graces_kept sponsor (Some seen) = cond (eq_by_cmp nat_cmp (sponsor_seen seen) sponsor) (graces_seen seen) transfer_alone
+graces_kept sponsor (Some seen) = cond (eq_by_cmp nat_cmp (face_seen seen).sponsor sponsor) (face_seen seen).standing.graces transfer_alone
 
 -- the graces of a domain that is put: of the registrar's own, by its lines
 abbrev pub graces_put : PolicyRules → ℕ → Domain → View → Graces
@@ -152,7 +145,7 @@ abbrev seen_renamed : List ℕ → Host → View → View
 seen_renamed old h v = record v { hosts = insert (remove v.hosts old) h.name h; domains = map_values (λ name. relinked_seen old h.name) v.domains }
 
 seen_change : PolicyRules → ℕ → Change → View → View
-seen_change p r (OpenAccount other) v = record v { account = own r other itself v.account }
+seen_change p r (OpenAccount other) v = with_seen_account p r (own r other itself v.account) v
 seen_change p r (PutContact c) v = record v { contacts = insert v.contacts c.name (contact_as r None c) }
 seen_change p r (DropContact name) v = record v { contacts = remove v.contacts name }
 seen_change p r (PutDomain d) v = record v { domains = insert v.domains d.name (domain_as r None (standing_put p r d v) d) }
@@ -191,19 +184,6 @@ own-account r f s = account_of-with_account r r f s ∙ ap (λ (b : Bool). cond 
 pub serial-rises : (a : Account) → a.serial ≤ (with_serial a).serial
 serial-rises a = cond_both (a.serial == 0xFFFF_FFFF_FFFF_FFFF) a.serial (a.serial + 1) (λ n. a.serial ≤ n)
     (λ e. omega arith) (λ e. omega arith)
-
--- ---- an account whose lines stay
-
-module _ (p : PolicyRules) (r q : ℕ) (f : Account → Account) (keeps : (a : Account) → (f a).lines ≡ a.lines) (s : Registry) where
-  pub lines-kept : (k : ℕ) → (account_of k (with_account q f s)).lines ≡ (account_of k s).lines
-  lines-kept k = account-keep (λ (a : Account). a.lines ≡ (account_of k s).lines) s q f k (λ own same. keeps (account_of k s)) refl
-
-  sights-kept : map_values (λ (name : List ℕ). domain_sight p r (with_account q f s) None) s.domains ≡ map_values (λ (name : List ℕ). domain_sight p r s None) s.domains
-  sights-kept = λ i. map_values (λ (name : List ℕ) (d : Domain).
-      domain_as r None (record { graces = graces p s.clock d.roid d.transferred (lines-kept d.sponsor i); phase = phase p s.clock d }) d) s.domains
-
-  view-account : view p r (with_account q f s) ≡ record (view p r s) { account = own r q f (view p r s).account }
-  view-account = λ i. record (view p r s) { account = account_of-with_account r q f s i; domains = sights-kept i }
 
 -- ---- an account whose lines change: the registrar's own, or one whose lines stay
 
@@ -289,7 +269,7 @@ Meets p r _ s = Unit {0}
 view-changed : (p : PolicyRules) (r : ℕ) (change : Change) (s : Registry) → Meets p r change s → view p r (changed p change s) ≡ seen_change p r change (view p r s)
 unfolding seen_change
 view-changed p r (MoveClock t) s meets = absurd meets
-view-changed p r (OpenAccount other) s meets = view-account p r other itself (λ a. refl) s
+view-changed p r (OpenAccount other) s meets = view-given p r other itself s (inr (λ name d at sponsored. refl))
 view-changed p r (PutContact c) s meets = ap (λ m. record (view p r s) { contacts = m }) (map_values-insert (slice_cmp nat_cmp) nat_list_cmp_total names_apart (λ name. contact_as r None) s.contacts c.name c)
 view-changed p r (DropContact name) s meets = ap (λ m. record (view p r s) { contacts = m }) (map_values-remove (slice_cmp nat_cmp) nat_list_cmp_total names_apart (λ name. contact_as r None) s.contacts name)
 view-changed p r (DropDomain name) s meets = ap (λ (m : FinMap (slice_cmp nat_cmp) (Seen FullDomain DomainFace)). record (view p r s) { domains = m }) (map_values-remove (slice_cmp nat_cmp) nat_list_cmp_total names_apart (λ name. domain_sight p r s None) s.domains name)

@@ -22,7 +22,7 @@ use Rattle.objects.specs.declared.roid.ObjectKind.{ObjectKind}
 use Rattle.objects.specs.declared.roid.ObjectKind.TheVariants as kinds
 use Rattle.objects.specs.declared.roid.Roid.{Roid}
 use Rattle.objects.specs.declared.sight.Seen.{Seen}
-use Rattle.objects.specs.declared.sight.Seen.TheVariants.{Full, TransferParty, Public}
+use Rattle.objects.specs.declared.sight.Seen.TheVariants.{Full}
 use Rattle.objects.specs.Links.{in_order}
 use Rattle.objects.specs.Statuses.{amended_statuses}
 use Rattle.policy.specs.Rules.{PolicyRules}
@@ -48,6 +48,7 @@ use Rattle.protocol.specs.Requests.{asks_of, final_name}
 use Rattle.facts.specs.Facts.{is_inside, or_else}
 use Rattle.facts.specs.Facts.{contact_seen, domain_at, domain_seen, host_seen}
 use Rattle.facts.specs.Lists.{amended, itself}
+use Rattle.decisions.specs.Changes.{in_full}
 use Rattle.decisions.specs.Transfers.{contact_transfer_changes, domain_transfer_changes}
 use Rattle.rules.specs.Charges.{charge_of, years_charged}
 use Rattle.rules.specs.Deletion.{goes_at_once}
@@ -205,37 +206,24 @@ updated_host zone r t u h = record h {
 -- ---- changes
 
 abbrev pub contact_changes : ℕ → ContactUpdate → Option (Seen Contact ContactFace) → List Change
-contact_changes t u None = []
-contact_changes t u (Some (Full c)) = PutContact (updated_contact t u c) ∷ []
-contact_changes t u (Some (TransferParty face transfer)) = []
-contact_changes t u (Some (Public face)) = []
+contact_changes t u seen = in_full (λ (c : Contact). PutContact (updated_contact t u c) ∷ []) seen
 
 abbrev pub domain_changes : ℕ → DomainUpdate → Option (Seen FullDomain DomainFace) → List Change
-domain_changes t u None = []
-domain_changes t u (Some (Full known)) = PutDomain (updated_domain t u known.domain) ∷ []
-domain_changes t u (Some (TransferParty face transfer)) = []
-domain_changes t u (Some (Public face)) = []
+domain_changes t u seen = in_full (λ (known : FullDomain). PutDomain (updated_domain t u known.domain) ∷ []) seen
 
 abbrev pub renewal_changes : PolicyRules → ℕ → ℕ → Request → Facts
     → Option (Seen FullDomain DomainFace) → List Change
-renewal_changes p r t q f None = []
-renewal_changes p r t q f (Some (Full known)) = PutDomain (renewed_domain t (asks_of q).years known.domain) ∷ charge lines.Renew p r t known.domain.roid q f ∷ []
-renewal_changes p r t q f (Some (TransferParty face transfer)) = []
-renewal_changes p r t q f (Some (Public face)) = []
+renewal_changes p r t q f seen = in_full (λ (known : FullDomain).
+    PutDomain (renewed_domain t (asks_of q).years known.domain) ∷ charge lines.Renew p r t known.domain.roid q f ∷ []) seen
 
 abbrev pub restore_changes : ℕ → Option (Seen FullDomain DomainFace) → List Change
-restore_changes t None = []
-restore_changes t (Some (Full known)) = PutDomain (restoring_domain t known.domain) ∷ []
-restore_changes t (Some (TransferParty face transfer)) = []
-restore_changes t (Some (Public face)) = []
+restore_changes t seen = in_full (λ (known : FullDomain). PutDomain (restoring_domain t known.domain) ∷ []) seen
 
 -- the years that the domain needs are charged for
 abbrev pub report_changes : PolicyRules → ℕ → ℕ → Request → Facts
     → Option (Seen FullDomain DomainFace) → List Change
-report_changes p r t q f None = []
-report_changes p r t q f (Some (Full known)) = PutDomain (restored_domain t known.domain) ∷ charge lines.Restore p r t known.domain.roid q f ∷ []
-report_changes p r t q f (Some (TransferParty face transfer)) = []
-report_changes p r t q f (Some (Public face)) = []
+report_changes p r t q f seen = in_full (λ (known : FullDomain).
+    PutDomain (restored_domain t known.domain) ∷ charge lines.Restore p r t known.domain.roid q f ∷ []) seen
 
 -- a domain that can be restored first stays
 abbrev pub ending : Bool → ℕ → DomainFacts → Domain → Change
@@ -244,10 +232,8 @@ ending at_once t known d = if at_once then DropDomain known.name else PutDomain 
 -- its sponsor gets back what it was charged in a grace that runs
 abbrev pub deletion_changes : ℕ → ℕ → DomainFacts → Option (Seen FullDomain DomainFace)
     → List Change
-deletion_changes r t known None = []
-deletion_changes r t known (Some (Full full)) = ending (goes_at_once (Some (Full full))) t known full.domain ∷ Post r (RefundRunning (refund_at t full.domain)) ∷ []
-deletion_changes r t known (Some (TransferParty face transfer)) = []
-deletion_changes r t known (Some (Public face)) = []
+deletion_changes r t known seen = in_full (λ (full : FullDomain).
+    ending (goes_at_once (Some (Full full))) t known full.domain ∷ Post r (RefundRunning (refund_at t full.domain)) ∷ []) seen
 
 abbrev pub deletion_at : ℕ → ℕ → Option DomainFacts → List Change
 deletion_at r t None = []

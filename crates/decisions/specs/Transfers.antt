@@ -17,7 +17,6 @@ use Rattle.objects.specs.declared.domain.DomainFace.{DomainFace}
 use Rattle.objects.specs.declared.domain.FullDomain.{FullDomain}
 use Rattle.objects.specs.declared.roid.Roid.{Roid}
 use Rattle.objects.specs.declared.sight.Seen.{Seen}
-use Rattle.objects.specs.declared.sight.Seen.TheVariants.{Full, TransferParty, Public}
 use Rattle.objects.specs.declared.transfer.Transfer.{Transfer}
 use Rattle.policy.specs.Rules.{PolicyRules}
 use Rattle.protocol.specs.declared.command.Request.{Request}
@@ -25,7 +24,7 @@ use Rattle.protocol.specs.declared.transfer.TransferOp.{TransferOp}
 use Rattle.protocol.specs.declared.transfer.TransferOp.TheVariants as ops
 use Rattle.decisions.specs.declared.change.Change.{Change}
 use Rattle.decisions.specs.declared.change.Change.TheVariants.{PutContact, PutDomain, Post}
-use Rattle.decisions.specs.Changes.{posting_change}
+use Rattle.decisions.specs.Changes.{in_full, posting_change}
 use Rattle.rules.specs.Charges.{charge_of, years_charged}
 use Rattle.rules.specs.Transfers.{transfer_after}
 
@@ -82,11 +81,8 @@ contact_transferred_if t op (Some x) c = contact_transferred t op x c
 
 abbrev pub contact_transfer_changes : PolicyRules → ℕ → ℕ → TransferOp
     → Option (Seen Contact ContactFace) → List Change
-contact_transfer_changes p r t op None = []
-contact_transfer_changes p r t op (Some (Full c)) =
-    contact_transferred_if t op (transfer_after p r t op c.sponsor c.transfer) c
-contact_transfer_changes p r t op (Some (TransferParty face transfer)) = []
-contact_transfer_changes p r t op (Some (Public face)) = []
+contact_transfer_changes p r t op seen =
+    in_full (λ (c : Contact). contact_transferred_if t op (transfer_after p r t op c.sponsor c.transfer) c) seen
 
 -- ---- domains
 
@@ -125,7 +121,5 @@ domain_transferred_if p r t op q f (Some x) d = domain_transferred p r t op q f 
 
 abbrev pub domain_transfer_changes : PolicyRules → ℕ → ℕ → TransferOp → Request → Facts
     → Option (Seen FullDomain DomainFace) → List Change
-domain_transfer_changes p r t op q f None = []
-domain_transfer_changes p r t op q f (Some (Full known)) = domain_transferred_if p r t op q f (transfer_after p r t op known.domain.sponsor known.domain.transfer) known.domain
-domain_transfer_changes p r t op q f (Some (TransferParty face transfer)) = []
-domain_transfer_changes p r t op q f (Some (Public face)) = []
+domain_transfer_changes p r t op q f seen = in_full (λ (known : FullDomain).
+    domain_transferred_if p r t op q f (transfer_after p r t op known.domain.sponsor known.domain.transfer) known.domain) seen

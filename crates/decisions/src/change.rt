@@ -45,3 +45,21 @@ pub(crate) fn only(alloc: Global, change: Change) -> Result<Vec<Change>, AllocEr
 {
     Ok(vec![in alloc; change]?)
 }
+
+/// One change, and then another.
+pub(crate) fn two(alloc: Global, first: Change, second: Change) -> Result<Vec<Change>, AllocError>
+    ensures { IfOk result (λ changes. changes.items ≡ first ∷ second ∷ []) }
+{
+    Ok(vec![in alloc; first, second]?)
+}
+
+pub(crate) fn three(
+    alloc: Global,
+    first: Change,
+    second: Change,
+    third: Change,
+) -> Result<Vec<Change>, AllocError>
+    ensures { IfOk result (λ changes. changes.items ≡ first ∷ second ∷ third ∷ []) }
+{
+    Ok(vec![in alloc; first, second, third]?)
+}

@@ -3,14 +3,9 @@ ghost use Rattle.std.specs.{Prelude.{◌≡◌, ◌∷◌, [], IfOk, IsOk, OnOk}
 ghost use Rattle.decisions.specs.Decisions as spec;
 ghost use Rattle.rules.specs.Deletion.{goes_at_once};
 
-use crate::change::{Change, only};
-use crate::charge::charge;
-use crate::created::{new_contact, new_domain, new_host, new_roid};
-use crate::transfers::{transfer_contact, transfer_domain};
-use crate::updated::{
-    deleted_domain, renewed_domain, restored_domain, restoring_domain, updated_contact,
-    updated_domain, updated_host,
-};
+use crate::case::Case;
+use crate::change::{Change, only, two};
+use crate::updated::{deleted_domain, renewed_domain, restored_domain, restoring_domain};
 use accounts::LineKind;
 use basis::list::Seq;
 use basis::registrar::RegistrarNo;
@@ -18,7 +13,7 @@ use basis::text::Text;
 use calendar::Moment;
 use facts::{DomainFacts, Facts};
 use lifecycle::{AccountChange, RunningRefund};
-use names::{RequestedName, Zone};
+use names::RequestedName;
 use objects::{Contact, ContactFace, Domain, DomainFace, FullDomain, Host, ObjectKind, Seen};
 use policy::Policy;
 use protocol::{
@@ -48,8 +43,8 @@ pub fn decide(
 {
     let verdict = judge(alloc, facts, caller, command, moment, policy)?;
     let code = verdict.code;
-    let changes = all_changes(alloc, facts, caller, command, moment, code, policy);
-    finish(verdict, changes)
+    let rest = changes_after(alloc, facts, caller, command, moment, code, policy);
+    finish(verdict, with_count(alloc, caller, rest))
 }
 
 fn finish(
@@ -73,31 +68,17 @@ fn finish(
     }
 }
 
-fn all_changes(
-    alloc: Global,
-    facts: &Facts,
-    caller: RegistrarNo,
-    command: &Command,
-    moment: Moment,
-    answered: Code,
-    policy: &Policy,
-) -> Result<Vec<Change>, AllocError>
-    ensures { IfOk result (λ changes. changes.items ≡ Change.Post caller AccountChange.CountCommand
-        ∷ spec.changes_after policy.now caller moment command.now facts.now answered) }
-{
-    let rest = changes_after(alloc, facts, caller, command, moment, answered, policy)?;
-    with_count(alloc, caller, rest)
-}
-
 /// The changes, after the one that counts the caller's command.
 fn with_count(
     alloc: Global,
     caller: RegistrarNo,
-    mut rest: Vec<Change>,
+    rest: Result<Vec<Change>, AllocError>,
 ) -> Result<Vec<Change>, AllocError>
-    ensures { IfOk result (λ changes. changes.items ≡ Change.Post caller AccountChange.CountCommand
-        ∷ rest.items) }
+    ensures changes { IfOk result (λ changes. IfOk rest (λ rest. changes.items
+        ≡ Change.Post caller AccountChange.CountCommand ∷ rest.items)) }
+    ensures made { OnOk result (IsOk rest) }
 {
+    let mut rest = rest?;
     let mut changes = vec![in alloc; Change::Post(caller, AccountChange::CountCommand)]?;
     changes.append(&mut rest)?;
     Ok(changes)
@@ -138,75 +119,39 @@ fn accept(
     ensures { IfOk result (λ changes. changes.items ≡ spec.changes_of policy.now caller moment
         request.now facts.now) }
 {
+    let case = Case {
+        alloc,
+        facts,
+        caller,
+        moment,
+        request,
+        policy,
+    };
     match request {
-        Request::CreateContact(new) => create_contact(alloc, facts, caller, new, moment),
-        Request::CreateDomain(new) => {
-            create_domain(alloc, facts, caller, request, new, moment, policy)
-        }
-        Request::CreateHost(new) => {
-            create_host(alloc, facts, caller, new, moment, policy.zone())
-        }
+        Request::CreateContact(new) => case.create_contact(new),
+        Request::CreateDomain(new) => case.create_domain(new),
+        Request::CreateHost(new) => case.create_host(new),
         Request::DeleteContact { name } => only(alloc, Change::DropContact(name.clone()?)),
-        Request::DeleteDomain { name } => {
-            delete_domain(alloc, caller, facts.domain(name.text()), moment)
-        }
+        Request::DeleteDomain { name } => case.delete_domain(facts.domain(name.text())),
         Request::DeleteHost { name } => only(alloc, Change::DropHost(name.text().clone()?)),
         Request::UpdateContact(update) => {
-            update_contact(alloc, update, facts.contact_seen(&update.name), moment)
+            case.update_contact(update, facts.contact_seen(&update.name))
         }
-        Request::UpdateDomain(update) => update_domain(
-            alloc,
-            update,
-            facts.domain_seen(update.name.text()),
-            moment,
-        ),
-        Request::UpdateHost(update) => update_host(
-            alloc,
-            caller,
-            update,
-            facts.host_seen(update.name.text()),
-            moment,
-            policy.zone(),
-        ),
-        Request::RenewDomain { name, .. } => renew_domain(
-            alloc,
-            facts,
-            caller,
-            request,
-            facts.domain_seen(name.text()),
-            moment,
-            policy,
-        ),
-        Request::RequestRestore { name } => {
-            request_restore(alloc, facts.domain_seen(name.text()), moment)
+        Request::UpdateDomain(update) => {
+            case.update_domain(update, facts.domain_seen(update.name.text()))
         }
-        Request::ReportRestore { name, .. } => report_restore(
-            alloc,
-            facts,
-            caller,
-            request,
-            facts.domain_seen(name.text()),
-            moment,
-            policy,
-        ),
-        Request::TransferContact { name, op, .. } => transfer_contact(
-            alloc,
-            caller,
-            *op,
-            facts.contact_seen(name),
-            moment,
-            policy,
-        ),
-        Request::TransferDomain { name, op, .. } => transfer_domain(
-            alloc,
-            facts,
-            caller,
-            *op,
-            request,
-            facts.domain_seen(name.text()),
-            moment,
-            policy,
-        ),
+        Request::UpdateHost(update) => {
+            case.update_host(update, facts.host_seen(update.name.text()))
+        }
+        Request::RenewDomain { name, .. } => case.renew_domain(facts.domain_seen(name.text())),
+        Request::RequestRestore { name } => case.request_restore(facts.domain_seen(name.text())),
+        Request::ReportRestore { name, .. } => case.report_restore(facts.domain_seen(name.text())),
+        Request::TransferContact { name, op, .. } => {
+            case.transfer_contact(*op, facts.contact_seen(name))
+        }
+        Request::TransferDomain { name, op, .. } => {
+            case.transfer_domain(*op, facts.domain_seen(name.text()))
+        }
         Request::PollAck { id } => {
             only(alloc, Change::Post(caller, AccountChange::Ack(id.clone()?)))
         }
@@ -214,99 +159,177 @@ fn accept(
     }
 }
 
-fn create_contact(
-    alloc: Global,
-    facts: &Facts,
-    caller: RegistrarNo,
-    new: &NewContact,
-    moment: Moment,
-) -> Result<Vec<Change>, AllocError>
-    ensures { IfOk result (λ changes. changes.items
-        ≡ Change.PutContact (spec.new_contact caller moment facts.now new.now)
-        ∷ Change.Post caller AccountChange.TakeSerial ∷ []) }
-{
-    let contact = new_contact(alloc, facts, caller, new, moment)?;
-    created(alloc, caller, Change::PutContact(contact))
-}
+impl<'a> Case<'a> {
+    fn create_contact(&self, new: &NewContact) -> Result<Vec<Change>, AllocError>
+        ensures { IfOk result (λ changes. changes.items ≡ Change.PutContact (spec.new_contact
+            self.now.caller self.now.moment self.now.facts.now new.now) ∷ Change.Post
+            self.now.caller AccountChange.TakeSerial ∷ []) }
+    {
+        let contact = self.new_contact(new)?;
+        self.created(Change::PutContact(contact))
+    }
 
-fn create_host(
-    alloc: Global,
-    facts: &Facts,
-    caller: RegistrarNo,
-    new: &NewHost,
-    moment: Moment,
-    zone: &Zone,
-) -> Result<Vec<Change>, AllocError>
-    ensures { IfOk result (λ changes. changes.items
-        ≡ Change.PutHost (spec.new_host zone.now caller moment facts.now new.now)
-        ∷ Change.Post caller AccountChange.TakeSerial ∷ []) }
-{
-    let host = new_host(alloc, facts, caller, new, moment, zone)?;
-    created(alloc, caller, Change::PutHost(host))
-}
+    fn create_host(&self, new: &NewHost) -> Result<Vec<Change>, AllocError>
+        ensures { IfOk result (λ changes. changes.items ≡ Change.PutHost (spec.new_host
+            self.now.policy.now.zone self.now.caller self.now.moment self.now.facts.now new.now) ∷
+            Change.Post self.now.caller AccountChange.TakeSerial ∷ []) }
+    {
+        let host = self.new_host(new)?;
+        self.created(Change::PutHost(host))
+    }
 
-/// A new object takes its creator's next number.
-fn created(alloc: Global, caller: RegistrarNo, put: Change) -> Result<Vec<Change>, AllocError>
-    ensures { IfOk result (λ changes. changes.items ≡ put
-        ∷ Change.Post caller AccountChange.TakeSerial ∷ []) }
-{
-    Ok(vec![in alloc; put, Change::Post(caller, AccountChange::TakeSerial)]?)
-}
+    /// A new object takes its creator's next number.
+    fn created(&self, put: Change) -> Result<Vec<Change>, AllocError>
+        ensures { IfOk result (λ changes. changes.items ≡ put
+            ∷ Change.Post self.now.caller AccountChange.TakeSerial ∷ []) }
+    {
+        let serial = Change::Post(self.caller, AccountChange::TakeSerial);
+        two(self.alloc, put, serial)
+    }
 
-/// A new domain is charged for.
-fn create_domain(
-    alloc: Global,
-    facts: &Facts,
-    caller: RegistrarNo,
-    request: &Request,
-    new: &NewDomain,
-    moment: Moment,
-    policy: &Policy,
-) -> Result<Vec<Change>, AllocError>
-    ensures { IfOk result (λ changes. changes.items
-        ≡ Change.PutDomain (spec.new_domain caller moment facts.now new.now)
-        ∷ Change.Post caller AccountChange.TakeSerial ∷ spec.charge LineKind.Create policy.now
-        caller moment (spec.new_roid ObjectKind.Domain caller facts.now) request.now facts.now
-        ∷ []) }
-{
-    let roid = new_roid(ObjectKind::Domain, facts, caller);
-    let domain = new_domain(alloc, facts, caller, new, moment)?;
-    Ok(vec![in alloc;
-        Change::PutDomain(domain),
-        Change::Post(caller, AccountChange::TakeSerial),
-        charge(
-            LineKind::Create,
-            caller,
-            roid,
-            request,
-            facts,
-            moment,
-            policy
-        ),
-    ]?)
-}
+    /// A new domain is charged for.
+    fn create_domain(&self, new: &NewDomain) -> Result<Vec<Change>, AllocError>
+        ensures { IfOk result (λ changes. changes.items ≡ Change.PutDomain (spec.new_domain
+            self.now.caller self.now.moment self.now.facts.now new.now) ∷ Change.Post
+            self.now.caller AccountChange.TakeSerial ∷ spec.charge LineKind.Create
+            self.now.policy.now self.now.caller self.now.moment (spec.new_roid ObjectKind.Domain
+            self.now.caller self.now.facts.now) self.now.request.now self.now.facts.now ∷ []) }
+    {
+        let roid = self.new_roid(ObjectKind::Domain);
+        let domain = self.new_domain(new)?;
+        Ok(vec![in self.alloc;
+            Change::PutDomain(domain),
+            Change::Post(self.caller, AccountChange::TakeSerial),
+            self.charge(LineKind::Create, roid),
+        ]?)
+    }
 
-/// A domain is deleted, and its sponsor gets back what it was charged in a grace that runs.
-fn delete_domain(
-    alloc: Global,
-    caller: RegistrarNo,
-    known: Option<&DomainFacts>,
-    moment: Moment,
-) -> Result<Vec<Change>, AllocError>
-    ensures { IfOk result (λ changes. changes.items ≡ spec.deletion_at caller moment
-        (option_copied known.entry)) }
-{
-    let Some(known) = known else {
-        return Ok(Vec::new(alloc));
-    };
-    match &known.seen {
-        Some(Seen::Full(full)) => {
-            let ending = ending(known, &full.domain, moment)?;
-            let refund = RunningRefund::of(&full.domain, moment);
-            let given = Change::Post(caller, AccountChange::RefundRunning(refund));
-            Ok(vec![in alloc; ending, given]?)
+    /// A domain is deleted, and its sponsor gets back what it was charged in a grace that runs.
+    fn delete_domain(&self, known: Option<&DomainFacts>) -> Result<Vec<Change>, AllocError>
+        ensures { IfOk result (λ changes. changes.items ≡ spec.deletion_at self.now.caller
+            self.now.moment (option_copied known.entry)) }
+    {
+        let Some(known) = known else {
+            return Ok(Vec::new(self.alloc));
+        };
+        match &known.seen {
+            Some(Seen::Full(full)) => {
+                let ending = ending(known, &full.domain, self.moment)?;
+                let refund = RunningRefund::of(&full.domain, self.moment);
+                let given = Change::Post(self.caller, AccountChange::RefundRunning(refund));
+                two(self.alloc, ending, given)
+            }
+            _ => Ok(Vec::new(self.alloc)),
         }
-        _ => Ok(Vec::new(alloc)),
+    }
+
+    /// A domain is registered for longer, and that is charged for.
+    fn renew_domain(
+        &self,
+        seen: Option<&Seen<FullDomain, DomainFace>>,
+    ) -> Result<Vec<Change>, AllocError>
+        ensures { IfOk result (λ changes. changes.items ≡ spec.renewal_changes self.now.policy.now
+            self.now.caller self.now.moment self.now.request.now self.now.facts.now (option_copied
+            seen.entry)) }
+    {
+        match seen {
+            Some(Seen::Full(known)) => {
+                let renewed = renewed_domain(&known.domain, self.request.years(), self.moment)?;
+                let line = self.charge(LineKind::Renew, known.domain.roid);
+                two(self.alloc, Change::PutDomain(renewed), line)
+            }
+            _ => Ok(Vec::new(self.alloc)),
+        }
+    }
+
+    /// The restoration of a deleted domain is asked for.
+    fn request_restore(
+        &self,
+        seen: Option<&Seen<FullDomain, DomainFace>>,
+    ) -> Result<Vec<Change>, AllocError>
+        ensures { IfOk result (λ changes. changes.items
+            ≡ spec.restore_changes self.now.moment (option_copied seen.entry)) }
+    {
+        match seen {
+            Some(Seen::Full(known)) => {
+                let restoring = restoring_domain(&known.domain, self.moment)?;
+                only(self.alloc, Change::PutDomain(restoring))
+            }
+            _ => Ok(Vec::new(self.alloc)),
+        }
+    }
+
+    /// A deleted domain is restored, and charged for the years that it needs.
+    fn report_restore(
+        &self,
+        seen: Option<&Seen<FullDomain, DomainFace>>,
+    ) -> Result<Vec<Change>, AllocError>
+        ensures { IfOk result (λ changes. changes.items ≡ spec.report_changes self.now.policy.now
+            self.now.caller self.now.moment self.now.request.now self.now.facts.now (option_copied
+            seen.entry)) }
+    {
+        match seen {
+            Some(Seen::Full(known)) => {
+                let restored = restored_domain(&known.domain, self.moment)?;
+                let line = self.charge(LineKind::Restore, known.domain.roid);
+                two(self.alloc, Change::PutDomain(restored), line)
+            }
+            _ => Ok(Vec::new(self.alloc)),
+        }
+    }
+
+    fn update_contact(
+        &self,
+        update: &ContactUpdate,
+        seen: Option<&Seen<Contact, ContactFace>>,
+    ) -> Result<Vec<Change>, AllocError>
+        ensures { IfOk result (λ changes. changes.items ≡ spec.contact_changes self.now.moment
+            update.now (option_copied seen.entry)) }
+    {
+        match seen {
+            Some(Seen::Full(contact)) => {
+                let contact = self.updated_contact(update, contact)?;
+                only(self.alloc, Change::PutContact(contact))
+            }
+            _ => Ok(Vec::new(self.alloc)),
+        }
+    }
+
+    fn update_domain(
+        &self,
+        update: &DomainUpdate,
+        seen: Option<&Seen<FullDomain, DomainFace>>,
+    ) -> Result<Vec<Change>, AllocError>
+        ensures { IfOk result (λ changes. changes.items ≡ spec.domain_changes self.now.moment
+            update.now (option_copied seen.entry)) }
+    {
+        match seen {
+            Some(Seen::Full(known)) => {
+                let domain = self.updated_domain(update, &known.domain)?;
+                only(self.alloc, Change::PutDomain(domain))
+            }
+            _ => Ok(Vec::new(self.alloc)),
+        }
+    }
+
+    fn update_host(
+        &self,
+        update: &HostUpdate,
+        host: Option<&Host>,
+    ) -> Result<Vec<Change>, AllocError>
+        ensures { IfOk result (λ changes. changes.items ≡ spec.host_changes self.now.policy.now.zone
+            self.now.caller self.now.moment update.now (option_copied host.entry)) }
+    {
+        let Some(host) = host else {
+            return Ok(Vec::new(self.alloc));
+        };
+        let updated = self.updated_host(update, host)?;
+        put_host(
+            self.alloc,
+            update.name.text(),
+            updated,
+            update.new_name.as_ref(),
+        )
     }
 }
 
@@ -320,140 +343,6 @@ fn ending(known: &DomainFacts, domain: &Domain, moment: Moment) -> Result<Change
     }
     let deleted = deleted_domain(domain, known.given_back.years, moment)?;
     Ok(Change::PutDomain(deleted))
-}
-
-/// A domain is registered for longer, and that is charged for.
-fn renew_domain(
-    alloc: Global,
-    facts: &Facts,
-    caller: RegistrarNo,
-    request: &Request,
-    seen: Option<&Seen<FullDomain, DomainFace>>,
-    moment: Moment,
-    policy: &Policy,
-) -> Result<Vec<Change>, AllocError>
-    ensures { IfOk result (λ changes. changes.items ≡ spec.renewal_changes policy.now caller moment
-        request.now facts.now (option_copied seen.entry)) }
-{
-    match seen {
-        Some(Seen::Full(known)) => {
-            let renewed = renewed_domain(&known.domain, request.years(), moment)?;
-            let line = charge(
-                LineKind::Renew,
-                caller,
-                known.domain.roid,
-                request,
-                facts,
-                moment,
-                policy,
-            );
-            Ok(vec![in alloc; Change::PutDomain(renewed), line]?)
-        }
-        _ => Ok(Vec::new(alloc)),
-    }
-}
-
-/// The restoration of a deleted domain is asked for.
-fn request_restore(
-    alloc: Global,
-    seen: Option<&Seen<FullDomain, DomainFace>>,
-    moment: Moment,
-) -> Result<Vec<Change>, AllocError>
-    ensures { IfOk result (λ changes. changes.items
-        ≡ spec.restore_changes moment (option_copied seen.entry)) }
-{
-    match seen {
-        Some(Seen::Full(known)) => {
-            let restoring = restoring_domain(&known.domain, moment)?;
-            only(alloc, Change::PutDomain(restoring))
-        }
-        _ => Ok(Vec::new(alloc)),
-    }
-}
-
-/// A deleted domain is restored, and charged for the years that it needs.
-fn report_restore(
-    alloc: Global,
-    facts: &Facts,
-    caller: RegistrarNo,
-    request: &Request,
-    seen: Option<&Seen<FullDomain, DomainFace>>,
-    moment: Moment,
-    policy: &Policy,
-) -> Result<Vec<Change>, AllocError>
-    ensures { IfOk result (λ changes. changes.items ≡ spec.report_changes policy.now caller moment
-        request.now facts.now (option_copied seen.entry)) }
-{
-    match seen {
-        Some(Seen::Full(known)) => {
-            let restored = restored_domain(&known.domain, moment)?;
-            let line = charge(
-                LineKind::Restore,
-                caller,
-                known.domain.roid,
-                request,
-                facts,
-                moment,
-                policy,
-            );
-            Ok(vec![in alloc; Change::PutDomain(restored), line]?)
-        }
-        _ => Ok(Vec::new(alloc)),
-    }
-}
-
-fn update_contact(
-    alloc: Global,
-    update: &ContactUpdate,
-    seen: Option<&Seen<Contact, ContactFace>>,
-    moment: Moment,
-) -> Result<Vec<Change>, AllocError>
-    ensures { IfOk result (λ changes. changes.items ≡ spec.contact_changes moment update.now
-        (option_copied seen.entry)) }
-{
-    match seen {
-        Some(Seen::Full(contact)) => {
-            let contact = updated_contact(alloc, update, contact, moment)?;
-            only(alloc, Change::PutContact(contact))
-        }
-        _ => Ok(Vec::new(alloc)),
-    }
-}
-
-fn update_domain(
-    alloc: Global,
-    update: &DomainUpdate,
-    seen: Option<&Seen<FullDomain, DomainFace>>,
-    moment: Moment,
-) -> Result<Vec<Change>, AllocError>
-    ensures { IfOk result (λ changes. changes.items ≡ spec.domain_changes moment update.now
-        (option_copied seen.entry)) }
-{
-    match seen {
-        Some(Seen::Full(known)) => {
-            let domain = updated_domain(alloc, update, &known.domain, moment)?;
-            only(alloc, Change::PutDomain(domain))
-        }
-        _ => Ok(Vec::new(alloc)),
-    }
-}
-
-fn update_host(
-    alloc: Global,
-    caller: RegistrarNo,
-    update: &HostUpdate,
-    host: Option<&Host>,
-    moment: Moment,
-    zone: &Zone,
-) -> Result<Vec<Change>, AllocError>
-    ensures { IfOk result (λ changes. changes.items ≡ spec.host_changes zone.now caller moment
-        update.now (option_copied host.entry)) }
-{
-    let Some(host) = host else {
-        return Ok(Vec::new(alloc));
-    };
-    let updated = updated_host(alloc, caller, update, host, moment, zone)?;
-    put_host(alloc, update.name.text(), updated, update.new_name.as_ref())
 }
 
 /// A host is put under its name, or goes to it from the one that it had.

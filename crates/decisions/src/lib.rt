@@ -1,8 +1,8 @@
 //! What a command or an order changes: a list of changes to the registry.
 #![tactic(auto)]
 
+mod case;
 mod change;
-mod charge;
 mod created;
 mod decision;
 mod order;

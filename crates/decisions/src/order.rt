@@ -62,7 +62,8 @@ fn changes_after(
 fn put_ordered(alloc: Global, order: &StatusOrder, object: Object) -> Result<Change, AllocError>
     ensures { IfOk result (λ change. change ≡ spec.put_ordered order.now object) }
 {
-    match ordered(alloc, order, object.statuses()) {
+    let (rem, add) = (order.rem.as_slice(), order.add.as_slice());
+    match amended_statuses(alloc, object.statuses(), rem, add) {
         Ok(statuses) => Ok(put_with(statuses, object)),
         Err(error) => {
             drop(object);
@@ -89,12 +90,6 @@ fn put_with(statuses: Seq<Status>, object: Object) -> Change
             Change::PutHost(host)
         }
     }
-}
-
-fn ordered(alloc: Global, order: &StatusOrder, old: &[Status]) -> Result<Seq<Status>, AllocError>
-    ensures { IfOk result (λ statuses. statuses ≡ spec.ordered order.now old.now) }
-{
-    amended_statuses(alloc, old, order.rem.as_slice(), order.add.as_slice())
 }
 
 // ---- deposits

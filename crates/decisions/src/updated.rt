@@ -3,13 +3,14 @@ ghost use Rattle.std.specs.{Prelude.{◌≡◌, ◌-◌, IfOk, Some, option_map}
 ghost use Rattle.facts.specs.Facts.{or_else};
 ghost use Rattle.decisions.specs.Decisions as spec;
 
+use crate::case::Case;
 use crate::created::external_sponsor_of;
 use basis::registrar::RegistrarNo;
 use basis::text::{Text, copied};
 use calendar::Moment;
 use facts::amended_names;
 use lifecycle::years_to_outlast;
-use names::{RequestedName, Zone};
+use names::RequestedName;
 use objects::{Contact, Deletion, Domain, Host, Links, Postal, amended_statuses};
 use protocol::{ContactUpdate, DomainUpdate, HostUpdate};
 use std::alloc::{AllocError, Global};
@@ -42,65 +43,110 @@ fn or_else(new: &Option<Text>, old: &Option<Text>) -> Result<Option<Text>, Alloc
     }
 }
 
-pub(crate) fn updated_contact(
-    alloc: Global,
-    update: &ContactUpdate,
-    contact: &Contact,
-    moment: Moment,
-) -> Result<Contact, AllocError>
-    ensures { IfOk result (λ updated. updated ≡ spec.updated_contact moment update.now
-        contact.now) }
-{
-    let statuses = amended_statuses(
-        alloc,
-        contact.statuses.as_slice(),
-        update.rem.as_slice(),
-        update.add.as_slice(),
-    )?;
-    Ok(Contact {
-        name: contact.name.clone()?,
-        roid: contact.roid,
-        sponsor: contact.sponsor,
-        created: contact.created,
-        transferred: contact.transferred,
-        updated: Some(moment),
-        statuses,
-        secret: or_old(&update.secret, &contact.secret)?,
-        voice: or_else(&update.voice, &contact.voice)?,
-        mail: or_old(&update.mail, &contact.mail)?,
-        postal: or_old_postal(&update.postal, &contact.postal)?,
-        transfer: contact.transfer,
-    })
-}
+impl<'a> Case<'a> {
+    pub(crate) fn updated_contact(
+        &self,
+        update: &ContactUpdate,
+        contact: &Contact,
+    ) -> Result<Contact, AllocError>
+        ensures { IfOk result (λ updated. updated ≡ spec.updated_contact self.now.moment update.now
+            contact.now) }
+    {
+        let statuses = amended_statuses(
+            self.alloc,
+            contact.statuses.as_slice(),
+            update.rem.as_slice(),
+            update.add.as_slice(),
+        )?;
+        Ok(Contact {
+            name: contact.name.clone()?,
+            roid: contact.roid,
+            sponsor: contact.sponsor,
+            created: contact.created,
+            transferred: contact.transferred,
+            updated: Some(self.moment),
+            statuses,
+            secret: or_old(&update.secret, &contact.secret)?,
+            voice: or_else(&update.voice, &contact.voice)?,
+            mail: or_old(&update.mail, &contact.mail)?,
+            postal: or_old_postal(&update.postal, &contact.postal)?,
+            transfer: contact.transfer,
+        })
+    }
 
-pub(crate) fn updated_domain(
-    alloc: Global,
-    update: &DomainUpdate,
-    domain: &Domain,
-    moment: Moment,
-) -> Result<Domain, AllocError>
-    ensures { IfOk result (λ updated. updated ≡ spec.updated_domain moment update.now domain.now) }
-{
-    let statuses = amended_statuses(
-        alloc,
-        domain.statuses.as_slice(),
-        update.rem.statuses.as_slice(),
-        update.add.statuses.as_slice(),
-    )?;
-    Ok(Domain {
-        name: domain.name.clone()?,
-        roid: domain.roid,
-        sponsor: domain.sponsor,
-        created: domain.created,
-        years: domain.years,
-        transferred: domain.transferred,
-        updated: Some(moment),
-        statuses,
-        secret: or_old(&update.secret, &domain.secret)?,
-        links: updated_links(alloc, update, &domain.links)?,
-        transfer: domain.transfer,
-        deletion: domain.deletion,
-    })
+    pub(crate) fn updated_domain(
+        &self,
+        update: &DomainUpdate,
+        domain: &Domain,
+    ) -> Result<Domain, AllocError>
+        ensures { IfOk result (λ updated. updated ≡ spec.updated_domain self.now.moment update.now
+            domain.now) }
+    {
+        let statuses = amended_statuses(
+            self.alloc,
+            domain.statuses.as_slice(),
+            update.rem.statuses.as_slice(),
+            update.add.statuses.as_slice(),
+        )?;
+        Ok(Domain {
+            name: domain.name.clone()?,
+            roid: domain.roid,
+            sponsor: domain.sponsor,
+            created: domain.created,
+            years: domain.years,
+            transferred: domain.transferred,
+            updated: Some(self.moment),
+            statuses,
+            secret: or_old(&update.secret, &domain.secret)?,
+            links: updated_links(self.alloc, update, &domain.links)?,
+            transfer: domain.transfer,
+            deletion: domain.deletion,
+        })
+    }
+
+    pub(crate) fn updated_host(&self, update: &HostUpdate, host: &Host) -> Result<Host, AllocError>
+        ensures { IfOk result (λ updated. updated ≡ spec.updated_host self.now.policy.now.zone
+            self.now.caller self.now.moment update.now host.now) }
+    {
+        let statuses = amended_statuses(
+            self.alloc,
+            host.statuses.as_slice(),
+            update.rem.statuses.as_slice(),
+            update.add.statuses.as_slice(),
+        )?;
+        Ok(Host {
+            name: update.final_name().clone()?,
+            roid: host.roid,
+            external_sponsor: self.external_sponsor_after(
+                update.new_name.as_ref(),
+                host.external_sponsor,
+            ),
+            created: host.created,
+            updated: Some(self.moment),
+            statuses,
+            addresses: amended_names(
+                self.alloc,
+                host.addresses.as_slice(),
+                update.rem.addresses.as_slice(),
+                update.add.addresses.as_slice(),
+            )?,
+        })
+    }
+
+    /// The registrar that gave an external host its name, after an update that may rename it.
+    fn external_sponsor_after(
+        &self,
+        new_name: Option<&RequestedName>,
+        old: Option<RegistrarNo>,
+    ) -> Option<RegistrarNo>
+        ensures { result ≡ spec.external_sponsor_after self.now.policy.now.zone self.now.caller
+            (option_copied new_name.entry) old }
+    {
+        match new_name {
+            None => old,
+            Some(name) => external_sponsor_of(self.policy.zone(), self.caller, name.text()),
+        }
+    }
 }
 
 fn updated_links(alloc: Global, update: &DomainUpdate, links: &Links) -> Result<Links, AllocError>
@@ -145,7 +191,7 @@ pub(crate) fn renewed_domain(
 ) -> Result<Domain, AllocError>
     ensures { IfOk result (λ renewed. renewed ≡ spec.renewed_domain moment years domain.now) }
 {
-    let mut renewed = copy(domain)?;
+    let mut renewed = domain.clone()?;
     renewed.years = more_years(domain.years, years);
     renewed.updated = Some(moment);
     Ok(renewed)
@@ -169,7 +215,7 @@ pub(crate) fn deleted_domain(
 ) -> Result<Domain, AllocError>
     ensures { IfOk result (λ deleted. deleted ≡ spec.deleted_domain moment given domain.now) }
 {
-    let mut deleted = copy(domain)?;
+    let mut deleted = domain.clone()?;
     deleted.years = years_left(domain.years, given);
     deleted.updated = Some(moment);
     deleted.deletion = Some(Deletion {
@@ -197,7 +243,7 @@ fn with_request(deletion: Option<Deletion>, moment: Moment) -> Option<Deletion>
 pub(crate) fn restoring_domain(domain: &Domain, moment: Moment) -> Result<Domain, AllocError>
     ensures { IfOk result (λ restoring. restoring ≡ spec.restoring_domain moment domain.now) }
 {
-    let mut restoring = copy(domain)?;
+    let mut restoring = domain.clone()?;
     restoring.updated = Some(moment);
     restoring.deletion = with_request(domain.deletion, moment);
     Ok(restoring)
@@ -209,69 +255,9 @@ pub(crate) fn restored_domain(domain: &Domain, moment: Moment) -> Result<Domain,
     ensures { IfOk result (λ restored. restored ≡ spec.restored_domain moment domain.now) }
 {
     let years = years_to_outlast(domain, moment);
-    let mut restored = copy(domain)?;
+    let mut restored = domain.clone()?;
     restored.years = domain.years + years;
     restored.updated = Some(moment);
     restored.deletion = None;
     Ok(restored)
-}
-
-fn copy(domain: &Domain) -> Result<Domain, AllocError>
-    ensures { IfOk result (λ copy. copy ≡ domain.now) }
-{
-    domain.clone()
-}
-
-/// The registrar that gave an external host its name, after an update that may rename it.
-fn external_sponsor_after(
-    zone: &Zone,
-    caller: RegistrarNo,
-    new_name: Option<&RequestedName>,
-    old: Option<RegistrarNo>,
-) -> Option<RegistrarNo>
-    ensures { result ≡ spec.external_sponsor_after zone.now caller (option_copied new_name.entry)
-        old }
-{
-    match new_name {
-        None => old,
-        Some(name) => external_sponsor_of(zone, caller, name.text()),
-    }
-}
-
-pub(crate) fn updated_host(
-    alloc: Global,
-    caller: RegistrarNo,
-    update: &HostUpdate,
-    host: &Host,
-    moment: Moment,
-    zone: &Zone,
-) -> Result<Host, AllocError>
-    ensures { IfOk result (λ updated. updated ≡ spec.updated_host zone.now caller moment update.now
-        host.now) }
-{
-    let statuses = amended_statuses(
-        alloc,
-        host.statuses.as_slice(),
-        update.rem.statuses.as_slice(),
-        update.add.statuses.as_slice(),
-    )?;
-    Ok(Host {
-        name: update.final_name().clone()?,
-        roid: host.roid,
-        external_sponsor: external_sponsor_after(
-            zone,
-            caller,
-            update.new_name.as_ref(),
-            host.external_sponsor,
-        ),
-        created: host.created,
-        updated: Some(moment),
-        statuses,
-        addresses: amended_names(
-            alloc,
-            host.addresses.as_slice(),
-            update.rem.addresses.as_slice(),
-            update.add.addresses.as_slice(),
-        )?,
-    })
 }
