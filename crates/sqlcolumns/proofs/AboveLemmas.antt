@@ -1,9 +1,9 @@
 -- A host below a domain with a dot has the same name of two labels above it.
-use Rattle.std.proofs.Common.{◌≡◌, ℕ, ◌+◌, ◌-◌, ◌<◌, ◌≤◌, ◌==◌, nat_eq, nat_lt, eqb, Bool, true, false, cond, ◌&&◌, List, [], ◌∷◌, ◌++◌, drop, take, length, get_or, slice_index, refl, sym, ap, ◌∙◌, Bor, map, arith}
+use Rattle.std.proofs.Common.{◌≡◌, ℕ, ◌+◌, ◌-◌, ◌<◌, ◌≤◌, ◌==◌, nat_eq, nat_lt, eqb, Bool, true, cond, ◌&&◌, List, [], ◌∷◌, ◌++◌, drop, take, length, get_or, slice_index, refl, sym, ap, ◌∙◌, Bor, map, arith}
 use Rattle.std.proofs.{Math.Seq.drop-append-add, lemmas.Bool.{and_parts, ltb-true, Decides.Decides-eqb}}
-use Rattle.std.proofs.lemmas.List.{append-nil, drop-map, drop_more, length-append, length-map, take-append-drop, take_rest}
+use Rattle.std.proofs.lemmas.List.{drop-map, drop_more, length-append, length-map, take-append-drop, take_rest}
 use Rattle.std.proofs.lemmas.{List.Splits.length-slice_split, Slice.Eq.bytes_eq-Decides}
-use Rattle.std.specs.List.{count_by, ends_with, join_by, join_with_byte, onto_first}
+use Rattle.std.specs.List.{count_by, ends_with, join_with_byte, onto_first}
 use Rattle.objects.specs.Hosts.{is_below}
 use Rattle.sqlcolumns.specs.Above.{above, last_two, parts_between_dots}
 
@@ -29,9 +29,8 @@ front_of domain host below =
 -- ---- labels
 
 split_by : (b : ℕ) (t : Bool) (xs ys : List (List ℕ)) (n : ℕ) → length xs ≡ n + 1 → cond t ([] ∷ (xs ++ ys)) (onto_first b (xs ++ ys)) ≡ cond t ([] ∷ xs) (onto_first b xs) ++ ys
-split_by b true xs ys n some = refl
-split_by b false [] ys n some = absurd (omega arith)
-split_by b false (x ∷ xs) ys n some = refl
+split_by b t [] ys n some = absurd (omega arith)
+split_by b t (x ∷ xs) ys n some = grind arith
 
 -- the labels on both sides of a dot
 labels_append : (front rest : List ℕ) → parts_between_dots (front ++ 46 ∷ rest) ≡ parts_between_dots front ++ parts_between_dots rest
@@ -61,8 +60,3 @@ last_two_is labels n is =
     let texts : List (List ℕ) = map (λ (l : Bor (List ℕ)). l.now) labels in
     ap (map (λ (l : Bor (List ℕ)). l.now)) (take_rest labels n) ∙ sym (drop-map (λ (l : Bor (List ℕ)). l.now) n labels)
     ∙ ap (λ (k : ℕ). drop k texts) (is ∙ ap (λ (k : ℕ). k - 2) (sym (length-map labels (λ (l : Bor (List ℕ)). l.now))))
-
-pub joined_is : (labels : List (Bor (List ℕ))) → join_by (λ l. l.now) (46 ∷ []) labels ≡ join_with_byte 46 (map (λ l. l.now) labels)
-joined_is [] = refl
-joined_is (x ∷ []) = append-nil x.now
-joined_is (x ∷ y ∷ ys) = ap (λ (t : List ℕ). x.now ++ 46 ∷ t) (joined_is (y ∷ ys))

@@ -1,5 +1,5 @@
 -- A domain is read back from its row, its links and its transfer.
-use Rattle.std.proofs.Common.{◌≡◌, ℕ, ℤ, Option, Some, None, IfSome, refl, sym, ap, ◌∙◌}
+use Rattle.std.proofs.{Common.{arith, ◌≡◌, ℕ, ℤ, Option, Some, None, IfSome, refl, sym, ap, ◌∙◌}, lemmas.Bool.Decides.nat_tests}
 use Rattle.objects.specs.declared.{domain.{Deletion.Deletion, Domain.Domain, Links.Links}, transfer.Transfer.Transfer}
 use Rattle.objects.specs.declared.roid.ObjectKind.TheVariants as kinds
 use Rattle.sqltables.specs.declared.domain.DomainRow.{DomainRow}
@@ -7,7 +7,7 @@ use Rattle.sqlcolumns.specs.declared.domain.DeletionColumns.{DeletionColumns}
 use Rattle.sqlcolumns.specs.inner.Domains.{IsStorableDeletion, IsDomain, deletion_columns, domain_registration, domain_row_with, row_of_domain}
 use Rattle.sqlcolumns.specs.{Domains.{deletion_in, domain_of_columns, domain_registration_columns, domain_with}, Numbers.years_in_column}
 use Rattle.sqlcolumns.specs.{Registrations.{registration_columns, registration_in}, Steps.◌>>=◌, Texts.statuses_in}
-use Rattle.sqlcolumns.proofs.{NumberLemmas.{maybe_moment_back, moment_back, years_back}, ReadLemmas.{same_some, step}}
+use Rattle.sqlcolumns.proofs.{NumberLemmas.{maybe_moment_back, moment_back}, ReadLemmas.{same_some, step}}
 use Rattle.sqlcolumns.proofs.{RegistrationLemmas.registration_back, TextLemmas.statuses_back}
 
 -- ---- deletions
@@ -29,13 +29,10 @@ pub domain_back : (id registrant : ℤ) (due : ℕ) (d : Domain) (row : DomainRo
 domain_back id registrant due d row is e =
     let columns = step (registration_columns kinds.Domain (domain_registration d)) (λ x. Some (domain_row_with id registrant due d x (deletion_columns d.deletion))) row e in
     let written : DomainRow = domain_row_with id registrant due d columns.given (deletion_columns d.deletion) in
+    let read = registration_back kinds.Domain (domain_registration d) columns.given is.registration columns.is in
     let same = same_some written row columns.rest in
     sym (ap (λ (x : DomainRow). domain_of_columns x d.links d.transfer) same)
-    ∙ (λ i. registration_back kinds.Domain (domain_registration d) columns.given is.registration columns.is i >>= (λ r.
-    years_back d.years is.years i >>= (λ y.
-    statuses_back d.statuses i >>= (λ s.
-    deletion_back d.deletion is.deletion i >>= (λ x.
-    Some (domain_with written r y s x d.links d.transfer))))))
+    ∙ grind (arith, nat_tests, is.years, read, statuses_back d.statuses, deletion_back d.deletion is.deletion)
 
 -- what is read was deleted as its row says
 pub deletion_reads : (row : DomainRow) (links : Links) (transfer : Option Transfer) (d : Domain) → domain_of_columns row links transfer ≡ Some d → deletion_in row.deleted row.restore_requested ≡ Some d.deletion

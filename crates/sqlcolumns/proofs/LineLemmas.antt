@@ -1,17 +1,17 @@
 -- A line is read from its row, and from no other.
-use Rattle.std.proofs.Common.{◌≡◌, ℤ, Option, Some, None, IfSome, refl, sym, ap, ◌∙◌}
+use Rattle.std.proofs.{Common.{arith, ◌≡◌, ℤ, Option, Some, None, IfSome, sym, ap, ◌∙◌}, lemmas.{Bool.Decides.nat_tests, Int.ints}}
 use Rattle.std.specs.Prelude.{option_map}
 use Rattle.objects.specs.declared.roid.{ObjectKind.TheVariants.Domain, Roid.Roid}
 use Rattle.accounts.specs.declared.line.Line.{Line}
 use Rattle.sqltables.specs.declared.line.LineRow.{LineRow}
 use Rattle.sqlcolumns.specs.declared.{line.DomainColumns.DomainColumns, roid.RoidColumns.RoidColumns}
 use Rattle.sqlcolumns.specs.Codes.{all_kinds, kind_column, kind_in}
-use Rattle.sqlcolumns.specs.Numbers.{exact_column, exact_in, fits_years_column, maybe_moment_in, moment_in_column, years_in_column}
-use Rattle.sqlcolumns.specs.{Roids.{IsRoid, roid_columns, roid_in}, Steps.◌>>=◌}
+use Rattle.sqlcolumns.specs.Numbers.{exact_column, exact_in, maybe_moment_in, moment_in_column, years_in_column}
+use Rattle.sqlcolumns.specs.{Roids.{IsRoid, roid_in}, Steps.◌>>=◌}
 use Rattle.sqlcolumns.specs.inner.Lines.{IsStorableLine, domain_columns, line_row_with, not_null, row_of_line}
-use Rattle.sqlcolumns.specs.Lines.{line_made, line_of_columns, maybe_domain_in}
+use Rattle.sqlcolumns.specs.Lines.{line_of_columns, maybe_domain_in}
 use Rattle.sqlcolumns.proofs.CodeLemmas.{code_written, kind_back}
-use Rattle.sqlcolumns.proofs.NumberLemmas.{exact_back, exact_written, maybe_moment_back, maybe_moment_written, moment_back, moment_written, natural_written, years_back}
+use Rattle.sqlcolumns.proofs.NumberLemmas.{exact_back}
 use Rattle.sqlcolumns.proofs.{ReadLemmas.{same_some, some_read, step}, RoidLemmas.{roid_back, roid_written}}
 
 -- ---- the domain of a line
@@ -19,22 +19,15 @@ use Rattle.sqlcolumns.proofs.{ReadLemmas.{same_some, some_read, step}, RoidLemma
 abbrev domain_in : DomainColumns → Option (Option Roid)
 domain_in columns = maybe_domain_in columns.creator columns.serial
 
-some_domain_back : (roid : Roid) (written : Option RoidColumns) (columns : DomainColumns)
-    → ((c : RoidColumns) → written ≡ Some c → roid_in Domain c.creator c.serial ≡ Some roid)
-    → option_map not_null written ≡ Some columns → maybe_domain_in columns.creator columns.serial ≡ Some (Some roid)
-some_domain_back roid None columns each e = cc
-some_domain_back roid (Some c) columns each e = sym (ap domain_in (same_some (not_null c) columns e)) ∙ ap (option_map Some) (each c refl)
-
 maybe_domain_back : (roid : Option Roid) (columns : DomainColumns) → IfSome roid IsRoid → domain_columns roid ≡ Some columns → maybe_domain_in columns.creator columns.serial ≡ Some roid
-maybe_domain_back None columns is e = sym (ap domain_in (same_some (record { creator = None; serial = None }) columns e))
-maybe_domain_back (Some roid) columns is e = some_domain_back roid (roid_columns Domain roid) columns (λ c written. roid_back Domain roid c is written) e
+maybe_domain_back None columns is e = grind (arith, e)
+maybe_domain_back (Some roid) columns is e = grind (arith, (λ (c : RoidColumns). roid_back Domain roid c is), e)
 
 maybe_domain_written : (creator serial : Option ℤ) (roid : Option Roid) → maybe_domain_in creator serial ≡ Some roid → domain_columns roid ≡ Some (record { creator = creator; serial = serial })
-maybe_domain_written None None roid e = sym (ap domain_columns (same_some None roid e))
+maybe_domain_written None None roid e = grind (arith, e)
 maybe_domain_written (Some c) (Some s) roid e =
     some_read (roid_in Domain c s) roid (λ x. domain_columns x ≡ Some (record { creator = Some c; serial = Some s })) (λ r read. ap (option_map not_null) (roid_written Domain c s r read)) e
-maybe_domain_written None (Some s) roid e = cc
-maybe_domain_written (Some c) None roid e = cc
+maybe_domain_written c s roid e = cc
 
 -- ---- written
 
@@ -43,15 +36,10 @@ pub line_back : (id account : ℤ) (line : Line) (ends : Option ℤ) (row : Line
 line_back id account line ends row is e =
     let domain = step (domain_columns line.roid) (λ d. exact_column line.cents >>= (λ c. Some (line_row_with id account line ends d c))) row e in
     let cents = step (exact_column line.cents) (λ c. Some (line_row_with id account line ends domain.given c)) row domain.rest in
+    let domain_read = maybe_domain_back line.roid domain.given is.roid domain.is in
+    let cents_read = exact_back line.cents cents.given cents.is in
     sym (ap line_of_columns (same_some (line_row_with id account line ends domain.given cents.given) row cents.rest))
-    ∙ (λ i. line_made
-    (kind_back line.kind i)
-    (maybe_domain_back line.roid domain.given is.roid domain.is i)
-    (moment_back line.recorded is.recorded i)
-    (years_back line.years is.years i)
-    (exact_back line.cents cents.given cents.is i)
-    (maybe_moment_back line.started is.started i)
-    (maybe_moment_back line.refunded is.refunded i))
+    ∙ grind (arith, nat_tests, is, kind_back line.kind, domain_read, cents_read)
 
 -- ---- read
 
@@ -89,13 +77,6 @@ is_read row line e =
 pub line_written : (row : LineRow) (line : Line) → line_of_columns row ≡ Some line → row_of_line row.id row.account line row.grace.ends ≡ Some row
 line_written row line e =
     let read = is_read row line e in
-    λ i. maybe_domain_written row.creator row.serial line.roid read.roid i >>= (λ d. exact_written row.cents line.cents read.cents i >>= (λ c. Some (record row {
-      kind = code_written kind_column all_kinds row.kind line.kind read.kind i;
-      creator = d.creator;
-      serial = d.serial;
-      recorded = moment_written row.recorded line.recorded read.recorded i;
-      years = (natural_written fits_years_column row.years line.years read.years).0 i;
-      cents = c;
-      refunded = maybe_moment_written row.refunded line.refunded read.refunded i;
-      grace = record row.grace { started = maybe_moment_written row.grace.started line.started read.started i };
-    })))
+    let domain = maybe_domain_written row.creator row.serial line.roid read.roid in
+    let kind = code_written kind_column all_kinds row.kind line.kind read.kind in
+    grind (arith, ints, nat_tests, read, domain, kind)

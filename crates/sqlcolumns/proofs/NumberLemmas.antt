@@ -1,17 +1,16 @@
 -- Numbers and moments are read from their columns, and from no others.
-use Rattle.std.proofs.Common.{◌≡◌, ℕ, ◌<◌, ◌^◌, ℤ, pos, negsuc, Bool, true, Option, Some, None, IfSome, FitsSigned, w64, nat_le, nat_lt, arith, refl, sym, ap, ◌∙◌}
-use Rattle.std.proofs.lemmas.{Bool.{and_from, le-leb, ltb-true, lt-ltb}, Int.{ints, of_z-to_z, to_z-of_z}}
+use Rattle.std.proofs.Common.{◌≡◌, ℕ, ◌<◌, ◌^◌, ℤ, pos, negsuc, Bool, true, Option, Some, None, IfSome, FitsSigned, w64, arith, refl, sym, ap, ◌∙◌}
+use Rattle.std.proofs.lemmas.{Bool.{Decides.nat_tests, lt-ltb}, Int.{ints, of_z-to_z, to_z-of_z}}
 use Rattle.std.specs.Prelude.{option_map}
 use Rattle.calendar.specs.Moment.{IsMoment, is_moment}
-use Rattle.sqlcolumns.specs.Numbers.{IsPlace, counter_column, counter_in, exact_column, exact_in, fits_years_column, is_column, is_exact, is_place, maybe_moment_column, maybe_moment_in, moment_column, moment_in_column, natural_in, nullable_in, registrar_column, registrar_in, serial_in, years_column, years_in_column}
+use Rattle.sqlcolumns.specs.Numbers.{IsPlace, counter_column, counter_in, exact_column, exact_in, fits_years_column, is_column, is_place, maybe_moment_column, maybe_moment_in, moment_column, moment_in_column, natural_in, nullable_in, registrar_column, registrar_in, serial_in, years_column, years_in_column}
 use Rattle.sqlcolumns.proofs.ReadLemmas.{kept, passed, same_some, some_read}
 
 -- ---- natural numbers
 
 pub natural_written : (among : ℕ → Bool) (c : ℤ) (n : ℕ) → natural_in among c ≡ Some n → (pos n ≡ c) × (among n ≡ true)
 natural_written among (pos m) n e =
-    let is = kept m n (among m) e in
-    (sym (ap pos is.1), sym (ap among is.1) ∙ is.0)
+    let is = kept m n (among m) e in (sym (ap pos is.1), sym (ap among is.1) ∙ is.0)
 natural_written among (negsuc m) n e = cc
 
 -- ---- columns that may be NULL
@@ -23,8 +22,7 @@ maybe_back column read Is back (Some n) is = ap (option_map Some) (back n is)
 -- ---- moments
 
 pub moment_back : (m : ℕ) → IsMoment m → moment_in_column (moment_column m) ≡ Some m
-moment_back m is =
-    passed m (is_moment m) (and_from (nat_le 946_684_800 m) (nat_le m 7_258_118_399) (le-leb 946_684_800 m is.0) (le-leb m 7_258_118_399 is.1))
+moment_back m is = grind (arith, nat_tests, is)
 
 pub moment_written : (c : ℤ) (m : ℕ) → moment_in_column c ≡ Some m → moment_column m ≡ c
 moment_written c m e = (natural_written is_moment c m e).0
@@ -39,8 +37,7 @@ maybe_moment_written (Some c) m e = some_read (moment_in_column c) m (λ x. mayb
 -- ---- registrars and years
 
 pub registrar_back : (place : ℕ) → IsPlace place → registrar_in (registrar_column place) ≡ Some place
-registrar_back place is =
-    passed place (is_place place) (and_from (nat_le 1 place) (nat_lt place 4_294_967_296) (le-leb 1 place is.0) (lt-ltb place 4_294_967_296 is.1))
+registrar_back place is = grind (arith, nat_tests, is)
 
 pub registrar_written : (c : ℤ) (place : ℕ) → registrar_in c ≡ Some place → registrar_column place ≡ c
 registrar_written c place e = (natural_written is_place c place e).0
@@ -51,24 +48,18 @@ years_back years small = passed years (fits_years_column years) (lt-ltb years 4_
 -- ---- numbers as themselves
 
 pub exact_back : (n : ℕ) (c : ℤ) → exact_column n ≡ Some c → exact_in c ≡ Some n
-exact_back n c e =
-    let is = kept (pos n) c (is_exact n) e in
-    sym (ap exact_in is.1) ∙ passed n (is_exact n) is.0
+exact_back n c e = grind (arith, e)
 
 pub exact_written : (c : ℤ) (n : ℕ) → exact_in c ≡ Some n → exact_column n ≡ Some c
-exact_written c n e =
-    let is = natural_written is_exact c n e in
-    passed (pos n) (is_exact n) is.1 ∙ ap Some is.0
+exact_written c n e = grind (arith, e)
 
 -- ---- counters
 
 fits_column : (c : ℤ) → FitsSigned w64 c → is_column c ≡ true
-fits_column (pos n) fits = lt-ltb n 9_223_372_036_854_775_808 fits.sfits
-fits_column (negsuc n) fits = lt-ltb n 9_223_372_036_854_775_808 fits.sfits
+fits_column c fits = grind (arith, ints, fits)
 
 column_fits : (c : ℤ) → is_column c ≡ true → FitsSigned w64 c
-column_fits (pos n) e = record { sfits = ltb-true n 9_223_372_036_854_775_808 e }
-column_fits (negsuc n) e = record { sfits = ltb-true n 9_223_372_036_854_775_808 e }
+column_fits c e = grind (arith, ints, e)
 
 pub serial_back : (n : ℕ) → n < 2 ^ 64 → serial_in (counter_column n) ≡ Some n
 serial_back n small =

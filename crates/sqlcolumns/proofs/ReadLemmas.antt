@@ -1,5 +1,5 @@
 -- What was read by steps was read by each.
-use Rattle.std.proofs.Common.{◌≡◌, Bool, true, false, cond, List, [], ◌∷◌, find, Option, Some, None, IfSome, refl, sym, ap, ◌∙◌}
+use Rattle.std.proofs.Common.{◌≡◌, Bool, true, false, cond, List, [], ◌∷◌, find, Option, Some, None, IfSome, refl, ap, arith}
 use Rattle.std.specs.Prelude.{option_map}
 use Rattle.sqlcolumns.specs.Steps.{◌>>=◌}
 
@@ -34,11 +34,7 @@ kept x y false e = cc
 pub passed : {X : Type 0} (x : X) (b : Bool) → b ≡ true → cond b (Some x) None ≡ Some x
 passed x b e = ap (λ t. cond t (Some x) None) e
 
-found_by : {K : Type 0} (test : K → Bool) (x k : K) (rest : Option K) (b : Bool) → test x ≡ b → (rest ≡ Some k → test k ≡ true) → cond b (Some x) rest ≡ Some k → test k ≡ true
-found_by test x k rest true is there e = sym (ap test (same_some x k e)) ∙ is
-found_by test x k rest false is there e = there e
-
 -- what is found passes the test
 pub found_passes : {K : Type 0} (test : K → Bool) (all : List K) (k : K) → find test all ≡ Some k → test k ≡ true
 found_passes test [] k e = cc
-found_passes test (x ∷ xs) k e = found_by test x k (find test xs) (test x) refl (found_passes test xs k) e
+found_passes test (x ∷ xs) k e = grind (arith, found_passes test xs k, e)

@@ -1,39 +1,23 @@
 -- Lists are read from their texts.
-use Rattle.std.proofs.Common.{rules, ◌≡◌, ℕ, zero, suc, eqb, Bool, true, false, cond, ◌||◌, List, [], ◌∷◌, ◌++◌, map, length, get_or, ◌+◌, ◌<◌, Bor, ap₂, arith, Option, Some, None, IfSome, Result, Ok, Err, IfOk, refl, sym, ap, ◌∙◌, append_assoc}
-use Rattle.std.proofs.lemmas.{Bool.{or_parts, Decides.Decides-eqb}, Slice.Eq.bytes_eq-Decides, List.map-append}
-use Rattle.std.proofs.lemmas.List.Splits.{join_with_byte-slice_split, length-slice_split, slice_split-cons_no, slice_split-cons_yes}
-use Rattle.std.specs.{Str.bytes_eq, List.{count_by, join_with_byte, list_any, onto_first, slice_split}}
+use Rattle.std.proofs.Common.{rules, ◌≡◌, ℕ, zero, suc, eqb, Bool, true, false, cond, ◌||◌, List, [], ◌∷◌, ◌++◌, map, length, get_or, ◌+◌, ◌<◌, Bor, ap₂, arith, Option, Some, None, refl, sym, ap, ◌∙◌, append-nil}
+use Rattle.std.proofs.lemmas.{Bool.{or_parts, Decides.Decides-eqb}, Slice.Eq.bytes_eq-Decides, List.{map-append, map-id}}
+use Rattle.std.proofs.lemmas.List.Splits.{join_with_byte-slice_split, length-slice_split, slice_split-cons_yes}
+use Rattle.std.specs.{Str.bytes_eq, List.{count_by, join_by, join_with_byte, list_any, onto_first, slice_split}}
 use Rattle.objects.specs.{StatusTexts.{status_named, status_text}, declared.status.Status.Status, Statuses.all_statuses}
 use Rattle.sqlcolumns.specs.Steps.{◌>>=◌}
-use Rattle.sqlcolumns.specs.Texts.{after_each, has_feed, statuses_column, statuses_in, statuses_named, street_column, street_in}
-use Rattle.sqlcolumns.proofs.ReadLemmas.{all_read, found_passes, same_some, step}
+use Rattle.sqlcolumns.specs.Texts.{has_feed, statuses_column, statuses_in, statuses_named, street_column, street_in}
+use Rattle.sqlcolumns.proofs.ReadLemmas.{found_passes, same_some, step}
 
 -- ---- written
 
-after-front : {X : Type 0} (show : X → List ℕ) (c : ℕ) (front text : List ℕ) (items : List X) → after_each show c (front ++ text) items ≡ front ++ after_each show c text items
-after-front show c front text [] = refl
-after-front show c front text (x ∷ xs) =
-    ap (λ t. after_each show c t xs) (ap (λ t. t ++ show x) (append_assoc front text (c ∷ [])) ∙ append_assoc front (text ++ c ∷ []) (show x))
-    ∙ after-front show c front ((text ++ c ∷ []) ++ show x) xs
+pub joined_is : (c : ℕ) (pieces : List (Bor (List ℕ))) → join_by (λ p. p.now) (c ∷ []) pieces ≡ join_with_byte c (map (λ p. p.now) pieces)
+joined_is c [] = refl
+joined_is c (x ∷ []) = append-nil x.now
+joined_is c (x ∷ y ∷ ys) = ap (λ (t : List ℕ). x.now ++ c ∷ t) (joined_is c (y ∷ ys))
 
--- the first, and each other behind the byte
-joined : {X : Type 0} (show : X → List ℕ) (c : ℕ) (x : X) (xs : List X) → join_with_byte c (map show (x ∷ xs)) ≡ after_each show c (show x) xs
-joined show c x [] = refl
-joined show c x (y ∷ ys) =
-    ap (λ t. show x ++ (c ∷ t)) (joined show c y ys)
-    ∙ sym (ap (λ t. after_each show c t ys) (append_assoc (show x) (c ∷ []) (show y)) ∙ after-front show c (show x) (c ∷ show y) ys ∙ ap (λ t. show x ++ t) (after-front show c (c ∷ []) (show y) ys))
-
-pub statuses_joined : (statuses : List Status) (x : Status) (rest : List Status) → statuses ≡ x ∷ rest → after_each status_text 32 (status_text x) rest ≡ statuses_column statuses
-statuses_joined statuses x rest e = sym (joined status_text 32 x rest) ∙ sym (ap statuses_column e)
-
-map_same : (lines : List (List ℕ)) → map (λ line. line) lines ≡ lines
-map_same [] = refl
-map_same (line ∷ lines) = ap (λ ls. line ∷ ls) (map_same lines)
-
-pub street_joined : (lines : List (List ℕ)) (x : List ℕ) (rest : List (List ℕ)) → lines ≡ x ∷ rest → list_any has_feed lines ≡ false → Some (after_each (λ line. line) 10 x rest) ≡ street_column lines
-street_joined lines x rest e free =
-    ap Some (sym (joined (λ (line : List ℕ). line) 10 x rest) ∙ ap (join_with_byte 10) (map_same (x ∷ rest)))
-    ∙ sym (ap street_column e ∙ ap (λ t. cond t None (Some (join_with_byte 10 (x ∷ rest)))) (sym (ap (list_any has_feed) e) ∙ free))
+pub street_joined : (lines : List (List ℕ)) (pieces : List (Bor (List ℕ))) → eqb (length lines) 0 ≡ false → list_any has_feed lines ≡ false → map (λ p. p.now) pieces ≡ map (λ line. line) lines → street_column lines ≡ Some (join_by (λ p. p.now) (10 ∷ []) pieces)
+street_joined [] pieces some free same = cc
+street_joined (x ∷ xs) pieces some free same = let named : map (λ p. p.now) pieces ≡ x ∷ xs = same ∙ map-id (x ∷ xs) in rw (free, joined_is 10 pieces, named)
 
 -- ---- cut
 
@@ -45,15 +29,11 @@ IsFree c text = list_any (is c) text ≡ false
 
 split-first : (c : ℕ) (piece rest : List ℕ) → IsFree c piece → slice_split (is c) (piece ++ c ∷ rest) ≡ piece ∷ slice_split (is c) rest
 split-first c [] rest free = slice_split-cons_yes (is c) c rest ((Decides-eqb c c).1 refl)
-split-first c (b ∷ bs) rest free =
-    let both = or_parts (is c b) (list_any (is c) bs) free in
-    slice_split-cons_no (is c) b (bs ++ c ∷ rest) both.0 ∙ ap (onto_first b) (split-first c bs rest both.1)
+split-first c (b ∷ bs) rest free = let both = or_parts (is c b) (list_any (is c) bs) free in rw (both.0, split-first c bs rest both.1)
 
 split-last : (c : ℕ) (piece : List ℕ) → IsFree c piece → slice_split (is c) piece ≡ piece ∷ []
 split-last c [] free = refl
-split-last c (b ∷ bs) free =
-    let both = or_parts (is c b) (list_any (is c) bs) free in
-    slice_split-cons_no (is c) b bs both.0 ∙ ap (onto_first b) (split-last c bs both.1)
+split-last c (b ∷ bs) free = let both = or_parts (is c b) (list_any (is c) bs) free in rw (both.0, split-last c bs both.1)
 
 -- pieces without the byte are the pieces of their text
 split-joined : (c : ℕ) (x : List ℕ) (xs : List (List ℕ)) → list_any (list_any (is c)) (x ∷ xs) ≡ false → slice_split (is c) (join_with_byte c (x ∷ xs)) ≡ x ∷ xs
@@ -64,29 +44,25 @@ split-joined c x (y ∷ ys) free =
 
 -- ---- streets
 
-street_pieces : (xs : List (List ℕ)) (text : List ℕ) (feeds : Bool) → list_any has_feed xs ≡ feeds → cond feeds None (Some (join_with_byte 10 xs)) ≡ Some text → (join_with_byte 10 xs ≡ text) × (list_any has_feed xs ≡ false)
-street_pieces xs text true feeds e = cc
-street_pieces xs text false feeds e = let same : join_with_byte 10 xs ≡ text = cc in (same, feeds)
+street_pieces : (text joined : List ℕ) (feeds : Bool) → cond feeds None (Some joined) ≡ Some text → (joined ≡ text) × (feeds ≡ false)
+street_pieces text joined true e = cc
+street_pieces text joined false e = (same_some joined text e, refl)
 
 -- what was written is read back
 pub street_back : (xs : List (List ℕ)) (text : List ℕ) → street_column xs ≡ Some text → street_in text ≡ xs
 street_back [] text e = cc
 street_back (x ∷ xs) text e =
-    let pieces = street_pieces (x ∷ xs) text (list_any has_feed (x ∷ xs)) refl e in
+    let pieces = street_pieces text (join_with_byte 10 (x ∷ xs)) (list_any has_feed (x ∷ xs)) e in
     ap (slice_split (is 10)) (sym pieces.0) ∙ split-joined 10 x xs pieces.1
 
-any-onto : (c b : ℕ) (pieces : List (List ℕ)) → is c b ≡ false → list_any (list_any (is c)) pieces ≡ false → list_any (list_any (is c)) (onto_first b pieces) ≡ false
-any-onto c b [] e free = ap (λ t. (t || false) || false) e
-any-onto c b (p ∷ ps) e free = ap (λ t. (t || list_any (is c) p) || list_any (list_any (is c)) ps) e ∙ free
-
-pieces_by : (c b : ℕ) (pieces : List (List ℕ)) (t : Bool) → is c b ≡ t → list_any (list_any (is c)) pieces ≡ false → list_any (list_any (is c)) (cond t ([] ∷ pieces) (onto_first b pieces)) ≡ false
-pieces_by c b pieces true e free = free
-pieces_by c b pieces false e free = any-onto c b pieces e free
+any-onto : (c b : ℕ) (pieces : List (List ℕ)) → list_any (list_any (is c)) pieces ≡ false → list_any (list_any (is c)) (cond (is c b) ([] ∷ pieces) (onto_first b pieces)) ≡ false
+any-onto c b [] free = grind arith
+any-onto c b (p ∷ ps) free = grind (arith, free)
 
 -- no piece has the byte
 pieces-free : (c : ℕ) (text : List ℕ) → list_any (list_any (is c)) (slice_split (is c) text) ≡ false
 pieces-free c [] = refl
-pieces-free c (b ∷ bs) = pieces_by c b (slice_split (is c) bs) (is c b) refl (pieces-free c bs)
+pieces-free c (b ∷ bs) = any-onto c b (slice_split (is c) bs) (pieces-free c bs)
 
 street_of : (text : List ℕ) (pieces : List (List ℕ)) (n : ℕ) → length pieces ≡ n + 1 → list_any has_feed pieces ≡ false → join_with_byte 10 pieces ≡ text → street_column pieces ≡ Some text
 street_of text [] n some free same = absurd (omega arith)
@@ -146,14 +122,6 @@ statuses_written [] xs e = sym (ap statuses_column (same_some [] xs e))
 statuses_written (b ∷ bs) xs e =
     ap (join_with_byte 32) (sym (words_of (slice_split (is 32) (b ∷ bs)) xs e)) ∙ join_with_byte-slice_split 32 (b ∷ bs)
 
-pub statuses_found : {E : Type 0} (text : List ℕ) (read : Result (Option (List Status)) E) → IfOk read (λ r. r ≡ statuses_in text) → IfOk read (λ r. IfSome r (λ xs. text ≡ statuses_column xs))
-statuses_found text (Ok r) e = all_read (λ xs. text ≡ statuses_column xs) r (λ xs is. sym (statuses_written text xs (sym e ∙ is)))
-statuses_found text (Err failed) e = tt
-
-pub statuses_only : {E : Type 0} (text : List ℕ) (read : Result (Option (List Status)) E) → IfOk read (λ r. r ≡ statuses_in text) → IfOk read (λ r. (xs : List Status) → text ≡ statuses_column xs → r ≡ Some xs)
-statuses_only text (Ok r) e = λ xs is. e ∙ ap statuses_in is ∙ statuses_back xs
-statuses_only text (Err failed) e = tt
-
 -- ---- cut and named
 
 pub empty_in : (text : List ℕ) → eqb (length text) 0 ≡ true → Some [] ≡ statuses_in text
@@ -169,18 +137,13 @@ pub named_more : (words : List (Bor (List ℕ))) (word : Bor (List ℕ)) (status
 named_more words word statuses s e named =
     map-append status_text statuses (s ∷ []) ∙ ap₂ ◌++◌ e (ap (λ t. t ∷ []) (sym (status_word word.now s (sym named)))) ∙ sym (map-append (λ (w : Bor (List ℕ)). w.now) words (word ∷ []))
 
-none_after : (o : Option Status) → ◌≡◌ {A = Option (List Status)} None (o >>= (λ s. None))
-none_after None = refl
-none_after (Some s) = refl
-
 -- where one names none, they are no list's
 pub none_named : (words : List (List ℕ)) (word : List ℕ) (i : ℕ) → (i < length words) × (word ≡ get_or words i word) → None ≡ status_named word → None ≡ statuses_named words
 none_named [] word i at none = let within : i < 0 = at.0 in absurd (omega arith)
-none_named (w ∷ ws) word zero at none = ap (λ (o : Option Status). o >>= (λ s. statuses_named ws >>= (λ ss. Some (s ∷ ss)))) (none ∙ ap status_named at.1)
+none_named (w ∷ ws) word zero at none = rw (← at.1, ← none)
 none_named (w ∷ ws) word (suc i) at none =
     let within : suc i < suc (length ws) = at.0 in
-    none_after (status_named w)
-    ∙ ap (λ (o : Option (List Status)). status_named w >>= (λ s. o >>= (λ ss. Some (s ∷ ss)))) (none_named ws word i ((omega arith), at.1) none)
+    rw (← (none_named ws word i ((omega arith), at.1) none)) (elim (status_named w) as (λ (o : Option Status). ◌≡◌ {A = Option (List Status)} None (o >>= (λ s. None))) [ None ↦ refl | Some s ↦ refl ])
 
 -- where they are the texts of statuses, they name these
 pub all_named : (words : List (List ℕ)) (xs : List Status) → map status_text xs ≡ words → Some xs ≡ statuses_named words

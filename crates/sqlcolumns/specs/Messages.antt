@@ -11,7 +11,7 @@ use Rattle.accounts.specs.declared.message.Origin.TheVariants.{Lapse, Command}
 use Rattle.accounts.specs.declared.message.Subject.{Subject}
 use Rattle.accounts.specs.declared.message.CommandNotice.TheVariants as commands
 use Rattle.sqltables.specs.declared.message.MessageRow.{MessageRow}
-use Rattle.sqlcolumns.specs.declared.origin.OriginColumns.{OriginColumns}
+use Rattle.sqlcolumns.specs.declared.message.OriginColumns.{OriginColumns}
 use Rattle.sqlcolumns.specs.Codes.{subject_column, subject_in, with_code}
 use Rattle.sqlcolumns.specs.Numbers.{exact_column, exact_in, moment_column, moment_in_column}
 use Rattle.sqlcolumns.specs.Steps.{◌>>=◌}
@@ -75,6 +75,9 @@ origin_made columns letter number notice =
 abbrev pub origin_in : OriginColumns → Option Origin
 origin_in columns = origin_made columns (lapse_notice_in columns.number) (exact_in columns.number) (command_notice_in columns.notice)
 
+abbrev pub origin_of : MessageRow → OriginColumns
+origin_of row = record { class = row.class; number = row.number; notice = row.notice }
+
 -- the message of these parts, if all are there
 abbrev pub message_made : Option ℕ → Option Origin → Option Subject → List ℕ → Option Message
 message_made moment origin subject name = do
@@ -86,4 +89,4 @@ message_made moment origin subject name = do
 -- the message of a row, if each column reads
 abbrev pub message_of_columns : MessageRow → Option Message
 message_of_columns row =
-    message_made (moment_in_column row.moment) (origin_in (record { class = row.class; number = row.number; notice = row.notice })) (subject_in row.subject) row.name
+    message_made (moment_in_column row.moment) (origin_in (origin_of row)) (subject_in row.subject) row.name

@@ -1,13 +1,9 @@
 -- Lists as one text.
-use Rattle.std.specs.Prelude.{ℕ, ◌==◌, Bool, List, [], ◌∷◌, ◌++◌, map, fold, Option, Some, None, if◌then◌else◌}
+use Rattle.std.specs.Prelude.{ℕ, ◌==◌, Bool, List, [], ◌∷◌, map, Option, Some, None, if◌then◌else◌}
 use Rattle.std.specs.List.{join_with_byte, list_any, slice_split}
 use Rattle.objects.specs.StatusTexts.{status_named, status_text}
 use Rattle.objects.specs.declared.status.Status.{Status}
 use Rattle.sqlcolumns.specs.Steps.{◌>>=◌}
-
--- each item's text after a byte
-abbrev pub after_each : {X : Type 0} → (X → List ℕ) → ℕ → List ℕ → List X → List ℕ
-after_each show c text items = fold (λ t x. (t ++ c ∷ []) ++ show x) text items
 
 -- the statuses' texts, with a blank between them
 abbrev pub statuses_column : List Status → List ℕ

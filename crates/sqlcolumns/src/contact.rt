@@ -8,8 +8,7 @@ use crate::registration::{
     Registration, RegistrationColumns, is_registration, registration_columns,
     registration_of_columns,
 };
-use crate::statuses::{statuses_column, statuses_of_column};
-use crate::street::{street_column, street_of_column};
+use crate::texts::{statuses_column, statuses_of_column, street_column, street_of_column};
 use crate::transfer::{is_same, maybe_due_column};
 use basis::list::Seq;
 use basis::text::{Text, copied};
@@ -107,15 +106,9 @@ pub fn contact_of_row(
 ) -> Result<Option<Contact>, AllocError>
     ensures { IfOk result (λ contact. contact ≡ spec.contact_of_columns row transfer) }
 {
-    let statuses = statuses_of(alloc, &row)?;
+    let statuses = statuses_of_column(alloc, row.statuses.as_str())?;
     let street = street_of(alloc, &row)?;
     Ok(contact_made(row, statuses, street, transfer))
-}
-
-fn statuses_of(alloc: Global, row: &ContactRow) -> Result<Option<Seq<Status>>, AllocError>
-    ensures { IfOk result (λ read. read ≡ statuses_in row.now.statuses) }
-{
-    statuses_of_column(alloc, row.statuses.as_str())
 }
 
 fn street_of(alloc: Global, row: &ContactRow) -> Result<Seq<Text>, AllocError>

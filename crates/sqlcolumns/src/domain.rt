@@ -13,7 +13,7 @@ use crate::registration::{
     Registration, RegistrationColumns, is_registration, registration_columns,
     registration_of_columns,
 };
-use crate::statuses::{statuses_column, statuses_of_column};
+use crate::texts::{statuses_column, statuses_of_column};
 use basis::list::Seq;
 use calendar::Moment;
 use objects::{Deletion, Domain, Links, ObjectKind, Status, Transfer};
@@ -131,14 +131,8 @@ pub fn domain_of_row(
 ) -> Result<Option<Domain>, AllocError>
     ensures { IfOk result (λ domain. domain ≡ spec.domain_of_columns row links transfer) }
 {
-    let statuses = statuses_of(alloc, &row)?;
+    let statuses = statuses_of_column(alloc, row.statuses.as_str())?;
     Ok(domain_made(row, statuses, links, transfer))
-}
-
-fn statuses_of(alloc: Global, row: &DomainRow) -> Result<Option<Seq<Status>>, AllocError>
-    ensures { IfOk result (λ read. read ≡ statuses_in row.now.statuses) }
-{
-    statuses_of_column(alloc, row.statuses.as_str())
 }
 
 /// The domain of these parts, if all are there.

@@ -11,7 +11,7 @@ use crate::moment::{
 };
 use crate::number::{is_maybe_place, maybe_registrar_column, maybe_registrar_of_column};
 use crate::roid::{RoidColumns, is_roid, roid_columns, roid_of_columns};
-use crate::statuses::{statuses_column, statuses_of_column};
+use crate::texts::{statuses_column, statuses_of_column};
 use basis::list::Seq;
 use basis::registrar::RegistrarNo;
 use basis::text::Text;
@@ -85,21 +85,9 @@ pub fn host_of_row(
 ) -> Result<Option<Host>, AllocError>
     ensures { IfOk result (λ host. host ≡ spec.host_of_columns row addresses) }
 {
-    let statuses = statuses_of(alloc, &row)?;
-    let above = above_of(alloc, &row)?;
+    let statuses = statuses_of_column(alloc, row.statuses.as_str())?;
+    let above = above_column(alloc, row.name.as_str())?;
     Ok(host_made(row, statuses, above, addresses))
-}
-
-fn statuses_of(alloc: Global, row: &HostRow) -> Result<Option<Seq<Status>>, AllocError>
-    ensures { IfOk result (λ read. read ≡ statuses_in row.now.statuses) }
-{
-    statuses_of_column(alloc, row.statuses.as_str())
-}
-
-fn above_of(alloc: Global, row: &HostRow) -> Result<Text, AllocError>
-    ensures { IfOk result (λ text. text ≡ above row.now.name) }
-{
-    above_column(alloc, row.name.as_str())
 }
 
 /// The host of these parts, if all are there.

@@ -13,11 +13,9 @@ mod line;
 mod message;
 mod moment;
 mod number;
-mod origin;
 mod registration;
 mod roid;
-mod statuses;
-mod street;
+mod texts;
 mod transfer;
 
 pub use above::above_column;
@@ -33,6 +31,5 @@ pub use number::{
     maybe_registrar_of_column, registrar_column, registrar_of_column, years_column,
     years_of_column,
 };
-pub use statuses::{statuses_column, statuses_of_column};
-pub use street::{street_column, street_of_column};
+pub use texts::{statuses_column, statuses_of_column, street_column, street_of_column};
 pub use transfer::{is_same, is_transfer, transfer_of_row, transfer_row};

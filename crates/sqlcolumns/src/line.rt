@@ -43,7 +43,8 @@ pub fn line_row(id: i64, account: i64, line: &Line, ends: Option<i64>) -> Option
     })
 }
 
-/// The line of a row, if it's one's. The end of its grace isn't looked at.
+/// The line of a row, if each column but that of its grace's end reads.
+#[tactic(auto, using(crate::proofs::LineLemmas::line_written, crate::proofs::LineLemmas::line_back))]
 pub fn line_of_row(row: &LineRow) -> Option<Line>
     ensures value { result ≡ spec.line_of_columns row.now }
     ensures found { IfSome result (λ line. inner_spec.row_of_line row.now.id row.now.account line
@@ -51,13 +52,6 @@ pub fn line_of_row(row: &LineRow) -> Option<Line>
     ensures only { (line : Line) → inner_spec.IsStorableLine line
         → inner_spec.row_of_line row.now.id row.now.account line row.now.grace.ends ≡ Some row.now
         → result ≡ Some line }
-{
-    read(row)
-}
-
-/// The line of a row, if each column but that of its grace's end reads.
-fn read(row: &LineRow) -> Option<Line>
-    ensures { result ≡ spec.line_of_columns row.now }
 {
     Some(Line {
         kind: LineKind::of_column(row.kind)?,

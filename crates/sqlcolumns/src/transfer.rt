@@ -58,7 +58,8 @@ pub(crate) fn maybe_due_column(transfer: &Option<Transfer>) -> Option<i64>
     due_column(transfer.as_ref()?)
 }
 
-/// The transfer of a row, if it's one's.
+/// The transfer of a row, if each column reads, and it's due when it says.
+#[tactic(auto, using(crate::proofs::TransferLemmas::transfer_written, crate::proofs::TransferLemmas::transfer_back))]
 pub fn transfer_of_row(row: &TransferRow) -> Option<Transfer>
     ensures value { result ≡ spec.transfer_of_columns row.now }
     ensures found { IfSome result (λ t. spec.row_of_transfer row.now.id row.now.contact row.now.domain
@@ -66,13 +67,6 @@ pub fn transfer_of_row(row: &TransferRow) -> Option<Transfer>
     ensures only { (t : Transfer) → spec.IsStorableTransfer t
         → spec.row_of_transfer row.now.id row.now.contact row.now.domain t ≡ row.now
         → result ≡ Some t }
-{
-    read(row)
-}
-
-/// The transfer of a row, if each column reads, and it's due when it says.
-fn read(row: &TransferRow) -> Option<Transfer>
-    ensures { result ≡ spec.transfer_of_columns row.now }
 {
     let transfer = Transfer {
         requester: registrar_of_column(row.requester)?,

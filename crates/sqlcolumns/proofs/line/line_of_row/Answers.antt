@@ -1,10 +1,12 @@
-use Rattle.std.proofs.Common.{◌≡◌, Some, sym, ◌∙◌}
-use Rattle.sqlcolumns.specs.inner.Lines.{row_of_line}
-use Rattle.sqlcolumns.proofs.{LineLemmas.{line_back, line_written}, ReadLemmas.all_read}
+use Rattle.std.proofs.Common.{rules, sym, ◌∙◌}
+use Rattle.sqlcolumns.proofs.LineLemmas.{line_back, line_written}
 use Rattle.sqlcolumns.proofs.line.line_of_row.Goals as goal
 
+pub returns-clause-value : goal.returns-clause-value
+returns-clause-value c = search rules
+
 pub returns-clause-found : goal.returns-clause-found
-returns-clause-found c = all_read (λ line. row_of_line c.args.row.now.id c.args.row.now.account line c.args.row.now.grace.ends ≡ Some c.args.row.now) c.read.result (λ line is. line_written c.args.row.now line (sym c.read.ensures ∙ is))
+returns-clause-found c = line_written c.args.row.now _ (sym (returns-clause-value c))
 
 pub returns-clause-only : goal.returns-clause-only
-returns-clause-only c = λ line is e. c.read.ensures ∙ line_back c.args.row.now.id c.args.row.now.account line c.args.row.now.grace.ends c.args.row.now is e
+returns-clause-only c = λ line is e. returns-clause-value c ∙ line_back _ _ line _ c.args.row.now is e

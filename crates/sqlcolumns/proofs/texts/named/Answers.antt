@@ -3,7 +3,7 @@ use Rattle.std.proofs.lemmas.Iterator.{Consumers.{YieldsList-end, YieldsList-tur
 use Rattle.std.specs.List.{slice_split}
 use Rattle.objects.specs.StatusTexts.{status_named, status_text}
 use Rattle.sqlcolumns.proofs.TextLemmas.{all_named, empty_in, filled_in, named_more, none_named}
-use Rattle.sqlcolumns.proofs.statuses.named.Goals as goal
+use Rattle.sqlcolumns.proofs.texts.named.Goals as goal
 
 pub returns-then-is_empty : goal.returns-then-is_empty
 returns-then-is_empty c = ap Some c.new.ensures ∙ empty_in c.args.text.now (sym c.is_empty.ensures ∙ c.if-is_empty.true)

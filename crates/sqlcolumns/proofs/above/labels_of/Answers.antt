@@ -1,5 +1,0 @@
-use Rattle.std.proofs.{Common.lit<, lemmas.Iterator.{Consumers.map_from_collect, Splits.YieldsList-from_str_split}}
-use Rattle.sqlcolumns.proofs.above.labels_of.Goals as goal
-
-pub returns : goal.returns
-returns c = map_from_collect _ c.collect.ensures.ran (YieldsList-from_str_split 46 c.args.name.now (lit< tt) c.split.ensures.text c.split.ensures.has_more c.split.ensures.pattern)

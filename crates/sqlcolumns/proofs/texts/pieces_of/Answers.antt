@@ -1,0 +1,5 @@
+use Rattle.std.proofs.lemmas.Iterator.{Consumers.map_from_collect, Splits.YieldsList-from_str_split}
+use Rattle.sqlcolumns.proofs.texts.pieces_of.Goals as goal
+
+pub returns : goal.returns
+returns c = map_from_collect _ c.collect.ensures.ran (YieldsList-from_str_split c.args.at c.args.text.now c.requires c.split.ensures.text c.split.ensures.has_more c.split.ensures.pattern)
