@@ -2,8 +2,8 @@
 use Rattle.std.proofs.Common.{◌≡◌, ℕ, ℤ, pos, negsuc, Bool, true, false, cond, ◌&&◌, length, List, [], ◌∷◌, Option, Some, None, inl, inr, refl, sym, ap, ◌∙◌, int_eq, arith}
 use Rattle.std.specs.FinMap.{find}
 use Rattle.sqlaccounts.proofs.Words.{Account, account_of_row, account_of_rows, AccountRow, accounts_of, and_parts, balance_in, cases_Bool, Content}
-use Rattle.sqlaccounts.proofs.Words.{counters_in, counters_of, empty_account, entries_of, eq_by_cmp, eq_by_cmp_equiv, Equal-is, exact_in, get}
-use Rattle.sqlaccounts.proofs.Words.{get-from_entries, get-insert, get_by, has_right_sums, insert_by, ints, is_exact, is_place, is_right, key-get_by}
+use Rattle.sqlaccounts.proofs.Words.{counters_in, counters_of, empty_account, entries_of, eq_by_cmp, eq_by_cmp_equiv, Equal-is, exact_in, FinMap, get}
+use Rattle.sqlaccounts.proofs.Words.{get-from_entries, get-insert, get_by, has_right_sums, insert, insert_by, ints, is_exact, is_place, is_right, key-get_by}
 use Rattle.sqlaccounts.proofs.Words.{lines_under, list_all, nat_cmp, nat_cmp-IsAntisymmetric, nat_cmp_total, nat_tests, option_map, option_map_or}
 use Rattle.sqlaccounts.proofs.Words.{queue_under, registrar_in, row_of, same_int, same_map, sums_are_right, unwrap_or, with_account_changed}
 use Rattle.accounts.specs.Lines.{balance}
@@ -28,17 +28,9 @@ entry : (q : ℕ) (id : ℤ) (v : Account) (es : List (ℕ × Account)) → find
 entry q (pos n) v es = rw (nat-int n q) (entry-pos q n v es)
 entry q (negsuc n) v es = refl
 
-no_entry : (b : Bool) → ◌≡◌ {A = Option Account} None (cond b None None)
-no_entry b = grind arith
-
-joined : (f : AccountRow → Account) (b p : Bool) (row : AccountRow) (o : Option AccountRow) → cond (b && p) (Some (f row)) (cond p (option_map f o) None) ≡ cond p (option_map f (cond b (Some row) o)) None
-joined f b p row o = grind arith
-
 find-entries : (xs : Content) (rows : List AccountRow) (q : ℕ) → find nat_cmp q (entries_of xs rows) ≡ account_at xs q (get_by key rows (pos q))
-find-entries xs [] q = no_entry (is_place q)
-find-entries xs (row ∷ rows) q =
-    entry q row.id (account_of_row xs row) (entries_of xs rows) ∙ ap (cond (int_eq row.id (pos q) && is_place q) (Some (account_of_row xs row))) (find-entries xs rows q)
-    ∙ joined (account_of_row xs) (int_eq row.id (pos q)) (is_place q) row (get_by key rows (pos q))
+find-entries xs [] q = grind arith
+find-entries xs (row ∷ rows) q = grind (arith, entry q row.id (account_of_row xs row) (entries_of xs rows), find-entries xs rows q)
 
 pub get-accounts_of : (xs : Content) (q : ℕ) → get (accounts_of xs) q ≡ account_at xs q (row_of xs (pos q))
 get-accounts_of xs q = get-from_entries nat_cmp_total (entries_of xs xs.accounts) q ∙ find-entries xs xs.accounts q
@@ -60,30 +52,24 @@ module _ (xs : Content) (q : ℕ) (place : is_place q ≡ true) where
   account-found : (row : Option AccountRow) → row ≡ row_of xs (pos q) → unwrap_or (option_map (account_of_row xs) row) empty_account ≡ account_of_rows q xs
   account-found row is = ap (λ o. unwrap_or (option_map (account_of_row xs) o) empty_account) is ∙ sym (ap (λ a. unwrap_or a empty_account) (get-accounts_of xs q ∙ ap (λ b. cond b (option_map (account_of_row xs) (row_of xs (pos q))) None) place))
 
-  pub counters-found : (row : Option AccountRow) → row ≡ row_of xs (pos q) → counters_in row ≡ counters_of (account_of_rows q xs)
-  counters-found row is = go row ∙ ap counters_of (account-found row is)
-    where
-      go : (row : Option AccountRow) → counters_in row ≡ counters_of (unwrap_or (option_map (account_of_row xs) row) empty_account)
-      go None = refl
-      go (Some row) = refl
+  pub counters_found : (row : Option AccountRow) → row ≡ row_of xs (pos q) → counters_in row ≡ counters_of (account_of_rows q xs)
+  counters_found None is = ap counters_of (account-found None is)
+  counters_found (Some row) is = ap counters_of (account-found (Some row) is)
 
   right-there : (row : Option AccountRow) → row ≡ row_of xs (pos q) → sums_are_right xs ≡ true → option_map_or (is_right xs) row true ≡ true
   right-there None is sums = refl
   right-there (Some row) is sums = ap (λ r. option_map_or (is_right xs) r true) is ∙ (and_parts _ _ (all_with key (has_right_sums xs) xs.accounts (pos q) row (sym is) ∙ sums)).0
 
-  pub balance-found : (row : Option AccountRow) → row ≡ row_of xs (pos q) → sums_are_right xs ≡ true → option_map_or (λ (r : AccountRow). balance_in r.balance) row (pos 0) ≡ balance (account_of_rows q xs).lines
-  balance-found row is sums = go row (right-there row is sums) ∙ ap (λ (a : Account). balance a.lines) (account-found row is)
-    where
-      go : (row : Option AccountRow) → option_map_or (is_right xs) row true ≡ true → option_map_or (λ (r : AccountRow). balance_in r.balance) row (pos 0) ≡ balance (unwrap_or (option_map (account_of_row xs) row) empty_account).lines
-      go None right = no_lines
-      go (Some row) right = same_int _ _ (and_parts _ _ right).0
+  pub balance_found : (row : Option AccountRow) → row ≡ row_of xs (pos q) → sums_are_right xs ≡ true → option_map_or (λ (r : AccountRow). balance_in r.balance) row (pos 0) ≡ balance (account_of_rows q xs).lines
+  balance_found None is sums = no_lines ∙ ap (λ (a : Account). balance a.lines) (account-found None is)
+  balance_found (Some row) is sums = same_int _ _ (and_parts _ _ (right-there (Some row) is sums)).0 ∙ ap (λ (a : Account). balance a.lines) (account-found (Some row) is)
 
-  pub waiting-found : (row : Option AccountRow) (n : ℕ) → row ≡ row_of xs (pos q) → sums_are_right xs ≡ true → exact_in (option_map_or (λ (r : AccountRow). r.waiting) row (pos 0)) ≡ Some n → n ≡ length (account_of_rows q xs).queue
-  waiting-found row n is sums e = go row (right-there row is sums) e ∙ ap (λ (a : Account). length a.queue) (account-found row is)
-    where
-      go : (row : Option AccountRow) → option_map_or (is_right xs) row true ≡ true → exact_in (option_map_or (λ (r : AccountRow). r.waiting) row (pos 0)) ≡ Some n → n ≡ length (unwrap_or (option_map (account_of_row xs) row) empty_account).queue
-      go None right e = exact-is n 0 (is_exact 0) e
-      go (Some row) right e = let count = length (queue_under xs row.id) in exact-is n count (is_exact count) (sym (ap exact_in (same_int row.waiting (pos count) (and_parts _ _ right).1)) ∙ e)
+  pub waiting_found : (row : Option AccountRow) (n : ℕ) → row ≡ row_of xs (pos q) → sums_are_right xs ≡ true → exact_in (option_map_or (λ (r : AccountRow). r.waiting) row (pos 0)) ≡ Some n → n ≡ length (account_of_rows q xs).queue
+  waiting_found None n is sums e = exact-is n 0 (is_exact 0) e ∙ ap (λ (a : Account). length a.queue) (account-found None is)
+  waiting_found (Some row) n is sums e =
+      let count = length (queue_under xs row.id) in
+      let same : row.waiting ≡ pos count = same_int _ _ (and_parts _ _ (right-there (Some row) is sums)).1 in
+      exact-is n count (is_exact count) (sym (ap exact_in same) ∙ e) ∙ ap (λ (a : Account). length a.queue) (account-found (Some row) is)
 
 -- ---- one row in the place of another, or beside all others
 
@@ -145,7 +131,7 @@ module _ (xs ys : Content) (r : ℕ) (f : Account → Account) (new : AccountRow
 
   own : (o : Option AccountRow) → row_of xs (pos r) ≡ o
       → (has_right_sums xs (pos r) && list_all (λ x. has_right_sums xs (key x)) xs.accounts) ≡ list_all (λ x. has_right_sums xs (key x)) xs.accounts
-  own None e = ap (λ o. option_map_or (is_right xs) o true && list_all (λ x. has_right_sums xs (key x)) xs.accounts) e
+  own None e = rw e
   own (Some row) e = all_with key (has_right_sums xs) xs.accounts (pos r) row e
 
   pub sums-put : sums_are_right ys ≡ sums_are_right xs
@@ -158,18 +144,14 @@ module _ (xs ys : Content) (r : ℕ) (f : Account → Account) (new : AccountRow
 
 -- ---- nothing changed
 
-module _ (xs : Content) (r : ℕ) (f : Account → Account) (row : AccountRow) (place : is_place r ≡ true) (there : row_of xs (pos r) ≡ Some row) (still : f (account_of_row xs row) ≡ account_of_row xs row) where
-  stays : Account
-  stays = f (unwrap_or (get (accounts_of xs) r) empty_account)
+put-same : (m : FinMap nat_cmp Account) (r : ℕ) (a : Account) → get m r ≡ Some a → m ≡ insert m r a
+put-same m r a there = same_map nat_cmp_total nat_cmp-IsAntisymmetric _ _ (λ q. sym (get-insert nat_cmp_total m r a q ∙ elim (cases_Bool (eq_by_cmp nat_cmp q r)) [
+  | inl e ↦ rw (e, nat_cmp-IsAntisymmetric q r ((Equal-is (nat_cmp q r)).0 e), there)
+  | inr e ↦ rw e
+]))
 
-  stays_is : get (accounts_of xs) r ≡ Some stays
-  unfolding stays
-  stays_is = get-found xs r row place there ∙ ap Some (sym still ∙ sym (ap (λ a. f (unwrap_or a empty_account)) (get-found xs r row place there)))
-
-  stays_at : (q : ℕ) (b : Bool) → eq_by_cmp nat_cmp q r ≡ b → get (accounts_of xs) q ≡ cond b (Some stays) (get (accounts_of xs) q)
-  stays_at q true e = ap (get (accounts_of xs)) (nat_cmp-IsAntisymmetric q r ((Equal-is (nat_cmp q r)).0 e)) ∙ stays_is
-  stays_at q false e = refl
-
-  pub kept_accounts : accounts_of xs ≡ with_account_changed f (accounts_of xs) r
-  unfolding stays
-  kept_accounts = same_map nat_cmp_total nat_cmp-IsAntisymmetric _ _ (λ q. stays_at q (eq_by_cmp nat_cmp q r) refl ∙ sym (get-insert nat_cmp_total (accounts_of xs) r stays q))
+pub kept_accounts : (xs : Content) (r : ℕ) (f : Account → Account) (row : AccountRow) → is_place r ≡ true → row_of xs (pos r) ≡ Some row → f (account_of_row xs row) ≡ account_of_row xs row
+    → accounts_of xs ≡ with_account_changed f (accounts_of xs) r
+kept_accounts xs r f row place there still =
+    let found = get-found xs r row place there in
+    put-same (accounts_of xs) r (account_of_row xs row) found ∙ ap (insert (accounts_of xs) r) (sym (ap (λ a. f (unwrap_or a empty_account)) found ∙ still))

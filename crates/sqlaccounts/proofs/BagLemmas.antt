@@ -1,6 +1,6 @@
 -- Parts of bags.
-use Rattle.std.proofs.Common.{◌≡◌, Bool, false, not, List, [], ◌∷◌, ◌++◌, map, filter, inl, inr, refl, sym, ap, ◌∙◌, append-nil}
-use Rattle.sqlaccounts.proofs.Words.{add-add, cases_Bool, IsLinear}
+use Rattle.std.proofs.Common.{arith, ◌≡◌, Bool, false, not, List, [], ◌∷◌, ◌++◌, map, filter, refl, sym, ap, ◌∙◌, append-nil}
+use Rattle.sqlaccounts.proofs.Words.{add-add, IsLinear}
 use Rattle.basis.specs.Bag.{add, bag_of}
 
 pub bag-nil : {A : Type 0} (le : A → A → Bool) → bag_of le [] ≡ []
@@ -11,7 +11,7 @@ module _ {A : Type 0} (le : A → A → Bool) (h : IsLinear le) where
   pub bag-added : (x : A) (ys zs : List A) → bag_of le (add le x ys ++ zs) ≡ add le x (bag_of le (ys ++ zs))
   unfolding bag_of add
   bag-added x [] zs = refl
-  bag-added x (y ∷ ys) zs = elim (cases_Bool (le x y)) [ inl e ↦ rw e | inr e ↦ rw (e, bag-added x ys zs, add-add le h y x (bag_of le (ys ++ zs))) ]
+  bag-added x (y ∷ ys) zs = grind (arith, bag-added x ys zs, add-add le h y x (bag_of le (ys ++ zs)))
 
   -- a bag's items are the list's
   pub bag-bag : (xs zs : List A) → bag_of le (bag_of le xs ++ zs) ≡ bag_of le (xs ++ zs)
@@ -32,12 +32,9 @@ module _ {A : Type 0} (le : A → A → Bool) (h : IsLinear le) where
   pub bag-parts : (p : A → Bool) (xs : List A) → bag_of le xs ≡ bag_of le (filter p xs ++ filter (λ y. not (p y)) xs)
   unfolding bag_of
   bag-parts p [] = refl
-  bag-parts p (x ∷ xs) = elim (cases_Bool (p x)) [
-    | inl e ↦ rw (e, bag-parts p xs)
-    | inr e ↦ rw (e, bag-middle (filter p xs) x (filter (λ y. not (p y)) xs), bag-parts p xs)
-  ]
+  bag-parts p (x ∷ xs) = grind (arith, bag-parts p xs, bag-middle (filter p xs) x (filter (λ y. not (p y)) xs))
 
 -- what a change leaves of those that fail a test
 pub map-others : {A : Type 0} (p : A → Bool) (f : A → A) → ((x : A) → p x ≡ false → f x ≡ x) → (xs : List A) → map f (filter (λ y. not (p y)) xs) ≡ filter (λ y. not (p y)) xs
 map-others p f out [] = refl
-map-others p f out (x ∷ xs) = elim (cases_Bool (p x)) [ inl e ↦ rw (e, map-others p f out xs) | inr e ↦ rw (e, out x e, map-others p f out xs) ]
+map-others p f out (x ∷ xs) = grind (arith, map-others p f out xs, out x)

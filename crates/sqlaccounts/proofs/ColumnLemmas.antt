@@ -1,54 +1,34 @@
 -- What a message is in the columns of its row, and the order of rows.
-use Rattle.std.proofs.Common.{◌≡◌, ℕ, ℤ, pos, true, false, ◌&&◌, List, Option, Some, None, inl, inr, refl, sym, ap, subst, ◌∙◌, int_cmp, int_eq, arith}
-use Rattle.std.specs.{declared.cmp.Ordering.TheVariants.{Less, Equal, Greater}, Cmp.Lexicographic.{nat_list_cmp_total, slice_cmp}}
-use Rattle.sqlaccounts.proofs.Words.{and_from, and_parts, by_then_key, cases_Bool, Equal-is, exact_in, int_cmp_total, ints, is_exact, is_gt}
-use Rattle.sqlaccounts.proofs.Words.{IsTotalOrder, kept, Message, message_cmp, message_of_columns, MessageRow, moment_in_column, nat_cmp}
+use Rattle.std.proofs.Common.{◌≡◌, ℕ, ℤ, pos, true, false, List, Some, sym, ap, ◌∙◌, int_cmp, arith}
+use Rattle.std.specs.{Cmp.Lexicographic.{nat_list_cmp_total, slice_cmp}}
+use Rattle.sqlaccounts.proofs.Words.{and_parts, by_then_key, Equal-is, exact_column, int_cmp_total, ints, is_exact, is_gt}
+use Rattle.sqlaccounts.proofs.Words.{IsTotalOrder, kept, Message, message_cmp, message_of_columns, MessageRow, nat_cmp}
 use Rattle.sqlaccounts.proofs.Words.{nat_cmp-IsAntisymmetric, nat_tests, on_total, Ordering, ordering_then, row_of_message, same_int, same_some}
-use Rattle.sqlaccounts.proofs.{Words.{slice_cmp-IsAntisymmetric, step, then_total, ◌>>=◌}, FindingLemmas.equal}
+use Rattle.sqlaccounts.proofs.{Words.{slice_cmp-IsAntisymmetric, step, then_total}}
 use Rattle.sqlite_typed.specs.Tests.{bytes_eq}
 use Rattle.calendar.specs.Moment.{IsMoment}
 use Rattle.accounts.specs.declared.message.Origin.{Origin, TheVariants.{Lapse, Command}}
 use Rattle.accounts.specs.Messages.{class_of, number_of, subject_rank, tie_of}
 use Rattle.sqltables.specs.Message as table
 use Rattle.sqltables.proofs.RowLemmas.{bytes_same}
-use Rattle.sqlcolumns.specs.Codes.{subject_in}
-use Rattle.sqlcolumns.specs.Messages.{command_made, command_notice_in, lapse_made, lapse_notice_in, origin_columns, origin_in}
-use Rattle.sqlcolumns.proofs.{CodeLemmas.subject_written, MessageLemmas.{command_notice_written, lapse_notice_written, message_back}}
-use Rattle.sqlcolumns.proofs.NumberLemmas.{exact_written, moment_written}
-use Rattle.sqlaccounts.specs.inner.QueueRows.{IsWritten}
+use Rattle.sqlcolumns.{proofs.MessageLemmas.{message_back, message_written}, specs.Messages.origin_columns}
+use Rattle.sqlaccounts.specs.inner.Queue.{IsWritten}
 
 -- ---- columns
 
-abbrev origin_at : MessageRow → Option Origin
-origin_at row = origin_in (record { class = row.class; number = row.number; notice = row.notice })
+record IsOrigin (class number notice : ℤ) (o : Origin) : Type 0 where
+  pub class_is : class ≡ pos (class_of o)
+  pub number_is : number ≡ pos (number_of o)
+  pub notice_is : notice ≡ pos (tie_of o)
 
-record IsOrigin (row : MessageRow) (o : Origin) : Type 0 where
-  pub class : row.class ≡ pos (class_of o)
-  pub number : row.number ≡ pos (number_of o)
-  pub notice : row.notice ≡ pos (tie_of o)
-
-lapse_shown : (row : MessageRow) (o : Origin) → row.class ≡ pos 0 → row.notice ≡ pos 0 → lapse_made (lapse_notice_in row.number) ≡ Some o → IsOrigin row o
-lapse_shown row o class notice e =
-    let letter = step (lapse_notice_in row.number) (λ l. Some (Lapse l)) o e in
-    let same : Lapse letter.given ≡ o = same_some _ _ letter.rest in
-    subst (IsOrigin row) same (record { class = class; number = sym (lapse_notice_written row.number letter.given letter.is); notice = notice })
-
-command_shown : (row : MessageRow) (o : Origin) → row.class ≡ pos 1 → command_made (exact_in row.number) (command_notice_in row.notice) ≡ Some o → IsOrigin row o
-command_shown row o class e =
-    let number = step (exact_in row.number) (λ n. command_notice_in row.notice >>= (λ k. Some (Command n k))) o e in
-    let notice = step (command_notice_in row.notice) (λ k. Some (Command number.given k)) o number.rest in
-    let same : Command number.given notice.given ≡ o = same_some _ _ notice.rest in
-    let is : pos number.given ≡ row.number = (kept (pos number.given) row.number (is_exact number.given) (exact_written row.number number.given number.is)).1 in
-    subst (IsOrigin row) same (record { class = class; number = sym is; notice = sym (command_notice_written row.notice notice.given notice.is) })
-
-origin_shown : (row : MessageRow) (o : Origin) → origin_at row ≡ Some o → IsOrigin row o
-origin_shown row o e = elim (cases_Bool (int_eq row.class (pos 0) && int_eq row.notice (pos 0))) [
-  | inl t ↦ let tests = and_parts (int_eq row.class (pos 0)) (int_eq row.notice (pos 0)) t in lapse_shown row o (same_int row.class (pos 0) tests.0) (same_int row.notice (pos 0) tests.1) (rw t at e)
-  | inr t ↦ elim (cases_Bool (int_eq row.class (pos 1))) [
-    | inl f ↦ command_shown row o (same_int row.class (pos 1) f) (rw (t, f) at e)
-    | inr f ↦ let never : ◌≡◌ {A = Option Origin} None (Some o) = rw (t, f) at e in cc
-  ]
-]
+origin_shown : (class number notice : ℤ) (o : Origin) → origin_columns o ≡ Some (record { class = class; number = number; notice = notice }) → IsOrigin class number notice o
+origin_shown class number notice (Lapse letter) e =
+    let same = same_some _ _ (sym e) in
+    record { class_is = λ i. (same i).class; number_is = λ i. (same i).number; notice_is = λ i. (same i).notice }
+origin_shown class number notice (Command n k) e =
+    let exact = step (exact_column n) _ _ e in
+    let same = same_some _ _ (sym exact.rest) in
+    record { class_is = λ i. (same i).class; number_is = (λ i. (same i).number) ∙ sym (kept (pos n) exact.given (is_exact n) exact.is).1; notice_is = λ i. (same i).notice }
 
 -- the columns of a message's row
 pub record IsShown (row : MessageRow) (m : Message) : Type 0 where
@@ -61,18 +41,16 @@ pub record IsShown (row : MessageRow) (m : Message) : Type 0 where
 
 pub shown : (row : MessageRow) (m : Message) → message_of_columns row ≡ Some m → IsShown row m
 shown row m e =
-    let moment = step (moment_in_column row.moment) _ m e in
-    let origin = step (origin_at row) _ m moment.rest in
-    let subject = step (subject_in row.subject) _ m origin.rest in
-    let same : ◌≡◌ {A = Message} (record { moment = moment.given; origin = origin.given; name = row.name; subject = subject.given }) m = same_some _ _ subject.rest in
-    let is = origin_shown row origin.given origin.is in
+    let o = step (origin_columns m.origin) _ row (message_written row m e) in
+    let same = same_some _ row o.rest in
+    let is = origin_shown o.given.class o.given.number o.given.notice m.origin o.is in
     record {
-      moment = sym (moment_written row.moment moment.given moment.is) ∙ λ i. pos ((same i).moment);
-      class = is.class ∙ λ i. pos (class_of ((same i).origin));
-      number = is.number ∙ λ i. pos (number_of ((same i).origin));
-      name = λ i. (same i).name;
-      subject = sym (subject_written row.subject subject.given subject.is) ∙ λ i. pos (subject_rank ((same i).subject));
-      notice = is.notice ∙ λ i. pos (tie_of ((same i).origin));
+      moment = λ i. (sym same i).moment;
+      class = (λ i. (sym same i).class) ∙ is.class_is;
+      number = (λ i. (sym same i).number) ∙ is.number_is;
+      name = λ i. (sym same i).name;
+      subject = λ i. (sym same i).subject;
+      notice = (λ i. (sym same i).notice) ∙ is.notice_is;
     }
 
 -- a message is read from the row that is written of it
@@ -103,13 +81,8 @@ pub same_columns : (r x : MessageRow) (m : Message) → x.account ≡ r.account 
 same_columns r x m account reads also =
     let a = shown x m also in
     let b = shown r m reads in
-    and_from _ _ (equal x.account r.account account)
-    (and_from _ _ (equal x.moment r.moment (a.moment ∙ sym b.moment))
-    (and_from _ _ (equal x.class r.class (a.class ∙ sym b.class))
-    (and_from _ _ (equal x.number r.number (a.number ∙ sym b.number))
-    (and_from _ _ (bytes_same x.name r.name (a.name ∙ sym b.name))
-    (and_from _ _ (equal x.subject r.subject (a.subject ∙ sym b.subject))
-    (equal x.notice r.notice (a.notice ∙ sym b.notice)))))))
+    let name = bytes_same x.name r.name (a.name ∙ sym b.name) in
+    grind (arith, ints, a, b, account, name)
 
 -- ---- the order of rows
 
@@ -121,9 +94,7 @@ columns_cmp : {a b : ℤ} {m n : ℕ} → a ≡ pos m → b ≡ pos n → int_cm
 columns_cmp {a} {b} {m} {n} e f = (λ i. int_cmp (e i) (f i)) ∙ number_cmp m n
 
 then_then : (a b c : Ordering) → ordering_then a (ordering_then b c) ≡ ordering_then (ordering_then a b) c
-then_then Less b c = refl
-then_then Equal b c = refl
-then_then Greater b c = refl
+then_then a b c = grind arith
 
 abbrev pub row_cmp : MessageRow → MessageRow → Ordering
 row_cmp = by_then_key table.messages table.message_order
@@ -148,9 +119,7 @@ row_cmp_total =
     (on_total (λ (m : MessageRow). m.id) int_cmp_total))))))
 
 not_past : (a b : Ordering) → is_gt (ordering_then a b) ≡ false → is_gt a ≡ false
-not_past Less b e = refl
-not_past Equal b e = refl
-not_past Greater b e = e
+not_past a b e = grind (arith, e)
 
 -- the message of a row that stands before another's row isn't after the other's
 pub message_first : (a b : MessageRow) (m n : Message) → message_of_columns a ≡ Some m → message_of_columns b ≡ Some n → is_gt (row_cmp a b) ≡ false → is_gt (message_cmp m n) ≡ false

@@ -1,11 +1,11 @@
 -- Which rows of lines are found, and what is left without one of them.
-use Rattle.std.proofs.Common.{◌≡◌, inl, inr, ℕ, ℤ, ◌<ℤ◌, Bool, true, false, cond, not, ◌&&◌, ◌||◌, List, [], ◌∷◌, ◌++◌, filter, find, Option, Some, None, IfSome, refl, sym, ap, ◌∙◌, arith, int_eq, true≢false}
-use Rattle.sqlaccounts.proofs.Words.{all_has, all_weaker, and_from, and_parts, cases_Bool, cons_option, counter_column, Decides-int_eq, delete_where}
-use Rattle.sqlaccounts.proofs.Words.{false_from_ne_true, filter_all, filter_map, Has, has_filtered, has_found, has_kept, in_order, int_eq_apart}
+use Rattle.std.proofs.Common.{◌≡◌, inl, inr, ℕ, ℤ, ◌<ℤ◌, Bool, true, false, not, ◌&&◌, List, [], ◌∷◌, ◌++◌, filter, find, Option, Some, None, IfSome, refl, sym, ap, ◌∙◌, arith, int_eq}
+use Rattle.sqlaccounts.proofs.Words.{all_has, all_weaker, and_from, and_parts, cons_option, counter_column, Decides-int_eq, delete_where}
+use Rattle.sqlaccounts.proofs.Words.{false_from_ne_true, filter_all, filter_map, Has, has_filtered, has_found, has_kept, in_order}
 use Rattle.sqlaccounts.proofs.Words.{ints, is_line, is_of, is_on, is_row_about, is_same_roid, IsDomainRoid, IsKeyedBy, itself-roid, Line, line-told}
 use Rattle.sqlaccounts.proofs.Words.{line_of_columns, line_with_account, LineRow, list_any, maybe_domain_in, option_map_or, reads_as}
 use Rattle.sqlaccounts.proofs.Words.{registrar_column, Roid, same, same-in_order, same-roids, same_from_decides, same_int, same_some, some_has}
-use Rattle.sqlaccounts.proofs.Words.{some_read, ◌>>=◌}
+use Rattle.sqlaccounts.proofs.Words.{some_read}
 use Rattle.sqlite_keyed.specs.Rules.{points_to}
 use Rattle.objects.specs.declared.roid.ObjectKind.TheVariants.{Domain}
 use Rattle.sqlcolumns.specs.Roids.{roid_in}
@@ -33,12 +33,10 @@ module _ (roid : Roid) (is : IsDomainRoid roid) where
       )
 
   of_columns : (c s : Option ℤ) (o : Option Roid) → maybe_domain_in c s ≡ Some o → is_of roid o ≡ (points_to c (registrar_column roid.creator) && points_to s (counter_column roid.serial))
-  of_columns None None None e = refl
-  of_columns None None (Some x) e = cc
-  of_columns None (Some s) o e = cc
-  of_columns (Some c) None o e = cc
+  of_columns None None o e = grind (arith, e)
   of_columns (Some c) (Some s) o e =
       some_read (roid_in Domain c s) o (λ m. is_of roid m ≡ (int_eq c (registrar_column roid.creator) && int_eq s (counter_column roid.serial))) (λ x read. same_columns c s x read) e
+  of_columns c s o e = cc
 
 -- a row that reads is on the domain by its columns
 pub on-row : (roid : Roid) → IsDomainRoid roid → (row : LineRow) (line : Line) → line_of_columns row ≡ Some line
@@ -78,10 +76,8 @@ found p q row xs e = let passed = has_found p (filter q xs) row e in let there =
 -- what is there isn't missed
 pub unmissed : {A : Type 0} (p : A → Bool) (xs : List A) (x : A) → Has xs x → p x ≡ true → find p xs ≡ None → ⊥
 unmissed p [] x has is none = absurd has
-unmissed p (y ∷ ys) x has is none = elim (cases_Bool (p y)) [
-  | inl at ↦ let never : Some y ≡ None = rw at at none in cc
-  | inr out ↦ elim has [ inl e ↦ absurd (true≢false (sym is ∙ ap p e ∙ out)) | inr later ↦ unmissed p ys x later is (rw out at none) ]
-]
+unmissed p (y ∷ ys) x (inl e) is none = grind (arith, e, is, none)
+unmissed p (y ∷ ys) x (inr later) is none = grind (arith, unmissed p ys x later is, none)
 
 -- where no row is found, no line is there
 pub none-there : (r : ℕ) (line : Line) (rows : List LineRow) → IfSome line.roid IsDomainRoid → find (reads_as line) (filter (is_row_about r line.roid) rows) ≡ None
@@ -96,7 +92,7 @@ none-there r line rows is none = false_from_ne_true _ (λ any.
 
 -- what reads as a line
 pub reads : (line : Line) (row : LineRow) (o : Option Line) → line_of_columns row ≡ o → option_map_or (is_line line) o false ≡ true → line_of_columns row ≡ Some line
-reads line row None at e = absurd (true≢false (sym e))
+reads line row None at e = cc
 reads line row (Some l) at e = at ∙ ap Some (sym (same-in_order line l (sym (line-told line l) ∙ e)))
 
 -- and is the registrar's
@@ -119,10 +115,9 @@ parts key (y ∷ xs) x up (inl e) = record {
   front = [];
   rest = xs;
   consistent = ap (λ z. z ∷ xs) (sym e);
-  without = rw (equal (key y) (key x) (ap key (sym e)))
-      (filter_all (λ z. not (int_eq (key z) (key x))) xs (all_weaker (λ z. key y <ℤ key z) _ (λ z below. let same : key x ≡ key y = ap key e in ap not (int_eq_apart (key z) (key x) (λ at. absurd (omega (arith, ints, below, same, at))))) xs up.0));
+  without = grind (arith, ints, e, filter_all (λ z. not (int_eq (key z) (key x))) xs (all_weaker (λ z. key y <ℤ key z) _ (λ z below. grind (arith, ints, e, below)) xs up.0));
 }
 parts key (y ∷ xs) x up (inr has) =
     let it = parts key xs x up.1 has in
     let below : key y <ℤ key x = all_has (λ z. key y <ℤ key z) xs x up.0 has in
-    record { front = y ∷ it.front; rest = it.rest; consistent = ap (λ zs. y ∷ zs) it.consistent; without = rw (int_eq_apart (key y) (key x) (λ at. absurd (omega (arith, ints, below, at))), it.without) }
+    record { front = y ∷ it.front; rest = it.rest; consistent = ap (λ zs. y ∷ zs) it.consistent; without = grind (arith, ints, below, it.without) }

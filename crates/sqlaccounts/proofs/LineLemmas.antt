@@ -6,10 +6,10 @@ use Rattle.sqlaccounts.proofs.Words.{filter_map, filter_map-append, Has, has_eit
 use Rattle.sqlaccounts.proofs.Words.{is_row_about, IsBalanceChanged, IsDomainRoid, IsKeyedBy, IsPosted, IsRowOf, Line, line_of_columns}
 use Rattle.sqlaccounts.proofs.Words.{line_with_account, line_with_id, LineRow, lines_in_order, lines_to, lines_under, LineSwap, list_any}
 use Rattle.sqlaccounts.proofs.Words.{maybe_moment_column, next_key, option_map, queue_under, reads_as, remade, same, same_some, Schedule}
-use Rattle.sqlaccounts.proofs.{Words.{swapped_all, taken, taken-absent, taken-add, with_lines, ◌>>=◌}, BagLemmas.bag-middle}
+use Rattle.sqlaccounts.proofs.{Words.{step, swapped_all, taken, taken-absent, taken-add, with_lines}, BagLemmas.bag-middle}
 use Rattle.sqlaccounts.proofs.FindingLemmas.{equal, found, none-there, own-row, parts, reads}
 use Rattle.sqlaccounts.proofs.PostingLemmas.{own-lines, posted-as, posted-rows, posted-still}
-use Rattle.sqlcolumns.specs.inner.Lines.{domain_columns, line_row_with, row_of_line}
+use Rattle.sqlcolumns.{proofs.LineLemmas.line_back, specs.inner.Lines.{IsStorableLine, domain_columns, row_of_line}}
 use Rattle.sqltables.specs.Line as table
 use Rattle.sqlaccounts.specs.{Graces.maybe_grace_end, inner.Changes.IsWritten}
 
@@ -20,17 +20,13 @@ with_swaps swaps = with_lines (swapped_all swaps)
 
 -- ---- written
 
-column-made : {A D : Type 0} (of : LineRow → A) (column : A) (row : LineRow) (domain : Option D) (cents : Option ℤ) (make : D → ℤ → LineRow) → ((d : D) (c : ℤ) → of (make d c) ≡ column)
-    → (domain >>= (λ d. cents >>= (λ c. Some (make d c)))) ≡ Some row → of row ≡ column
-column-made of column row None cents make own e = cc
-column-made of column row (Some d) None make own e = cc
-column-made of column row (Some d) (Some c) make own e = sym (ap of (same_some (make d c) row e)) ∙ own d c
-
-pub account_written : (id account : ℤ) (line : Line) (ends : Option ℤ) (row : LineRow) → row_of_line id account line ends ≡ Some row → row.account ≡ account
-account_written id account line ends row e = column-made (λ (r : LineRow). r.account) account row (domain_columns line.roid) (exact_column line.cents) (λ d c. line_row_with id account line ends d c) (λ d c. refl) e
-
-pub end_written : (id account : ℤ) (line : Line) (ends : Option ℤ) (row : LineRow) → row_of_line id account line ends ≡ Some row → row.grace.ends ≡ ends
-end_written id account line ends row e = column-made (λ (r : LineRow). r.grace.ends) ends row (domain_columns line.roid) (exact_column line.cents) (λ d c. line_row_with id account line ends d c) (λ d c. refl) e
+-- a line is read from the row that is written of it
+pub written_line : (id : ℤ) (r : ℕ) (line : Line) (ends : Option ℤ) (row : LineRow) → IsStorableLine line → row_of_line id (pos r) line ends ≡ Some row → IsWritten r line ends row
+written_line id r line ends row is e =
+    let domain = step (domain_columns line.roid) _ row e in
+    let cents = step (exact_column line.cents) _ row domain.rest in
+    let same = same_some _ row cents.rest in
+    record { account = λ i. (sym same i).account; reads = line_back id (pos r) line ends row is e; grace_end = λ i. (sym same i).grace.ends }
 
 -- ---- one row among others
 
@@ -63,8 +59,7 @@ mapped f None y e = cc
 mapped f (Some x) y e = (x, refl, same_some (f x) y (sym e))
 
 unmapped : {X Y : Type 0} (f : X → Y) (o : Option X) → None ≡ option_map f o → o ≡ None
-unmapped f None e = refl
-unmapped f (Some x) e = cc
+unmapped f o e = grind (arith, e)
 
 -- ---- an account's lines, of these rows
 

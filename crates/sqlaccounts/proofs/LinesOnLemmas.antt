@@ -1,6 +1,6 @@
 -- The lines that rows of one domain read as.
-use Rattle.std.proofs.Common.{◌≡◌, ℕ, pos, Bool, true, false, cond, ◌&&◌, List, [], ◌∷◌, ◌++◌, filter, Option, Some, None, inl, inr, refl, sym, ap, subst, ◌∙◌}
-use Rattle.sqlaccounts.proofs.Words.{Account, account_of_row, account_of_rows, AccountRow, add, bag_of, bag_of-push, cases_Bool, cons_option}
+use Rattle.std.proofs.Common.{arith, ◌≡◌, ℕ, pos, Bool, true, cond, ◌&&◌, List, [], ◌∷◌, ◌++◌, filter, Option, Some, None, refl, sym, ap, subst, ◌∙◌}
+use Rattle.sqlaccounts.proofs.Words.{Account, account_of_row, account_of_rows, AccountRow, add, bag_of, bag_of-push, cons_option}
 use Rattle.sqlaccounts.proofs.Words.{Content, empty_account, filter-bag_of, filter_map, filter_map-append, in_order, is_on, is_place, is_row_on}
 use Rattle.sqlaccounts.proofs.Words.{IsConsistent, IsDomainRoid, Line, line_of_columns, line_with_account, LineRow, lines_in_order, option_map}
 use Rattle.sqlaccounts.proofs.{Words.{registrar_column, Roid, row_of, unwrap_or}, AccountLemmas.get-accounts_of}
@@ -15,27 +15,22 @@ read-more rows row line e =
 
 -- ---- a part of the rows
 
-module _ (p : Line → Bool) (a b : LineRow → Bool) (agree : (x : LineRow) (l : Line) → line_of_columns x ≡ Some l → b x ≡ (a x && p l)) where
-  unread : (x : LineRow) (c : Bool) (xs : List LineRow) → line_of_columns x ≡ None → filter_map line_of_columns (cond c (x ∷ xs) xs) ≡ filter_map line_of_columns xs
-  unread x true xs e = rw e
-  unread x false xs e = refl
-
-  part : (xs : List LineRow) → filter p (filter_map line_of_columns (filter a xs)) ≡ filter_map line_of_columns (filter b xs)
-  part [] = refl
-  part (x ∷ xs) = go (line_of_columns x) (a x) refl refl (part xs)
-    where
-      go : (o : Option Line) (c : Bool) → line_of_columns x ≡ o → a x ≡ c → filter p (filter_map line_of_columns (filter a xs)) ≡ filter_map line_of_columns (filter b xs)
-          → filter p (filter_map line_of_columns (cond c (x ∷ filter a xs) (filter a xs))) ≡ filter_map line_of_columns (filter b (x ∷ xs))
-      go None c e own ih = ap (filter p) (unread x c (filter a xs) e) ∙ ih ∙ sym (unread x (b x) (filter b xs) e)
-      go (Some l) false e own ih = rw (agree x l e, own) ih
-      go (Some l) true e own ih = elim (cases_Bool (p l)) [ inl t ↦ rw (agree x l e, own, e, t, e, ih) | inr t ↦ rw (agree x l e, own, e, t) ih ]
+part : {X Y : Type 0} (read : X → Option Y) (p : Y → Bool) (a b : X → Bool) → ((x : X) (y : Y) → read x ≡ Some y → b x ≡ (a x && p y)) → (xs : List X)
+    → filter p (filter_map read (filter a xs)) ≡ filter_map read (filter b xs)
+part read p a b agree [] = refl
+part read p a b agree (x ∷ xs) = go (read x) refl (part read p a b agree xs)
+  where
+    go : (o : Option _) → read x ≡ o → filter p (filter_map read (filter a xs)) ≡ filter_map read (filter b xs)
+        → filter p (filter_map read (filter a (x ∷ xs))) ≡ filter_map read (filter b (x ∷ xs))
+    go None e ih = grind (arith, ih, e)
+    go (Some y) e ih = grind (arith, ih, e, agree x y e)
 
 -- ---- of an account, also where there is none
 
 pub lines-read : (xs : Content) (r : ℕ) (roid : Roid) → IsConsistent xs → is_place r ≡ true → IsDomainRoid roid
     → bag_of in_order (filter_map line_of_columns (filter (is_row_on r roid) xs.lines)) ≡ filter (is_on roid) (account_of_rows r xs).lines
 lines-read xs r roid consistent place is =
-    ap (bag_of in_order) (sym (part (is_on roid) (line_with_account (registrar_column r)) (is_row_on r roid)
+    ap (bag_of in_order) (sym (part line_of_columns (is_on roid) (line_with_account (registrar_column r)) (is_row_on r roid)
     (λ x l e. ap (λ c. line_with_account (registrar_column r) x && c) (sym (on-row roid is x l e))) xs.lines))
     ∙ sym (filter-bag_of in_order lines_in_order (is_on roid) (filter_map line_of_columns (filter (line_with_account (registrar_column r)) xs.lines)))
     ∙ ap (filter (is_on roid)) (sym (parts-there xs r consistent place).0)
@@ -44,8 +39,7 @@ lines-read xs r roid consistent place is =
 bag-at : (xs : Content) (b : Bool) (o : Option AccountRow)
     → bag_of in_order (unwrap_or (cond b (option_map (account_of_row xs) o) None) empty_account).lines ≡ (unwrap_or (cond b (option_map (account_of_row xs) o) None) empty_account).lines
 bag-at xs true (Some row) = bag-again in_order lines_in_order (filter_map line_of_columns (filter (line_with_account row.id) xs.lines))
-bag-at xs true None = bag-nil in_order
-bag-at xs false o = bag-nil in_order
+bag-at xs b o = bag-nil in_order
 
 pub lines-bag : (xs : Content) (r : ℕ) → bag_of in_order (account_of_rows r xs).lines ≡ (account_of_rows r xs).lines
 lines-bag xs r =

@@ -1,18 +1,20 @@
 -- What rows of messages mean for an account, and what one row more or less does.
-use Rattle.std.proofs.Common.{◌≡◌, ℕ, ◌+◌, ℤ, pos, negsuc, ◌+ℤ◌, Bool, true, false, cond, not, ◌&&◌, ◌||◌, ◌==◌, length, List, [], ◌∷◌, ◌++◌, filter, Option, Some, None, inl, inr, refl, sym, ap, subst, ◌∙◌, int_eq, arith, append-nil}
+use Rattle.std.proofs.Common.{◌≡◌, ℕ, ◌+◌, ℤ, pos, negsuc, ◌+ℤ◌, Bool, true, false, cond, not, ◌&&◌, ◌==◌, length, List, [], ◌∷◌, ◌++◌, filter, Option, Some, None, inl, inr, refl, sym, ap, subst, ◌∙◌, int_eq, arith, append-nil}
 use Rattle.std.proofs.lemmas.Map.Made.{length-remove_key}
-use Rattle.sqlaccounts.proofs.Words.{account_of_row, AccountRow, and_from, and_parts, appended, balance, balance_in, cases_Bool, cons_option}
+use Rattle.std.specs.Cmp.{both_ways}
+use Rattle.sqlaccounts.proofs.Words.{account_of_row, AccountRow, and_parts, appended, balance, balance_in, cons_option}
 use Rattle.sqlaccounts.proofs.Words.{Content, counter_in, Decides-int_eq, delete_where, dropped, false_from_ne_true, filter-append, filter-filter}
-use Rattle.sqlaccounts.proofs.Words.{filter_map, filter_map-append, Has, has, has_filtered, has_kept, ident_and_held, ints, is_right, IsKeyedBy}
-use Rattle.sqlaccounts.proofs.Words.{IsPosted, IsRowOf, lines_under, list_any, Message, message_of_columns, MessageRow, messages_to, next_key}
+use Rattle.sqlaccounts.proofs.Words.{filter_map, filter_map-append, Has, has, has_filtered, has_kept, ident_and_held, ints, IsKeyedBy}
+use Rattle.sqlaccounts.proofs.Words.{IsPosted, IsRowOf, lines_under, list_any, Message, message_cmp, message_of_columns, MessageRow, messages_to, next_key}
 use Rattle.sqlaccounts.proofs.Words.{none_counted, option_map_or, put, put_all, queue_under, same_from_decides, Schedule, slice_get, with_queue}
 use Rattle.sqlaccounts.proofs.ColumnLemmas.{message_first, row_cmp, row_cmp_total, same_columns, same_read}
 use Rattle.sqlaccounts.proofs.{FindingLemmas.{equal, has_read, read_from}, PostingLemmas.{posted-rows, posted-still}}
-use Rattle.sqlaccounts.proofs.QueueLemmas.{dropped-lacking, first-put_all, has-put_all, length-put, one_from_tie, put-there, put_all-push, put_all-without, tie, tied, without}
+use Rattle.sqlaccounts.proofs.QueueLemmas.{among-all, first-all, into-there, length-into, one_from_tie, out-all, out-lacking, put_all-push, tie, tied}
 use Rattle.sqlaccounts.proofs.SortLemmas.{IsLeast, least-sort_by}
+use Rattle.accounts.{specs.MessageOrder.message_cmp_total, proofs.MessageLaws.message_cmp_only}
 use Rattle.sqltables.specs.Message as table
 use Rattle.sqltables.proofs.RowLemmas.{same_by_key}
-use Rattle.sqlaccounts.specs.{declared.queue.Found.Found, inner.{QueueFound.IsFound, QueueRows.IsWaitingMore}}
+use Rattle.sqlaccounts.specs.{declared.queue.Found.Found, inner.Queue.{IsFound, IsWaitingMore}}
 
 abbrev messages_in : List MessageRow → List Message
 messages_in rows = filter_map message_of_columns rows
@@ -29,7 +31,7 @@ pub first_found : (xs : Content) (id : ℤ) (row : MessageRow) (m : Message) →
 first_found xs id row m first reads =
     let rows : List MessageRow = of_account id xs.messages in
     let least : IsLeast row_cmp row_cmp_total (Some row) rows = subst (λ o. IsLeast row_cmp row_cmp_total o rows) first (least-sort_by row_cmp row_cmp_total rows) in
-    first-put_all m (messages_in rows) (has_read message_of_columns rows row m least.0 reads)
+    first-all message_cmp message_cmp_total message_cmp_only m (messages_in rows) (has_read message_of_columns rows row m least.0 reads)
     (λ n has. let it = read_from message_of_columns rows n has in message_first row it.0 m n reads it.2 (least.1 it.0 it.1))
 
 pub none_found : (xs : Content) (id : ℤ) → slice_get (table.queue_of id xs.messages) 0 ≡ None → slice_get (queue_under xs id) 0 ≡ None
@@ -47,32 +49,19 @@ module _ (w : MessageRow) (m : Message) (reads : message_of_columns w ≡ Some m
 
   -- they are the account's that read as the message
   same_row : (x : MessageRow) → table.is_same_message w x ≡ (table.message_with_account w.account x && option_map_or (tie m) (message_of_columns x) false)
-  same_row x = same_from_decides {P = (message_of_columns x ≡ Some m) × (x.account ≡ w.account)} _ _
-      (λ e. same_read w x m reads e, λ it. same_columns w x m it.1 reads it.0) (
-        λ e. let both = and_parts (table.message_with_account w.account x) (option_map_or (tie m) (message_of_columns x) false) e in (tied_read (message_of_columns x) both.1, (Decides-int_eq x.account w.account).0 both.0),
-        λ it. and_from _ _ (equal x.account w.account it.1) (ap (λ o. option_map_or (tie m) o false) it.0 ∙ tied m),
-      )
+  same_row x = both_ways _ _ (λ e. let it = same_read w x m reads e in grind (arith, it.0, tied m, equal x.account w.account it.1))
+      (λ e. let both = and_parts (table.message_with_account w.account x) (option_map_or (tie m) (message_of_columns x) false) e in same_columns w x m ((Decides-int_eq x.account w.account).0 both.0) reads (tied_read (message_of_columns x) both.1))
 
-  read-more : (own : Bool) (x : MessageRow) (rows : List MessageRow) → list_any (tie m) (messages_in (cond own (x ∷ rows) rows)) ≡ ((own && option_map_or (tie m) (message_of_columns x) false) || list_any (tie m) (messages_in rows))
-  read-more false x rows = refl
-  read-more true x rows = elim (message_of_columns x) as (λ o. list_any (tie m) (cons_option o (messages_in rows)) ≡ (option_map_or (tie m) o false || list_any (tie m) (messages_in rows))) [ None ↦ refl | Some n ↦ refl ]
-
-  said : (rows : List MessageRow) → list_any (tie m) (messages_in (of_account w.account rows)) ≡ list_any (table.is_same_message w) rows
+-- of rows that are told so
+module _ {X Y : Type 0} (read : X → Option Y) (own is : X → Bool) (said_of : Y → Bool) (same : (x : X) → is x ≡ (own x && option_map_or said_of (read x) false)) where
+  said : (rows : List X) → list_any said_of (filter_map read (filter own rows)) ≡ list_any is rows
   said [] = refl
-  said (x ∷ xs) = read-more (table.message_with_account w.account x) x (of_account w.account xs) ∙ (λ i. sym (same_row x) i || said xs i)
+  said (x ∷ xs) = grind (arith, same x, said xs)
 
-  -- without them the account's messages are without it
-  left : (rows : List MessageRow) → messages_in (of_account w.account (delete_where (table.is_same_message w) rows)) ≡ without m (messages_in (of_account w.account rows))
+  -- without them what is read is without it
+  left : (rows : List X) → filter_map read (filter own (delete_where is rows)) ≡ filter (λ y. not (said_of y)) (filter_map read (filter own rows))
   left [] = refl
-  left (x ∷ xs) = go (table.message_with_account w.account x) (message_of_columns x) refl refl (same_row x) (left xs)
-    where
-      go : (own : Bool) (o : Option Message) → table.message_with_account w.account x ≡ own → message_of_columns x ≡ o → table.is_same_message w x ≡ (table.message_with_account w.account x && option_map_or (tie m) (message_of_columns x) false)
-          → messages_in (of_account w.account (delete_where (table.is_same_message w) xs)) ≡ without m (messages_in (of_account w.account xs))
-          → messages_in (of_account w.account (cond (not (table.is_same_message w x)) (x ∷ delete_where (table.is_same_message w) xs) (delete_where (table.is_same_message w) xs)))
-          ≡ without m (messages_in (cond own (x ∷ of_account w.account xs) (of_account w.account xs)))
-      go false o a e it more = rw (it, a, a) more
-      go true None a e it more = rw (it, a, e, a, e) more
-      go true (Some n) a e it more = elim (cases_Bool (tie m n)) [ inl t ↦ rw (it, a, e, t) more | inr t ↦ rw (it, a, e, t, a, e, more) ]
+  left (x ∷ xs) = grind (arith, same x, left xs)
 
 -- ---- an account's queue, of these rows
 
@@ -90,8 +79,7 @@ filter_alike p q [] alike = refl
 filter_alike p q (x ∷ xs) alike = rw (alike x (inl refl), filter_alike p q xs (λ y has. alike y (inr has)))
 
 alone : {X : Type 0} (x y : X) → Has (y ∷ []) x → x ≡ y
-alone x y (inl e) = e
-alone x y (inr none) = absurd none
+alone x y has = grind (arith, has)
 
 module _ (days : Option Schedule) (r : ℕ) (row : AccountRow) (xs : Content) (is : IsRowOf r row xs) where
   -- another queue, and as many more wait
@@ -111,10 +99,13 @@ module _ (days : Option Schedule) (r : ℕ) (row : AccountRow) (xs : Content) (i
     own : it.row.account ≡ row.id
     own = found.written.account ∙ sym is.id
 
-    waits : (b : Bool) → (length it.same == 0) ≡ not b → has m (queue_in xs.messages row.id) ≡ b
-    waits b e =
-        has-put_all m (messages_in (of_account row.id xs.messages)) ∙ ap (λ id. list_any (tie m) (messages_in (of_account id xs.messages))) (sym own) ∙ said it.row m found.written.reads xs.messages
+    told : (b : Bool) → (length it.same == 0) ≡ not b → list_any (tie m) (messages_in (of_account row.id xs.messages)) ≡ b
+    told b e =
+        ap (λ id. list_any (tie m) (messages_in (of_account id xs.messages))) (sym own) ∙ said message_of_columns (table.message_with_account it.row.account) (table.is_same_message it.row) (tie m) (same_row it.row m found.written.reads) xs.messages
         ∙ same_not _ b (sym (none_counted (table.is_same_message it.row) xs.messages) ∙ ap (λ rows. length rows == 0) (sym found.same) ∙ e)
+
+    waits : (b : Bool) → (length it.same == 0) ≡ not b → has m (queue_in xs.messages row.id) ≡ b
+    waits b e = among-all message_cmp message_cmp_total message_cmp_only m [] (messages_in (of_account row.id xs.messages)) ∙ told b e
 
     -- a message more
     pub message-posted : (changed : AccountRow) → (length it.same == 0) ≡ true → IsWaitingMore (pos 1) row changed
@@ -127,10 +118,10 @@ module _ (days : Option Schedule) (r : ℕ) (row : AccountRow) (xs : Content) (i
         (ap (λ rows. put_all (messages_in rows)) (filter-append (table.message_with_account row.id) xs.messages (x ∷ []) ∙ ap (λ b. of_account row.id xs.messages ++ cond b (x ∷ []) []) (equal _ _ own))
         ∙ ap put_all (filter_map-append message_of_columns (of_account row.id xs.messages) (x ∷ []) ∙ ap (λ o. before ++ cons_option o []) found.written.reads)
         ∙ put_all-push before m)
-        (ap pos (length-put m (queue_in xs.messages row.id) (waits false none)))
+        (ap pos (length-into message_cmp message_cmp_total message_cmp_only m (queue_in xs.messages row.id) (waits false none)))
 
     pub message-there : (length it.same == 0) ≡ false → IsPosted days r (with_queue (put m)) row row xs xs
-    message-there some = posted-still days r row xs is (with_queue (put m)) (λ i. record (account_of_row xs row) { queue = put-there m (messages_in (of_account row.id xs.messages)) (waits true some) i })
+    message-there some = posted-still days r row xs is (with_queue (put m)) (λ i. record (account_of_row xs row) { queue = into-there message_cmp message_cmp_total message_cmp_only m [] (messages_in (of_account row.id xs.messages)) (told true some) i })
 
     -- and one less: the row with its number is the one with its columns
     pub message-taken : (gone : MessageRow) (changed : AccountRow) → IsKeyedBy table.messages.key xs.messages → it.same ≡ gone ∷ [] → IsWaitingMore (negsuc 0) row changed
@@ -149,9 +140,9 @@ module _ (days : Option Schedule) (r : ℕ) (row : AccountRow) (xs : Content) (i
         ∙ ap (λ rows. put_all (messages_in rows)) (filter-filter (table.message_with_account id) (λ y. not (is_it y)) (λ y mine. ap not (false_from_ne_true (is_it y) (λ t.
         let apart : true ≡ false = sym (ap (λ a. int_eq a id) (sym ((same_read it.row y m found.written.reads t).1 ∙ found.written.account)) ∙ mine) ∙ e in cc))) xs.messages))
         (ap (λ rows. put_all (messages_in (of_account row.id rows))) same
-        ∙ ap put_all (subst (λ id. messages_in (of_account id (delete_where is_it xs.messages)) ≡ without m (messages_in (of_account id xs.messages))) own (left it.row m found.written.reads xs.messages)) ∙ put_all-without m before)
+        ∙ ap put_all (subst (λ id. messages_in (of_account id (delete_where is_it xs.messages)) ≡ filter (λ n. not (tie m n)) (messages_in (of_account id xs.messages))) own (left message_of_columns (table.message_with_account it.row.account) (table.is_same_message it.row) (tie m) (same_row it.row m found.written.reads) xs.messages)) ∙ out-all message_cmp message_cmp_total message_cmp_only m before (told true (ap (λ rows. length rows == 0) one)))
         (fewer (length (dropped m (queue_in xs.messages row.id))) (length (queue_in xs.messages row.id)) (length-remove_key (tie m) (queue_in xs.messages row.id) (waits true (ap (λ rows. length rows == 0) one))))
 
     pub message-left : it.same ≡ [] → IsPosted days r (with_queue (dropped m)) row row xs xs
     message-left none =
-        posted-still days r row xs is (with_queue (dropped m)) (λ i. record (account_of_row xs row) { queue = dropped-lacking m (queue_in xs.messages row.id) (waits false (ap (λ rows. length rows == 0) none)) i })
+        posted-still days r row xs is (with_queue (dropped m)) (λ i. record (account_of_row xs row) { queue = out-lacking message_cmp message_cmp_total message_cmp_only m (queue_in xs.messages row.id) (waits false (ap (λ rows. length rows == 0) none)) i })

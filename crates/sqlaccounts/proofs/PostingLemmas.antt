@@ -1,11 +1,10 @@
 -- What posts make of an account whose row isn't written yet.
-use Rattle.std.proofs.Common.{◌≡◌, ◌⊎◌, inl, inr, ℕ, ℤ, pos, ◌<ℤ◌, Bool, true, false, cond, List, [], ◌∷◌, Option, Some, None, Result, Ok, Err, Ordering, Less, Equal, Greater, int_cmp, int_eq, refl, sym, ap, subst, ◌∙◌, arith}
-use Rattle.std.proofs.lemmas.Cmp.{int_ranked}
+use Rattle.std.proofs.Common.{◌≡◌, ◌⊎◌, inl, inr, ℕ, ℤ, pos, ◌<ℤ◌, Bool, true, false, cond, List, [], ◌∷◌, Option, Some, None, Result, Ok, Err, int_eq, refl, sym, ap, subst, ◌∙◌, arith}
 use Rattle.std.specs.Result.{IsErr}
 use Rattle.sqlaccounts.proofs.Words.{Account, account_of_row, account_of_rows, AccountRow, accounts_of, accounts_to, all_weaker, cases_Bool, Content}
 use Rattle.sqlaccounts.proofs.Words.{empty_account, eq_by_cmp, eq_by_cmp_equiv, FinMap, get, get-insert, get_by, Has, has_found, has_right_sums}
-use Rattle.sqlaccounts.proofs.Words.{HasEnd, HasNewCounters, ident_and_held, insert, insert_by, ints, is_eq, is_place, is_right, IsChange}
-use Rattle.sqlaccounts.proofs.Words.{IsConsistent, IsKeyedBy, IsPosted, IsRowOf, key-get_by, LineRow, lines_under, match_ordering, MessageRow}
+use Rattle.sqlaccounts.proofs.Words.{HasEnd, HasNewCounters, ident_and_held, insert, insert_by, ints, is_place, is_right, IsChange}
+use Rattle.sqlaccounts.proofs.Words.{IsConsistent, IsKeyedBy, IsPosted, IsReady, IsRowOf, key-get_by, LineRow, lines_under, MessageRow}
 use Rattle.sqlaccounts.proofs.Words.{nat_cmp, nat_cmp-IsAntisymmetric, nat_cmp_total, none_past, option_map, option_map_or, PostsTo, queue_under}
 use Rattle.sqlaccounts.proofs.Words.{Reads, reads-same, registrar_column, row_of, same_map, Schedule, StateOf, Stays, stays-on, then-became}
 use Rattle.sqlaccounts.proofs.Words.{unwrap_or, with_account_changed, with_counters, with_row}
@@ -34,18 +33,10 @@ row-found r row xs place found = record { place = place; id = key-get_by key xs.
 -- one that is there already stays where it is
 put-there : (xs : List AccountRow) (row : AccountRow) (id : ℤ) → IsKeyedBy key xs → row.id ≡ id → get_by key xs id ≡ Some row → insert_by key xs row ≡ xs
 put-there [] row id up at e = cc
-put-there (x ∷ xs) row id up at e = go (int_cmp x.id row.id) refl (put-there xs row id up.1 at)
-  where
-    head : (o : Ordering) → int_cmp x.id row.id ≡ o → cond (is_eq o) (Some x) (get_by key xs id) ≡ Some row
-    head o is = ap (λ r. cond (is_eq r) (Some x) (get_by key xs id)) (sym is ∙ ap (int_cmp x.id) at) ∙ e
-
-    go : (o : Ordering) → int_cmp x.id row.id ≡ o → (get_by key xs id ≡ Some row → insert_by key xs row ≡ xs) → match_ordering o (x ∷ insert_by key xs row) (row ∷ xs) (row ∷ x ∷ xs) ≡ x ∷ xs
-    go Less is more = ap (λ ys. x ∷ ys) (more (head Less is))
-    go Equal is more = let first : Some x ≡ Some row = head Equal is in cc
-    go Greater is more =
-        let above : id <ℤ x.id = rw at at (int_ranked x.id row.id Greater (sym is)) in
-        let none : get_by key xs id ≡ None = none_past key xs id (all_weaker _ (λ (y : AccountRow). id <ℤ y.id) (λ y h. omega (arith, ints, above, h)) xs up.0) in
-        let rest : get_by key xs id ≡ Some row = head Greater is in cc
+put-there (x ∷ xs) row id up at e =
+    let past : ¬ (id <ℤ x.id) = λ above.
+    let none : Some row ≡ None = sym e ∙ none_past key (x ∷ xs) id (above, all_weaker _ (λ (y : AccountRow). id <ℤ y.id) (λ y h. omega (arith, ints, above, h)) xs up.0) in cc in
+    grind (arith, ints, put-there xs row id up.1 at, past, at, e)
 
 -- it changes nothing
 pub with-found : (r : ℕ) (row : AccountRow) (xs : Content) → IsConsistent xs → Some row ≡ row_of xs (registrar_column r) → with_row row xs ≡ xs
@@ -137,7 +128,7 @@ put-put m r a b = same_map nat_cmp_total nat_cmp-IsAntisymmetric _ _ (λ q.
     rw (get-insert nat_cmp_total (insert m r a) r b q, get-insert nat_cmp_total m r a q, get-insert nat_cmp_total m r b q) (covered (eq_by_cmp nat_cmp q r) a b (get m q)))
 
 now-there : (m : FinMap nat_cmp Account) (r : ℕ) (a : Account) → get (insert m r a) r ≡ Some a
-now-there m r a = get-insert nat_cmp_total m r a r ∙ ap (λ b. cond b (Some a) (get m r)) ((eq_by_cmp_equiv nat_cmp_total).refl r)
+now-there m r a = rw (get-insert nat_cmp_total m r a r, (eq_by_cmp_equiv nat_cmp_total).refl r)
 
 change-on : (r : ℕ) (f g : Account → Account) (a b c : Content) → IsChange r f a b → IsChange r g b c → IsChange r (λ x. g (f x)) a c
 change-on r f g a b c one two = record {
@@ -229,8 +220,8 @@ at-first days r make all left row a is begun e = record {
 
 module _ {X : Type 0} {days : Option Schedule} {r : ℕ} {make : List X → Account → Account} {all now : List X} {row mid : AccountRow} {a b : StateOf Content} (it : IsUnderway days r make all now row mid a b) where
   -- the row is the account's
-  pub row-underway : (a.is_clean ≡ true → IsRowOf r row a.content) → b.is_clean ≡ true → IsRowOf r mid b.content
-  row-underway is clean = row-posted days r it.made row mid a.content b.content (is (it.posted.clean clean)) (it.posted.content clean)
+  pub ready-underway : (a.is_clean ≡ true → IsRowOf r row a.content) → IsReady r mid b
+  ready-underway is = record { begun = it.posted.opened; there = λ clean. row-posted days r it.made row mid a.content b.content (is (it.posted.clean clean)) (it.posted.content clean) }
 
   pub then-one : {f : Account → Account} {x : X} {left : List X} {changed : AccountRow} {c : StateOf Content} → now ≡ x ∷ left → HasChanged (IsPosted days r f mid changed) b c → ((y : Account) → make left (f y) ≡ make (x ∷ left) y)
       → IsUnderway days r make all left row changed a c

@@ -1,7 +1,7 @@
 -- What commands post of messages, where the account's row isn't written.
-use Rattle.std.proofs.Common.{◌≡◌, ℕ, true, false, cond, List, [], ◌∷◌, Option, Some, None, refl, sym, ap, ◌∙◌}
+use Rattle.std.proofs.Common.{◌≡◌, ℕ, true, false, List, [], ◌∷◌, Option, Some, refl, sym, ap, ◌∙◌}
 use Rattle.std.specs.Str.{bytes_eq}
-use Rattle.sqlaccounts.proofs.Words.{Account, account_of_row, account_of_rows, AccountRow, acked, Content, counted_in, dropped, HasNewCounters}
+use Rattle.sqlaccounts.proofs.Words.{account_of_row, account_of_rows, AccountRow, acked, Content, counted_in, dropped, HasNewCounters}
 use Rattle.sqlaccounts.proofs.Words.{IsPosted, IsRowOf, Message, message_id, next_message, notified, numbered, put, Schedule, slice_get, with_acked}
 use Rattle.sqlaccounts.proofs.Words.{with_counters, with_queue}
 use Rattle.sqlaccounts.proofs.PostingLemmas.{counts-posted, own-queue, posted-as, posted-on, posted-still, row-posted}

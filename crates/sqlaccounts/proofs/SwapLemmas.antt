@@ -1,7 +1,7 @@
 -- What is swapped among the lines of one domain is swapped among all.
-use Rattle.std.proofs.Common.{◌≡◌, true, false, not, List, [], ◌∷◌, ◌++◌, map, filter, inl, inr, refl, sym, ap, ◌∙◌}
-use Rattle.sqlaccounts.proofs.Words.{add, and_parts, bag_of, cases_Bool, false_from_ne_true, in_order, is_on, Line, lines_in_order, LineSwap}
-use Rattle.sqlaccounts.proofs.Words.{list_all, list_any, map-append, or_from, remade, remade-bag_of, Roid, same, same-in_order, swapped, swapped_all}
+use Rattle.std.proofs.Common.{arith, ◌≡◌, true, false, not, List, [], ◌∷◌, ◌++◌, map, filter, refl, sym, ap, ◌∙◌}
+use Rattle.sqlaccounts.proofs.Words.{add, and_parts, bag_of, in_order, is_on, Line, lines_in_order, LineSwap}
+use Rattle.sqlaccounts.proofs.Words.{list_all, list_any, map-append, remade, remade-bag_of, Roid, same, same-in_order, swapped, swapped_all}
 use Rattle.sqlaccounts.proofs.{Words.{taken, taken-bag_of, taken-before}, BagLemmas.{bag-added, bag-bag, bag-parts, map-others}}
 
 module _ (roid : Roid) where
@@ -11,10 +11,7 @@ module _ (roid : Roid) where
   -- a line on the domain isn't among the others
   apart : (x : Line) (ls : List Line) → is_on roid x ≡ true → list_any (same in_order x) (others ls) ≡ false
   apart x [] on = refl
-  apart x (l ∷ ls) on = elim (cases_Bool (is_on roid l)) [
-    | inl at ↦ rw at (apart x ls on)
-    | inr at ↦ rw at (or_from _ _ (false_from_ne_true (same in_order x l) (λ is. let never : true ≡ false = sym on ∙ ap (is_on roid) (same-in_order x l is) ∙ at in cc)) (apart x ls on))
-  ]
+  apart x (l ∷ ls) on = grind (arith, apart x ls on, same-in_order x l, on)
 
   swapped-on : (s : LineSwap) (on ls : List Line) → is_on roid s.from ≡ true → swapped (bag_of in_order (on ++ others ls)) s ≡ bag_of in_order (swapped on s ++ others ls)
   swapped-on s on ls is =

@@ -14,12 +14,11 @@ pub use Rattle.policy.specs.declared.schedule.Schedule.{Schedule}
 pub use Rattle.sqlaccounts.specs.Accounts.{account_of_row, account_of_rows, accounts_of, balance_in, entries_of, has_right_sums, ident_and_held, is_right, lines_under, put_all, queue_under, row_of, sums_are_right}
 pub use Rattle.sqlaccounts.specs.inner.Changes.{HasNewCounters, IsBalanceChanged, IsChange, IsOpened, counted_in, counters_in, opened_row, with_account_changed}
 pub use Rattle.sqlaccounts.specs.inner.Finding.{IsDomainRoid, is_row_about, is_row_on, reads_as}
-pub use Rattle.sqlaccounts.specs.inner.Posting.{HasEnd, IsPosted, IsRowOf, PostsTo, with_row}
+pub use Rattle.sqlaccounts.specs.inner.Posting.{HasEnd, IsPosted, IsReady, IsRowOf, PostsTo, with_row}
 pub use Rattle.sqlcolumns.proofs.ReadLemmas.{kept, same_some, some_read, step}
 pub use Rattle.sqlcolumns.specs.{Lines.{line_of_columns, maybe_domain_in}, Messages.{message_of_columns, row_of_message}}
-pub use Rattle.sqlcolumns.specs.Numbers.{counter_column, counter_in, exact_column, exact_in, is_exact, is_place, maybe_moment_column, moment_in_column, registrar_column, registrar_in}
-pub use Rattle.sqlcolumns.specs.Steps.{◌>>=◌}
-pub use Rattle.sqlite_keyed.proofs.KeyedLemmas.{int_eq_apart, key-get_by, none_past, same_int}
+pub use Rattle.sqlcolumns.specs.Numbers.{counter_column, counter_in, exact_column, exact_in, is_exact, is_place, maybe_moment_column, registrar_column, registrar_in}
+pub use Rattle.sqlite_keyed.proofs.KeyedLemmas.{key-get_by, none_past, same_int}
 pub use Rattle.sqlite_keyed.proofs.ListLemmas.{all_weaker, filter-filter, filter_all, filter_none, none_counted}
 pub use Rattle.sqlite_keyed.specs.{Keyed.{IsKeyedBy, get_by, insert_by, next_key}, Lists.{delete_where, insert_sorted, sort_by}}
 pub use Rattle.sqlite_rules.proofs.ListLemmas.{all_from, all_has, has_either, has_filtered, has_found, has_kept, some_has}
@@ -31,11 +30,11 @@ pub use Rattle.sqltables.specs.{Message.{message_with_id, messages, queue_of}, d
 pub use Rattle.sqltables.specs.{declared.{line.LineRow.LineRow, message.MessageRow.MessageRow}, inner.Consistent.{IsConsistent, LeadsTo}}
 pub use Rattle.sqltables.specs.inner.Content.{accounts_to, lines_to, messages_to}
 pub use Rattle.states.specs.States.{Finds, Reads, StateOf, Stays, Writes}
-pub use Rattle.std.proofs.lemmas.Bool.{and_from, and_parts, cases_Bool, false_from_ne_true, or_from, or_parts}
+pub use Rattle.std.proofs.lemmas.Bool.{and_from, and_parts, cases_Bool, false_from_ne_true}
 pub use Rattle.std.proofs.lemmas.{Bool.Decides.{Decides-int_eq, nat_tests, same_from_decides}, Int.ints}
 pub use Rattle.std.proofs.lemmas.List.{map-append, nil_from_length, take_more, Elements.{filter-append, filter_map-append}}
 pub use Rattle.std.specs.Cmp.{Equal-is, IsTotalOrder, eq_by_cmp_equiv, int_cmp_total, nat_cmp_total, on_total, then_total, tied_itself}
 pub use Rattle.std.specs.FinMap.{FinMap, get, get-from_entries, get-insert, insert, nat_cmp-IsAntisymmetric, same_map, slice_cmp-IsAntisymmetric}
 pub use Rattle.std.specs.{Int.w128, List.{cons_option, filter_map, list_all, list_any}, Option.{option_map, option_map_or, unwrap_or}}
-pub use Rattle.std.specs.Ordering.{eq_by_cmp, is_eq, is_gt, is_lt, match_ordering, nat_cmp, ordering_reverse, ordering_then}
+pub use Rattle.std.specs.Ordering.{eq_by_cmp, is_eq, is_gt, nat_cmp, ordering_then}
 pub use Rattle.std.specs.{Prelude.slice_get, declared.cmp.Ordering.Ordering}

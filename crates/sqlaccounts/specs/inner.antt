@@ -2,5 +2,4 @@
 pub mod Changes
 pub mod Finding
 pub mod Posting
-pub mod QueueFound
-pub mod QueueRows
+pub mod Queue

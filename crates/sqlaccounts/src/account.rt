@@ -1,15 +1,18 @@
-//! The row of an account.
+//! The row of an account, and accounts that are opened.
 ghost use Rattle.std.specs.Prelude.{◌≡◌, true, Some, IfOk};
 ghost use Rattle.sqlcolumns.specs.Numbers.{is_place, registrar_column};
-ghost use Rattle.sqlaccounts.specs.Accounts.{row_of};
+ghost use Rattle.sqlaccounts.specs.{Accounts.row_of, inner.Changes.{IsOpened, opened_row}};
+ghost use Rattle.sqlrows.specs.Meanings.{Changes};
 ghost use Rattle.states.specs.States.{Finds, FindsSome};
 
 use basis::registrar::RegistrarNo;
+use basis::text::Text;
 use sqlcolumns::registrar_column;
 use sqlite::Alter;
-use sqlrows::{Number, only};
-use sqltables::{AccountRow, RowStore};
+use sqlrows::{Number, only, or_fault};
+use sqltables::{AccountRow, RowStore, bytes_of_balance};
 use states::BookFault;
+use std::alloc::{AllocError, Global};
 
 /// The number of a registrar's row; no registrar has the place 0.
 pub fn number_of(registrar: RegistrarNo) -> Result<Number, BookFault>
@@ -45,8 +48,41 @@ pub fn found_row<S: Alter>(
         ≡ row_of store.old.content (registrar_column registrar)) store.old store.new }
     ensures place { IfOk result (λ row. is_place registrar ≡ true) }
 {
-    match maybe_row(store, registrar)? {
-        Some(row) => Ok(row),
-        None => Err(BookFault::Store),
+    Ok(or_fault(maybe_row(store, registrar)?)?)
+}
+
+/// The registrar has an account. One that it has stays as it is.
+pub fn open_account<S: Alter>(
+    store: &mut RowStore<S>,
+    alloc: Global,
+    registrar: RegistrarNo,
+) -> Result<(), BookFault>
+    requires { store.old.is_open ≡ true }
+    ensures { Changes result (IsOpened registrar) store.old store.new }
+{
+    let row = maybe_row(store, registrar)?;
+    if row.is_some() {
+        return Ok(());
     }
+    store.show_consistent();
+    let row = opened_row(alloc, registrar)?;
+    store.put_account(&row)?;
+    Ok(())
+}
+
+/// The row of an account with nothing in it.
+fn opened_row(alloc: Global, registrar: RegistrarNo) -> Result<AccountRow, AllocError>
+    ensures { IfOk result (λ row. row ≡ opened_row registrar) }
+{
+    let place = registrar.place();
+    Ok(AccountRow {
+        id: registrar_column(registrar),
+        ident: Text::from_string(format!(in alloc; "#{place}")?),
+        commands: 0,
+        messages: 0,
+        serial: 0,
+        waiting: 0,
+        balance: bytes_of_balance(0),
+        held: 0,
+    })
 }

@@ -7,7 +7,7 @@ ghost use Rattle.sqltables.specs.declared.line.LineRow.{LineRow as Row};
 ghost use Rattle.states.specs.States.{Finds};
 
 use crate::account::number_of;
-use crate::writing::is_roid;
+use crate::line::is_roid;
 use accounts::Line;
 use basis::list::Seq;
 use basis::registrar::RegistrarNo;

@@ -13,28 +13,19 @@
 #![tactic(auto)]
 
 mod account;
-mod acknowledging;
 mod counting;
 mod finding;
 mod graces;
 mod line;
-mod opening;
-mod paying;
 mod posting;
 mod queue;
-mod queue_account;
-mod queue_length;
-mod queue_message;
 mod reading_lines;
 mod swapping;
-mod writing;
 
-pub use account::{found_row, maybe_row, number_of};
-pub use counting::counts;
+pub use account::{found_row, maybe_row, number_of, open_account};
+pub use counting::{counts, waiting};
 pub use graces::{grace_end, maybe_grace_end};
 pub use line::balance;
-pub use opening::open_account;
 pub use posting::posted;
 pub use queue::oldest;
-pub use queue_length::waiting;
 pub use reading_lines::{lines, lines_on};

@@ -1,27 +1,34 @@
-//! Lines of accounts, and what they add up to.
-ghost use Rattle.std.specs.{Prelude.{◌≡◌, true, pos}, Option.option_map_or};
+//! Lines of accounts, what they add up to, and rows that read as them.
+ghost use Rattle.std.specs.Prelude.{◌≡◌, ◌↔◌, ◌⊎◌, ◌+ℤ◌, ◌-ℤ◌, pos, FitsSigned};
+ghost use Rattle.std.specs.Prelude.{IfNone, IfOk, IfSome, IsTrue, OnErr};
+ghost use Rattle.std.specs.{Int.w128, Option.option_map_or};
 ghost use Rattle.sqltables.specs.declared.account.AccountRow.{AccountRow};
-ghost use Rattle.accounts.specs.{Entries.with_lines, Lines.in_order};
+ghost use Rattle.accounts.specs.{Entries.with_lines, Lines.{amount, in_order}};
 ghost use Rattle.accounts.specs.Lines as lines;
 ghost use Rattle.basis.specs.Bag.{add, taken};
+ghost use Rattle.calendar.specs.Moment.{IsMoment};
 ghost use Rattle.sqlaccounts.specs.Accounts.{account_of_rows, balance_in, sums_are_right};
-ghost use Rattle.sqlaccounts.specs.inner.Posting.{IsRowOf, PostsNoLine, PostsTo};
+ghost use Rattle.sqlaccounts.specs.inner.Changes.{IsBalanceChanged, IsWritten};
+ghost use Rattle.sqlaccounts.specs.inner.Posting.{IsReady, PostsNoLine, PostsTo};
+ghost use Rattle.sqlcolumns.specs.{inner.Lines.IsStorableLine, Roids.IsRoid};
 ghost use Rattle.sqlrows.specs.Meanings.{FindsIfRight};
 
 use crate::account::maybe_row;
 use crate::finding::{number_of_line, rows_about};
 use crate::graces::maybe_grace_end;
-use crate::paying::{paid, paid_back};
-use crate::writing::written;
 use accounts::Line;
 use basis::registrar::RegistrarNo;
+use calendar::Moment;
+use objects::Roid;
 use policy::Schedule;
-use sqlcolumns::maybe_moment_column;
+use sqlcolumns::{line_row, maybe_moment_column, registrar_column};
 use sqlite::Alter;
-use sqltables::{AccountRow, RowStore};
+use sqlrows::or_fault;
+use sqltables::{AccountRow, LineRow, RowStore, bytes_of_balance};
 use states::BookFault;
 
 /// What a registrar's account has, in whole cents: 0 where it was never opened.
+#[tactic(auto, using(crate::proofs::AccountLemmas::balance_found))]
 pub fn balance<S: Alter>(store: &mut RowStore<S>, registrar: RegistrarNo) -> Result<i128, BookFault>
     ensures { FindsIfRight result (sums_are_right store.old.content)
         (lines.balance (account_of_rows registrar store.old.content).lines) store.old store.new }
@@ -49,8 +56,7 @@ pub(crate) fn add_line<S: Alter>(
     line: Line,
     days: &Option<Schedule>,
 ) -> Result<AccountRow, BookFault>
-    requires begun { store.old.is_open ≡ true }
-    requires there { store.old.is_clean ≡ true → IsRowOf registrar row store.old.content }
+    requires { IsReady registrar row store.old }
     ensures { PostsTo result days.now registrar (with_lines (add in_order line)) row store.old
         store.new }
 {
@@ -69,8 +75,7 @@ pub(crate) fn take_line<S: Alter>(
     row: AccountRow,
     line: Line,
 ) -> Result<AccountRow, BookFault>
-    requires begun { store.old.is_open ≡ true }
-    requires there { store.old.is_clean ≡ true → IsRowOf registrar row store.old.content }
+    requires { IsReady registrar row store.old }
     ensures { PostsNoLine result registrar
         (with_lines (taken in_order line)) row store.old store.new }
 {
@@ -84,4 +89,98 @@ pub(crate) fn take_line<S: Alter>(
     store.show_consistent();
     store.remove_lines_by_id(number)?;
     Ok(row)
+}
+
+/// The row with so many cents more.
+fn paid(row: AccountRow, cents: i128) -> Result<AccountRow, BookFault>
+    ensures paid { IfOk result (IsBalanceChanged cents row) }
+    ensures fits { OnErr result (¬ FitsSigned w128 (balance_in row.balance +ℤ cents)) }
+{
+    let mut row = row;
+    let Some(balance) = balance_after(row.balance, cents) else {
+        return Err(BookFault::Store);
+    };
+    row.balance = balance;
+    Ok(row)
+}
+
+/// The row without what a line is worth.
+fn paid_back(row: AccountRow, line: &Line) -> Result<AccountRow, BookFault>
+    ensures paid { IfOk result (IsBalanceChanged (pos 0 -ℤ amount line.now) row) }
+    ensures fits { OnErr result ((¬ FitsSigned w128 (pos 0 -ℤ amount line.now))
+        ⊎ (¬ FitsSigned w128 (balance_in row.balance +ℤ (pos 0 -ℤ amount line.now)))) }
+{
+    match less(line.amount()) {
+        Ok(cents) => paid(row, cents),
+        Err(fault) => Err(fault),
+    }
+}
+
+/// A balance with so many cents more, if it fits.
+#[tactic(auto, using(sqltables::proofs::BalanceLemmas::balance_read))]
+fn balance_after(balance: [u8; 16], cents: i128) -> Option<[u8; 16]>
+    ensures sum { IfSome result (λ after. balance_in after ≡ balance_in balance +ℤ cents) }
+    ensures fits { IfNone result (¬ FitsSigned w128 (balance_in balance +ℤ cents)) }
+{
+    let sum = i128::from_be_bytes(balance).checked_add(cents)?;
+    Some(bytes_of_balance(sum))
+}
+
+/// So many cents less.
+fn less(cents: i128) -> Result<i128, BookFault>
+    ensures less { IfOk result (λ less. less ≡ pos 0 -ℤ cents) }
+    ensures fits { OnErr result (¬ FitsSigned w128 (pos 0 -ℤ cents)) }
+{
+    match 0i128.checked_sub(cents) {
+        Some(less) => Ok(less),
+        None => Err(BookFault::Store),
+    }
+}
+
+/// The row of a line, which reads as that line, with the column for the end of its grace. It has no
+/// number of its own yet.
+fn written(registrar: RegistrarNo, line: &Line, ends: Option<i64>) -> Result<LineRow, BookFault>
+    ensures { IfOk result (IsWritten registrar line.now ends) }
+{
+    if !is_line(line) {
+        return Err(BookFault::Store);
+    }
+    Ok(or_fault(line_row(0, registrar_column(registrar), line, ends))?)
+}
+
+/// Whether a line's domain, if it has one, has an identifier that reads.
+fn is_line(line: &Line) -> bool
+    ensures { IsTrue result ↔ IsStorableLine line.now }
+{
+    let _years = line.years;
+    show_moment(Some(line.recorded));
+    show_moment(line.started);
+    show_moment(line.refunded);
+    has_creator(&line.roid)
+}
+
+/// Shows the prover that it is within the range.
+fn show_moment(moment: Option<Moment>)
+    ensures { IfSome moment IsMoment }
+{
+    if let Some(moment) = moment {
+        let _secs = moment.secs();
+    }
+}
+
+fn has_creator(roid: &Option<Roid>) -> bool
+    ensures { IsTrue result ↔ IfSome roid.now IsRoid }
+{
+    match roid {
+        None => true,
+        Some(roid) => is_roid(roid),
+    }
+}
+
+/// Whether an identifier's creator has a place.
+pub(crate) fn is_roid(roid: &Roid) -> bool
+    ensures { IsTrue result ↔ IsRoid roid.now }
+{
+    let _serial = roid.serial;
+    roid.creator.place() != 0
 }

@@ -2,12 +2,11 @@
 ghost use Rattle.std.specs.Prelude.{◌≡◌, true};
 ghost use Rattle.accounts.specs.Entries.{entered};
 ghost use Rattle.lifecycle.specs.Changes.{all_changed, changed, notified};
-ghost use Rattle.sqlaccounts.specs.inner.Posting.{IsRowOf, PostsNoLine, PostsTo};
+ghost use Rattle.sqlaccounts.specs.inner.Posting.{IsReady, IsRowOf, PostsNoLine, PostsTo};
 
-use crate::acknowledging::acknowledge;
 use crate::counting::{counted_in, with_command, with_counters, with_serial};
 use crate::line::add_line;
-use crate::queue::put_message;
+use crate::queue::{acknowledge, put_message};
 use crate::swapping::swap_lines;
 use accounts::LapseEntry;
 use basis::registrar::RegistrarNo;
@@ -56,8 +55,7 @@ fn post<S: Alter>(
     policy: &Policy,
     days: &Option<Schedule>,
 ) -> Result<AccountRow, BookFault>
-    requires begun { store.old.is_open ≡ true }
-    requires there { store.old.is_clean ≡ true → IsRowOf registrar row store.old.content }
+    requires { IsReady registrar row store.old }
     ensures { PostsTo result days.now registrar (changed policy.now what) row store.old store.new }
 {
     match what {
@@ -86,8 +84,7 @@ fn enter<S: Alter>(
     what: LapseEntry,
     days: &Option<Schedule>,
 ) -> Result<AccountRow, BookFault>
-    requires begun { store.old.is_open ≡ true }
-    requires there { store.old.is_clean ≡ true → IsRowOf registrar row store.old.content }
+    requires { IsReady registrar row store.old }
     ensures { PostsTo result days.now registrar (entered what) row store.old store.new }
 {
     match what {
@@ -104,8 +101,7 @@ fn notify<S: Alter>(
     row: AccountRow,
     notification: Notification,
 ) -> Result<AccountRow, BookFault>
-    requires begun { store.old.is_open ≡ true }
-    requires there { store.old.is_clean ≡ true → IsRowOf registrar row store.old.content }
+    requires { IsReady registrar row store.old }
     ensures { PostsNoLine result registrar (notified notification) row
         store.old store.new }
 {

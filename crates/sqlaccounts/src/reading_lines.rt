@@ -32,8 +32,7 @@ pub fn lines_on<S: Alter>(
 {
     let rows = rows_on(store, registrar, roid)?;
     store.show_consistent();
-    let lines = read(alloc, rows.as_slice())?;
-    Ok(lines)
+    Ok(read(alloc, rows.as_slice())?)
 }
 
 /// The lines of a registrar's account: none where it was never opened.
@@ -46,8 +45,7 @@ pub fn lines<S: Alter>(
 {
     let rows = rows_of(store, registrar)?;
     store.show_consistent();
-    let lines = read(alloc, rows.as_slice())?;
-    Ok(lines)
+    Ok(read(alloc, rows.as_slice())?)
 }
 
 /// The lines that rows read as. One that doesn't read is refused.

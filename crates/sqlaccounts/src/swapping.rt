@@ -1,8 +1,8 @@
 //! Lines of a registrar's account that are put for others.
-ghost use Rattle.std.specs.Prelude.{◌≡◌, true};
+ghost use Rattle.std.specs.Prelude.{◌≡◌};
 ghost use Rattle.accounts.specs.{Entries.with_lines, Lines.{in_order, swapped, swapped_all}};
 ghost use Rattle.basis.specs.Bag.{remade};
-ghost use Rattle.sqlaccounts.specs.inner.Posting.{IsRowOf, PostsTo};
+ghost use Rattle.sqlaccounts.specs.inner.Posting.{IsReady, PostsTo};
 
 use crate::line::{add_line, take_line};
 use crate::reading_lines::swaps;
@@ -24,8 +24,7 @@ pub(crate) fn swap_lines<S: Alter, C: LineChange>(
     change: &C,
     days: &Option<Schedule>,
 ) -> Result<AccountRow, BookFault>
-    requires begun { store.old.is_open ≡ true }
-    requires there { store.old.is_clean ≡ true → IsRowOf registrar row store.old.content }
+    requires { IsReady registrar row store.old }
     ensures { PostsTo result days.now registrar (with_lines (remade in_order (C.changed change.now)))
         row store.old store.new }
 {
@@ -41,8 +40,7 @@ fn swap_all<S: Alter>(
     swaps: Seq<LineSwap>,
     days: &Option<Schedule>,
 ) -> Result<AccountRow, BookFault>
-    requires begun { store.old.is_open ≡ true }
-    requires there { store.old.is_clean ≡ true → IsRowOf registrar row store.old.content }
+    requires { IsReady registrar row store.old }
     ensures { PostsTo result days.now registrar (with_lines (swapped_all swaps)) row store.old
         store.new }
 {
@@ -61,8 +59,7 @@ fn swap_line<S: Alter>(
     swap: LineSwap,
     days: &Option<Schedule>,
 ) -> Result<AccountRow, BookFault>
-    requires begun { store.old.is_open ≡ true }
-    requires there { store.old.is_clean ≡ true → IsRowOf registrar row store.old.content }
+    requires { IsReady registrar row store.old }
     ensures { PostsTo result days.now registrar (with_lines (λ lines. swapped lines swap)) row
         store.old store.new }
 {

@@ -31,6 +31,11 @@ pub record IsRowOf (r : ℕ) (row : AccountRow) (xs : Content) : Type 0 where
   pub there : row_of xs (registrar_column r) ≡ Some own
   pub ident : own.ident ≡ row.ident
 
+-- what a call that posts asks for
+pub record IsReady (r : ℕ) (row : AccountRow) (store : StateOf Content) : Type 0 where
+  pub begun : store.is_open ≡ true
+  pub there : store.is_clean ≡ true → IsRowOf r row store.content
+
 -- a row with the end of its line's grace by these lengths of periods
 pub record HasEnd (days : Option Schedule) (row : LineRow) : Type 0 where
   pub line : Line

@@ -2,7 +2,7 @@ use Rattle.std.proofs.{Common.{false, ap, sym, ◌∙◌}, lemmas.Option.same_So
 use Rattle.std.specs.Str.{bytes_eq}
 use Rattle.sqlaccounts.proofs.{Words.{dropped, Message, message_id, with_queue}, CallLemmas.then-kept, PostingLemmas.posts-behind}
 use Rattle.sqlaccounts.proofs.StepLemmas.{ack-posted, none-to-ack}
-use Rattle.sqlaccounts.proofs.acknowledging.acknowledge.Goals as goal
+use Rattle.sqlaccounts.proofs.queue.acknowledge.Goals as goal
 
 pub returns-in_default : goal.returns-in_default
 returns-in_default g c = λ days.

@@ -2,7 +2,7 @@ use Rattle.std.proofs.Common.{rules, ◌∙◌, FitsSigned, ◌+ℤ◌, subst, s
 use Rattle.std.specs.Int.{w128}
 use Rattle.sqltables.specs.inner.Balance.{balance_bytes}
 use Rattle.sqltables.proofs.BalanceLemmas.{balance_read}
-use Rattle.sqlaccounts.proofs.paying.balance_after.Goals as goal
+use Rattle.sqlaccounts.proofs.line.balance_after.Goals as goal
 
 pub returns-clause-sum : goal.returns-clause-sum
 returns-clause-sum c =

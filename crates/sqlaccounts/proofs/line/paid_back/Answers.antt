@@ -1,6 +1,6 @@
 use Rattle.std.proofs.Common.{◌≡◌, ◌∙◌, inl, ℤ, pos, ◌-ℤ◌, FitsSigned, arith, subst, to_z, of_z}
 use Rattle.sqlaccounts.proofs.Words.{ints, w128}
-use Rattle.sqlaccounts.proofs.paying.paid_back.Goals as goal
+use Rattle.sqlaccounts.proofs.line.paid_back.Goals as goal
 
 pub returns-in-Err-clause-fits : goal.returns-in-Err-clause-fits
 returns-in-Err-clause-fits c =

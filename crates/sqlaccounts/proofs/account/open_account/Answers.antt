@@ -1,6 +1,6 @@
 use Rattle.std.proofs.Common.{sym, subst}
 use Rattle.sqlaccounts.proofs.{Words.{IsConsistent, opened_row}, CallLemmas.{then-kept, then-put}, OpeningLemmas.{opened-now, still-open}}
-use Rattle.sqlaccounts.proofs.opening.open_account.Goals as goal
+use Rattle.sqlaccounts.proofs.account.open_account.Goals as goal
 
 pub returns : goal.returns
 returns g c =
