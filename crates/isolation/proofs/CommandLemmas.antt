@@ -1,5 +1,6 @@
 -- What another registrar's command changes, in registries that are one but for what is redacted.
 use Rattle.std.proofs.Common.{◌≡◌, ◌≢◌, inl, inr, ℕ, ◌+◌, ◌*◌, Bool, true, false, cond, not, ◌&&◌, ◌||◌, ◌==◌, List, [], ◌∷◌, Option, Some, None, is_none, option_and_then, option_map, refl, sym, ap, subst, ◌∙◌, eqb-true}
+use Rattle.std.proofs.{lemmas.Bool.ne_eqb, Math.Bool.or-false}
 use Rattle.std.specs.Str.{bytes_eq}
 use Rattle.accounts.specs.declared.line.LineKind.TheVariants as lines
 use Rattle.accounts.specs.Lines.{is_same_roid}
@@ -23,14 +24,15 @@ use Rattle.isolation.proofs.AccountLemmas.{given-charges}
 use Rattle.isolation.proofs.ChangeLemmas.{AreAlikeChanges, IsAlikeChange, put-contact-alike, put-domain-alike, same-change}
 use Rattle.isolation.proofs.PairLemmas.{IsClosed, across, alike-then, alike-turned, authorized-open, contact-pair, domain-pair, equal-lists, own-open, requester-open, same-standing, through}
 use Rattle.isolation.proofs.PutLemmas.{contact-hidden, contact-natural, contact-updated, domain-hidden, domain-natural, domain-updated}
-use Rattle.isolation.proofs.RedactionLemmas.{apart, same-clock, same-hosts, same-others, secret-twice, with_data, with_secret}
+use Rattle.isolation.proofs.RedactionLemmas.{same-clock, same-hosts, same-others, secret-twice, with_data, with_secret}
 use Rattle.isolation.proofs.Words.{FinMap, get, nat_cmp, list_any, slice_cmp, and_from, not-false, not_from_false, or_from, or_left, or_parts, Account}
 use Rattle.isolation.proofs.Words.{itself-roid, Facts, Charge, RefundRunning, TakeSerial, RunningRefund, given_back, refund_at, Registry, account_of}
 use Rattle.isolation.proofs.Words.{standing_of, domain_sight, Contact, ContactFace, Domain, DomainFace, FullDomain, Host, Roid, Seen, Full}
-use Rattle.isolation.proofs.Words.{Transfer, contact_face_of, face_of, authorizes, contact_as, is_party, is_incoming, is_pending, PolicyRules}
+use Rattle.isolation.proofs.Words.{Transfer, contact_face_of, face_of, contact_as, is_party, is_incoming, is_pending, PolicyRules}
 use Rattle.isolation.proofs.Words.{Asked, ContactUpdate, DomainUpdate, Request, TransferOp, asks_of, holds_of, presented, presented_contact, Change}
 use Rattle.isolation.proofs.Words.{DropDomain, PutContact, PutDomain, PutHost, Post, full_as, refusal_of, transfer_after, unrefused, Hidden, puts}
 use Rattle.isolation.proofs.Words.{with_hidden, Objects, AreOne, is_redacted, no_postal, redacted_contact, redacted_domain, blank_if}
+use Rattle.isolation.proofs.PairLemmas.{seen_if}
 
 not-incoming : (r : ℕ) (last : Option Transfer) → is_pending last ≡ false → is_incoming r last ≡ false
 not-incoming r None e = refl
@@ -131,11 +133,11 @@ module _ (p : PolicyRules) (r q : ℕ) (other : q ≢ r) (touched : Objects) (s 
   -- what the caller sponsors, and no transfer pends of, isn't the registrar's
   sponsored-out : (roid : Roid) (sponsor : ℕ) (last : Option Transfer) → touched roid ≡ true → not (sponsor == q) ≡ false → is_pending last ≡ false → is_redacted r touched roid sponsor last ≡ true
   sponsored-out roid sponsor last mine own over =
-      out-own (touched roid) (sponsor == r) (is_incoming r last) mine (ap (λ (n : ℕ). n == r) (eqb-true sponsor q (not-false _ own)) ∙ apart q r other) (not-incoming r last over)
+      out-own (touched roid) (sponsor == r) (is_incoming r last) mine (ap (λ (n : ℕ). n == r) (eqb-true sponsor q (not-false _ own)) ∙ ne_eqb q r other) (not-incoming r last over)
 
   -- nor is what it creates
   new-out : (roid : Roid) → touched roid ≡ true → is_redacted r touched roid q None ≡ true
-  new-out roid e = out-own (touched roid) (q == r) false e (apart q r other) refl
+  new-out roid e = out-own (touched roid) (q == r) false e (ne_eqb q r other) refl
 
   abbrev other_contact : Hidden → NewContact → NewContact
   other_contact h new = record new { secret = or_old h.secret new.secret; postal = or_old h.postal new.postal; voice = h.voice; mail = or_old h.mail new.mail }
@@ -361,66 +363,64 @@ module _ (p : PolicyRules) (r q : ℕ) (other : q ≢ r) (touched : Objects) (s 
         (equal-change _ _ (λ i. Post q (RefundRunning (refund_at s.clock (same i)))), tt),
       ))))
 
-  -- ---- transfers of contacts
+  -- ---- transfers
 
   or-none : {A : Type 0} (o : Option A) → or_else o None ≡ o
   or-none None = refl
   or-none (Some x) = refl
 
-  or-false : (b : Bool) → (b || false) ≡ b
-  or-false true = refl
-  or-false false = refl
+  -- what an operation on a transfer finds at its object, where it isn't refused
+  module _ {O : Type 0} (F : Type 0) (sponsor : O → ℕ) (secret_of : O → List ℕ) (last : O → Option Transfer) where
+    abbrev Grants : TransferOp → Option (List ℕ) → Option (Seen O F) → Type 0
+    Grants ops.Request secret seen = holds_of (is_authorized secret_of secret) seen ≡ true
+    Grants ops.Query secret seen = Unit {0}
+    Grants ops.Approve secret seen = (is_anothers sponsor q seen ≡ false) × (is_pending (option_and_then (last_seen last) seen) ≡ true)
+    Grants ops.Reject secret seen = is_anothers sponsor q seen ≡ false
+    Grants ops.Cancel secret seen = (holds_of (λ (y : Transfer). y.requester == q) (option_and_then (last_seen last) seen) ≡ true) × (is_pending (option_and_then (last_seen last) seen) ≡ true)
 
-  module _ (name : List ℕ) (mine yours : Option (List ℕ)) where
-    abbrev asks : TransferOp → Request
-    asks op = requests.TransferContact name op mine
+    -- so all of the object is seen
+    opens : (op : TransferOp) (secret : Option (List ℕ)) (o : O) (face : F) (opened : Bool) → op ≢ ops.Query
+        → Grants op secret (Some (seen_if q (is_party q (sponsor o) (last o) || opened) o face (last o))) → (is_party q (sponsor o) (last o) || opened) ≡ true
+    opens ops.Request secret o face opened changes grants = authorized-open q o face (last o) secret_of secret _ grants
+    opens ops.Query secret o face opened changes grants = absurd (changes refl)
+    opens ops.Approve secret o face opened changes grants = own-open q o face (last o) sponsor _ grants.0
+    opens ops.Reject secret o face opened changes grants = own-open q o face (last o) sponsor _ grants
+    opens ops.Cancel secret o face opened changes grants = requester-open q o face last (sponsor o) opened _ refl grants.0 grants.1
 
-    abbrev asks_too : TransferOp → Request
-    asks_too op = requests.TransferContact name op yours
+    -- and a transfer that is approved is pending
+    pends : (op : TransferOp) (secret : Option (List ℕ)) (o : O) → Grants op secret (Some (Full o)) → op ≡ ops.Approve → is_pending (last o) ≡ true
+    pends ops.Approve secret o grants is = grants.1
+    pends op secret o grants is = absurd cc
 
-    -- what is seen of a contact is all, where an operation on its transfer isn't refused
-    abbrev IsOpen : Registry → Request → Contact → Type 0
-    IsOpen x request c = (is_party q c.sponsor c.transfer || authorizes (presented_contact (Asked cl_trid request) name) c.secret) ≡ true
+  -- ---- of contacts
 
-    contact-transfer-opens : (x : Registry) (secret : Option (List ℕ)) (op : TransferOp) (c : Contact)
-        → refusal_of p q x.clock (requests.TransferContact name op secret) (facts p q (Asked cl_trid (requests.TransferContact name op secret)) x) ≡ None
-        → contact_seen (facts p q (Asked cl_trid (requests.TransferContact name op secret)) x) name ≡ Some (contact_as q (presented_contact (Asked cl_trid (requests.TransferContact name op secret)) name) c)
-        → op ≢ ops.Query → IsOpen x (requests.TransferContact name op secret) c
-    contact-transfer-opens x secret ops.Request c taken e changes =
-        let request : Request = requests.TransferContact name ops.Request secret in
-        let f : Facts = facts p q (Asked cl_trid request) x in
-        authorized-open q c (contact_face_of c) c.transfer contact_secret secret _
-        (sym (ap (λ seen. holds_of (is_authorized contact_secret secret) seen) e)
-        ∙ sym (or-false (holds_of (is_authorized contact_secret secret) (contact_seen f name)))
-        ∙ not-false _ (unrefused p q x.clock request f taken conditions.SecretIsNotRight (search (inl, inr) depth 20)))
-    contact-transfer-opens x secret ops.Query c taken e changes = absurd (changes refl)
-    contact-transfer-opens x secret ops.Cancel c taken e changes =
-        let request : Request = requests.TransferContact name ops.Cancel secret in
-        let f : Facts = facts p q (Asked cl_trid request) x in
-        requester-open q c (contact_face_of c) contact_transfer c.sponsor (authorizes (presented_contact (Asked cl_trid request) name) c.secret) _ refl
-        (sym (ap (λ seen. holds_of (λ (y : Transfer). y.requester == q) (option_and_then (last_seen contact_transfer) seen)) e)
-        ∙ sym (ap (holds_of (λ (y : Transfer). y.requester == q)) (or-none (option_and_then (last_seen contact_transfer) (contact_seen f name))))
-        ∙ not-false _ (unrefused p q x.clock request f taken conditions.IsNotRequester (search (inl, inr) depth 20)))
-        (sym (ap (λ seen. is_pending (option_and_then (last_seen contact_transfer) seen)) e)
-        ∙ sym (ap is_pending (or-none (option_and_then (last_seen contact_transfer) (contact_seen f name))))
-        ∙ not-false _ (unrefused p q x.clock request f taken conditions.IsNotPending (search (inl, inr) depth 20)))
-    contact-transfer-opens x secret op c taken e changes =
-        let request : Request = requests.TransferContact name op secret in
-        let f : Facts = facts p q (Asked cl_trid request) x in
-        own-open q c (contact_face_of c) c.transfer contact_sponsor _
-        (sym (ap (is_anothers contact_sponsor q) e) ∙ (or_parts _ _ (unrefused p q x.clock request f taken conditions.IsAnothers (search (inl, inr) depth 20))).0)
+  module _ (name : List ℕ) where
+    abbrev Granted : TransferOp → Option (List ℕ) → Option (Seen Contact ContactFace) → Type 0
+    Granted = Grants ContactFace contact_sponsor contact_secret contact_transfer
 
-    -- a transfer that is approved is pending
-    contact-approved-pends : (x : Registry) (secret : Option (List ℕ)) (op : TransferOp) (c : Contact)
-        → refusal_of p q x.clock (requests.TransferContact name op secret) (facts p q (Asked cl_trid (requests.TransferContact name op secret)) x) ≡ None
-        → contact_seen (facts p q (Asked cl_trid (requests.TransferContact name op secret)) x) name ≡ Some (Full c) → op ≡ ops.Approve → is_pending c.transfer ≡ true
-    contact-approved-pends x secret ops.Approve c taken e is =
-        let request : Request = requests.TransferContact name ops.Approve secret in
-        let f : Facts = facts p q (Asked cl_trid request) x in
-        sym (ap (λ seen. is_pending (option_and_then (last_seen contact_transfer) seen)) e)
-        ∙ sym (ap is_pending (or-none (option_and_then (last_seen contact_transfer) (contact_seen f name))))
-        ∙ not-false _ (unrefused p q x.clock request f taken conditions.IsNotPending (search (inl, inr) depth 20))
-    contact-approved-pends x secret op c taken e is = absurd cc
+    abbrev asks : Option (List ℕ) → TransferOp → Request
+    asks secret op = requests.TransferContact name op secret
+
+    module _ (x : Registry) (secret : Option (List ℕ)) where
+      abbrev known : TransferOp → Facts
+      known op = facts p q (Asked cl_trid (asks secret op)) x
+
+      abbrev last_known : TransferOp → Option Transfer
+      last_known op = option_and_then (last_seen contact_transfer) (contact_seen (known op) name)
+
+      granted : (op : TransferOp) → refusal_of p q x.clock (asks secret op) (known op) ≡ None → Granted op secret (contact_seen (known op) name)
+      granted ops.Request taken = sym (or-false (holds_of (is_authorized contact_secret secret) (contact_seen (known ops.Request) name)))
+          ∙ not-false _ (unrefused p q x.clock (asks secret ops.Request) (known ops.Request) taken conditions.SecretIsNotRight (search (inl, inr) depth 20))
+      granted ops.Query taken = tt
+      granted ops.Approve taken = (
+        (or_parts _ _ (unrefused p q x.clock (asks secret ops.Approve) (known ops.Approve) taken conditions.IsAnothers (search (inl, inr) depth 20))).0,
+        sym (ap is_pending (or-none (last_known ops.Approve))) ∙ not-false _ (unrefused p q x.clock (asks secret ops.Approve) (known ops.Approve) taken conditions.IsNotPending (search (inl, inr) depth 20)),
+      )
+      granted ops.Reject taken = (or_parts _ _ (unrefused p q x.clock (asks secret ops.Reject) (known ops.Reject) taken conditions.IsAnothers (search (inl, inr) depth 20))).0
+      granted ops.Cancel taken = (
+        sym (ap (holds_of (λ (y : Transfer). y.requester == q)) (or-none (last_known ops.Cancel))) ∙ not-false _ (unrefused p q x.clock (asks secret ops.Cancel) (known ops.Cancel) taken conditions.IsNotRequester (search (inl, inr) depth 20)),
+        sym (ap is_pending (or-none (last_known ops.Cancel))) ∙ not-false _ (unrefused p q x.clock (asks secret ops.Cancel) (known ops.Cancel) taken conditions.IsNotPending (search (inl, inr) depth 20)),
+      )
 
     query-changes-nothing : (u : ℕ) (seen : Option (Seen Contact ContactFace)) → contact_transfer_changes p q u ops.Query seen ≡ []
     query-changes-nothing u (Some (Full c)) = by c.transfer
@@ -430,66 +430,50 @@ module _ (p : PolicyRules) (r q : ℕ) (other : q ≢ r) (touched : Objects) (s 
         by (Some y) = refl
     query-changes-nothing u seen = refl
 
-    transfer-contact-by : (op : TransferOp) → op ≢ ops.Query → IsTakenHere (asks op) → IsTakenThere (asks_too op)
-        → AreAlike (contact_transfer_changes p q s.clock op (contact_seen (here (asks op)) name)) (contact_transfer_changes p q s.clock op (contact_seen (there (asks_too op)) name))
-    transfer-contact-by op changes taken taken_too =
-        contact-pair p r q touched s t one name (presented_contact (Asked cl_trid (asks op)) name) (presented_contact (Asked cl_trid (asks_too op)) name)
-        (contact_transfer_changes p q s.clock op) (contact_transfer_changes p q s.clock op)
-        (record { none = refl; party = λ face x. refl; public = λ face. refl }) (record { none = refl; party = λ face x. refl; public = λ face. refl })
-        (contact_seen (here (asks op)) name) (contact_seen (there (asks_too op)) name) (seen-contact s (asks op) name) (seen-contact t (asks_too op) name)
-        (λ c d same e f. contact-transfer-opens s mine op c taken e changes ∙ sym (contact-transfer-opens t yours op d taken_too f changes))
-        (λ c d same e f. through p r touched (redacted_contact r touched) (λ x. contact_transferred_if s.clock op (transfer_after p q s.clock op x.sponsor x.transfer) x) c d same
-        (contact-natural p r q (apart q r other) touched s.clock op c c.transfer refl (contact-approved-pends s mine op c taken e))
-        (contact-natural p r q (apart q r other) touched s.clock op d d.transfer refl (contact-approved-pends t yours op d taken_too f)))
+    module _ (mine yours : Option (List ℕ)) where
+      transfer-contact-by : (op : TransferOp) → op ≢ ops.Query → IsTakenHere (asks mine op) → IsTakenThere (asks yours op)
+          → AreAlike (contact_transfer_changes p q s.clock op (contact_seen (here (asks mine op)) name)) (contact_transfer_changes p q s.clock op (contact_seen (there (asks yours op)) name))
+      transfer-contact-by op changes taken taken_too =
+          contact-pair p r q touched s t one name (presented_contact (Asked cl_trid (asks mine op)) name) (presented_contact (Asked cl_trid (asks yours op)) name)
+          (contact_transfer_changes p q s.clock op) (contact_transfer_changes p q s.clock op)
+          (record { none = refl; party = λ face x. refl; public = λ face. refl }) (record { none = refl; party = λ face x. refl; public = λ face. refl })
+          (contact_seen (here (asks mine op)) name) (contact_seen (there (asks yours op)) name) (seen-contact s (asks mine op) name) (seen-contact t (asks yours op) name)
+          (λ c d same e f. opens ContactFace contact_sponsor contact_secret contact_transfer op mine c (contact_face_of c) _ changes (subst (Granted op mine) e (granted s mine op taken))
+          ∙ sym (opens ContactFace contact_sponsor contact_secret contact_transfer op yours d (contact_face_of d) _ changes (subst (Granted op yours) f (granted t yours op taken_too))))
+          (λ c d same e f. through p r touched (redacted_contact r touched) (λ x. contact_transferred_if s.clock op (transfer_after p q s.clock op x.sponsor x.transfer) x) c d same
+          (contact-natural p r q (ne_eqb q r other) touched s.clock op c c.transfer refl (pends ContactFace contact_sponsor contact_secret contact_transfer op mine c (subst (Granted op mine) e (granted s mine op taken))))
+          (contact-natural p r q (ne_eqb q r other) touched s.clock op d d.transfer refl (pends ContactFace contact_sponsor contact_secret contact_transfer op yours d (subst (Granted op yours) f (granted t yours op taken_too)))))
 
-    transfer-contact : (op : TransferOp) → IsTakenHere (asks op) → IsTakenThere (asks_too op)
-        → AreAlike (contact_transfer_changes p q s.clock op (contact_seen (here (asks op)) name)) (contact_transfer_changes p q s.clock op (contact_seen (there (asks_too op)) name))
-    transfer-contact ops.Query taken taken_too = equal-lists p r touched _ _ (query-changes-nothing s.clock _ ∙ sym (query-changes-nothing s.clock _))
-    transfer-contact op taken taken_too = transfer-contact-by op (λ e. cc) taken taken_too
+      transfer-contact : (op : TransferOp) → IsTakenHere (asks mine op) → IsTakenThere (asks yours op)
+          → AreAlike (contact_transfer_changes p q s.clock op (contact_seen (here (asks mine op)) name)) (contact_transfer_changes p q s.clock op (contact_seen (there (asks yours op)) name))
+      transfer-contact ops.Query taken taken_too = equal-lists p r touched _ _ (query-changes-nothing s.clock _ ∙ sym (query-changes-nothing s.clock _))
+      transfer-contact op taken taken_too = transfer-contact-by op (λ e. cc) taken taken_too
 
-  -- ---- transfers of domains
+  -- ---- of domains
 
-  module _ (name : RequestedName) (mine yours : Option (List ℕ)) where
-    abbrev domain_asks : TransferOp → Request
-    domain_asks op = requests.TransferDomain name op mine
+  module _ (name : RequestedName) where
+    abbrev DomainGranted : TransferOp → Option (List ℕ) → Option (Seen FullDomain DomainFace) → Type 0
+    DomainGranted = Grants DomainFace domain_sponsor domain_secret domain_transfer
 
-    abbrev domain_asks_too : TransferOp → Request
-    domain_asks_too op = requests.TransferDomain name op yours
+    abbrev domain_asks : Option (List ℕ) → TransferOp → Request
+    domain_asks secret op = requests.TransferDomain name op secret
 
-    domain-transfer-opens : (x : Registry) (secret : Option (List ℕ)) (op : TransferOp) (d : Domain)
-        → refusal_of p q x.clock (requests.TransferDomain name op secret) (facts p q (Asked cl_trid (requests.TransferDomain name op secret)) x) ≡ None
-        → domain_seen (facts p q (Asked cl_trid (requests.TransferDomain name op secret)) x) (name_of name) ≡ Some (domain_sight p q x (presented (Asked cl_trid (requests.TransferDomain name op secret)) (name_of name)) d)
-        → op ≢ ops.Query → (is_party q d.sponsor d.transfer || authorizes (presented (Asked cl_trid (requests.TransferDomain name op secret)) (name_of name)) d.secret) ≡ true
-    domain-transfer-opens x secret ops.Request d taken e changes =
-        let request : Request = requests.TransferDomain name ops.Request secret in
-        let f : Facts = facts p q (Asked cl_trid request) x in
-        authorized-open q (full_as (standing_of p x d) d) (face_of (standing_of p x d) d) d.transfer domain_secret secret _
-        (sym (ap (λ seen. holds_of (is_authorized domain_secret secret) seen) e)
-        ∙ not-false _ (unrefused p q x.clock request f taken conditions.SecretIsNotRight (search (inl, inr) depth 20)))
-    domain-transfer-opens x secret ops.Query d taken e changes = absurd (changes refl)
-    domain-transfer-opens x secret ops.Cancel d taken e changes =
-        let request : Request = requests.TransferDomain name ops.Cancel secret in
-        let f : Facts = facts p q (Asked cl_trid request) x in
-        requester-open q (full_as (standing_of p x d) d) (face_of (standing_of p x d) d) domain_transfer d.sponsor (authorizes (presented (Asked cl_trid request) (name_of name)) d.secret) _ refl
-        (sym (ap (λ seen. holds_of (λ (y : Transfer). y.requester == q) (option_and_then (last_seen domain_transfer) seen)) e)
-        ∙ not-false _ (unrefused p q x.clock request f taken conditions.IsNotRequester (search (inl, inr) depth 20)))
-        (sym (ap (λ seen. is_pending (option_and_then (last_seen domain_transfer) seen)) e)
-        ∙ not-false _ (unrefused p q x.clock request f taken conditions.IsNotPending (search (inl, inr) depth 20)))
-    domain-transfer-opens x secret op d taken e changes =
-        let request : Request = requests.TransferDomain name op secret in
-        let f : Facts = facts p q (Asked cl_trid request) x in
-        own-open q (full_as (standing_of p x d) d) (face_of (standing_of p x d) d) d.transfer domain_sponsor _
-        (sym (ap (is_anothers domain_sponsor q) e) ∙ (or_parts _ _ (unrefused p q x.clock request f taken conditions.IsAnothers (search (inl, inr) depth 20))).0)
+    module _ (x : Registry) (secret : Option (List ℕ)) where
+      abbrev domain_known : TransferOp → Facts
+      domain_known op = facts p q (Asked cl_trid (domain_asks secret op)) x
 
-    domain-approved-pends : (x : Registry) (secret : Option (List ℕ)) (op : TransferOp) (full : FullDomain)
-        → refusal_of p q x.clock (requests.TransferDomain name op secret) (facts p q (Asked cl_trid (requests.TransferDomain name op secret)) x) ≡ None
-        → domain_seen (facts p q (Asked cl_trid (requests.TransferDomain name op secret)) x) (name_of name) ≡ Some (Full full) → op ≡ ops.Approve → is_pending full.domain.transfer ≡ true
-    domain-approved-pends x secret ops.Approve full taken e is =
-        let request : Request = requests.TransferDomain name ops.Approve secret in
-        let f : Facts = facts p q (Asked cl_trid request) x in
-        sym (ap (λ seen. is_pending (option_and_then (last_seen domain_transfer) seen)) e)
-        ∙ not-false _ (unrefused p q x.clock request f taken conditions.IsNotPending (search (inl, inr) depth 20))
-    domain-approved-pends x secret op full taken e is = absurd cc
+      domain-granted : (op : TransferOp) → refusal_of p q x.clock (domain_asks secret op) (domain_known op) ≡ None → DomainGranted op secret (domain_seen (domain_known op) (name_of name))
+      domain-granted ops.Request taken = not-false _ (unrefused p q x.clock (domain_asks secret ops.Request) (domain_known ops.Request) taken conditions.SecretIsNotRight (search (inl, inr) depth 20))
+      domain-granted ops.Query taken = tt
+      domain-granted ops.Approve taken = (
+        (or_parts _ _ (unrefused p q x.clock (domain_asks secret ops.Approve) (domain_known ops.Approve) taken conditions.IsAnothers (search (inl, inr) depth 20))).0,
+        not-false _ (unrefused p q x.clock (domain_asks secret ops.Approve) (domain_known ops.Approve) taken conditions.IsNotPending (search (inl, inr) depth 20)),
+      )
+      domain-granted ops.Reject taken = (or_parts _ _ (unrefused p q x.clock (domain_asks secret ops.Reject) (domain_known ops.Reject) taken conditions.IsAnothers (search (inl, inr) depth 20))).0
+      domain-granted ops.Cancel taken = (
+        not-false _ (unrefused p q x.clock (domain_asks secret ops.Cancel) (domain_known ops.Cancel) taken conditions.IsNotRequester (search (inl, inr) depth 20)),
+        not-false _ (unrefused p q x.clock (domain_asks secret ops.Cancel) (domain_known ops.Cancel) taken conditions.IsNotPending (search (inl, inr) depth 20)),
+      )
 
     domain-query-changes-nothing : (u : ℕ) (request : Request) (f : Facts) (seen : Option (Seen FullDomain DomainFace)) → domain_transfer_changes p q u ops.Query request f seen ≡ []
     domain-query-changes-nothing u request f (Some (Full full)) = by full.domain.transfer
@@ -499,26 +483,28 @@ module _ (p : PolicyRules) (r q : ℕ) (other : q ≢ r) (touched : Objects) (s 
         by (Some y) = refl
     domain-query-changes-nothing u request f seen = refl
 
-    transfer-domain-by : (op : TransferOp) → op ≢ ops.Query → IsTakenHere (domain_asks op) → IsTakenThere (domain_asks_too op)
-        → AreAlike (domain_transfer_changes p q s.clock op (domain_asks op) (here (domain_asks op)) (domain_seen (here (domain_asks op)) (name_of name)))
-        (domain_transfer_changes p q s.clock op (domain_asks_too op) (there (domain_asks_too op)) (domain_seen (there (domain_asks_too op)) (name_of name)))
-    transfer-domain-by op changes taken taken_too =
-        domain-pair p r q touched s t one (name_of name) (presented (Asked cl_trid (domain_asks op)) (name_of name)) (presented (Asked cl_trid (domain_asks_too op)) (name_of name))
-        (domain_transfer_changes p q s.clock op (domain_asks op) (here (domain_asks op))) (domain_transfer_changes p q s.clock op (domain_asks_too op) (there (domain_asks_too op)))
-        (record { none = refl; party = λ face x. refl; public = λ face. refl }) (record { none = refl; party = λ face x. refl; public = λ face. refl })
-        (domain_seen (here (domain_asks op)) (name_of name)) (domain_seen (there (domain_asks_too op)) (name_of name)) (seen-domain s (domain_asks op) (name_of name)) (seen-domain t (domain_asks_too op) (name_of name))
-        (λ c d same e g. domain-transfer-opens s mine op c taken e changes ∙ sym (domain-transfer-opens t yours op d taken_too g changes))
-        (λ c d same e g. across p r touched (redacted_domain r touched) (λ x. domain_transferred_if p q s.clock op (domain_asks op) (here (domain_asks op)) (transfer_after p q s.clock op x.sponsor x.transfer) x)
-        (λ x. domain_transferred_if p q s.clock op (domain_asks_too op) (there (domain_asks_too op)) (transfer_after p q s.clock op x.sponsor x.transfer) x) c d same
-        (domain-natural p r q (apart q r other) touched s.clock name mine yours (here (domain_asks op)) (there (domain_asks_too op)) op c c.transfer refl (domain-approved-pends s mine op (full_as (standing_of p s c) c) taken e))
-        (domain-natural p r q (apart q r other) touched s.clock name yours yours (there (domain_asks_too op)) (there (domain_asks_too op)) op d d.transfer refl (domain-approved-pends t yours op (full_as (standing_of p t d) d) taken_too g)))
+    module _ (mine yours : Option (List ℕ)) where
+      transfer-domain-by : (op : TransferOp) → op ≢ ops.Query → IsTakenHere (domain_asks mine op) → IsTakenThere (domain_asks yours op)
+          → AreAlike (domain_transfer_changes p q s.clock op (domain_asks mine op) (here (domain_asks mine op)) (domain_seen (here (domain_asks mine op)) (name_of name)))
+          (domain_transfer_changes p q s.clock op (domain_asks yours op) (there (domain_asks yours op)) (domain_seen (there (domain_asks yours op)) (name_of name)))
+      transfer-domain-by op changes taken taken_too =
+          domain-pair p r q touched s t one (name_of name) (presented (Asked cl_trid (domain_asks mine op)) (name_of name)) (presented (Asked cl_trid (domain_asks yours op)) (name_of name))
+          (domain_transfer_changes p q s.clock op (domain_asks mine op) (here (domain_asks mine op))) (domain_transfer_changes p q s.clock op (domain_asks yours op) (there (domain_asks yours op)))
+          (record { none = refl; party = λ face x. refl; public = λ face. refl }) (record { none = refl; party = λ face x. refl; public = λ face. refl })
+          (domain_seen (here (domain_asks mine op)) (name_of name)) (domain_seen (there (domain_asks yours op)) (name_of name)) (seen-domain s (domain_asks mine op) (name_of name)) (seen-domain t (domain_asks yours op) (name_of name))
+          (λ c d same e g. opens DomainFace domain_sponsor domain_secret domain_transfer op mine (full_as (standing_of p s c) c) (face_of (standing_of p s c) c) _ changes (subst (DomainGranted op mine) e (domain-granted s mine op taken))
+          ∙ sym (opens DomainFace domain_sponsor domain_secret domain_transfer op yours (full_as (standing_of p t d) d) (face_of (standing_of p t d) d) _ changes (subst (DomainGranted op yours) g (domain-granted t yours op taken_too))))
+          (λ c d same e g. across p r touched (redacted_domain r touched) (λ x. domain_transferred_if p q s.clock op (domain_asks mine op) (here (domain_asks mine op)) (transfer_after p q s.clock op x.sponsor x.transfer) x)
+          (λ x. domain_transferred_if p q s.clock op (domain_asks yours op) (there (domain_asks yours op)) (transfer_after p q s.clock op x.sponsor x.transfer) x) c d same
+          (domain-natural p r q (ne_eqb q r other) touched s.clock name mine yours (here (domain_asks mine op)) (there (domain_asks yours op)) op c c.transfer refl (pends DomainFace domain_sponsor domain_secret domain_transfer op mine (full_as (standing_of p s c) c) (subst (DomainGranted op mine) e (domain-granted s mine op taken))))
+          (domain-natural p r q (ne_eqb q r other) touched s.clock name yours yours (there (domain_asks yours op)) (there (domain_asks yours op)) op d d.transfer refl (pends DomainFace domain_sponsor domain_secret domain_transfer op yours (full_as (standing_of p t d) d) (subst (DomainGranted op yours) g (domain-granted t yours op taken_too)))))
 
-    transfer-domain : (op : TransferOp) → IsTakenHere (domain_asks op) → IsTakenThere (domain_asks_too op)
-        → AreAlike (domain_transfer_changes p q s.clock op (domain_asks op) (here (domain_asks op)) (domain_seen (here (domain_asks op)) (name_of name)))
-        (domain_transfer_changes p q s.clock op (domain_asks_too op) (there (domain_asks_too op)) (domain_seen (there (domain_asks_too op)) (name_of name)))
-    transfer-domain ops.Query taken taken_too = equal-lists p r touched _ _
-        (domain-query-changes-nothing s.clock (domain_asks ops.Query) (here (domain_asks ops.Query)) _ ∙ sym (domain-query-changes-nothing s.clock (domain_asks_too ops.Query) (there (domain_asks_too ops.Query)) _))
-    transfer-domain op taken taken_too = transfer-domain-by op (λ e. cc) taken taken_too
+      transfer-domain : (op : TransferOp) → IsTakenHere (domain_asks mine op) → IsTakenThere (domain_asks yours op)
+          → AreAlike (domain_transfer_changes p q s.clock op (domain_asks mine op) (here (domain_asks mine op)) (domain_seen (here (domain_asks mine op)) (name_of name)))
+          (domain_transfer_changes p q s.clock op (domain_asks yours op) (there (domain_asks yours op)) (domain_seen (there (domain_asks yours op)) (name_of name)))
+      transfer-domain ops.Query taken taken_too = equal-lists p r touched _ _
+          (domain-query-changes-nothing s.clock (domain_asks mine ops.Query) (here (domain_asks mine ops.Query)) _ ∙ sym (domain-query-changes-nothing s.clock (domain_asks yours ops.Query) (there (domain_asks yours ops.Query)) _))
+      transfer-domain op taken taken_too = transfer-domain-by op (λ e. cc) taken taken_too
 
   -- ---- each request
 

@@ -1,10 +1,10 @@
 -- What is left out once is left out twice, and more is left out of what is left.
-use Rattle.std.proofs.Common.{◌≡◌, ◌≢◌, ℕ, Bool, true, false, cond, ◌&&◌, ◌==◌, List, [], Option, Some, None, option_map, refl, sym, ap, ◌∙◌, eqb-true}
+use Rattle.std.proofs.Common.{◌≡◌, ◌≢◌, ℕ, Bool, true, false, cond, ◌&&◌, ◌==◌, List, [], Option, Some, None, option_map, refl, sym, ap, ◌∙◌}
 use Rattle.isolation.proofs.AccountLemmas.{filter-twice}
 use Rattle.isolation.proofs.Words.{unwrap_or, nat_cmp_total, slice_cmp, nat_list_cmp_total, FinMap, get, nat_cmp-IsAntisymmetric, nat_cmp, and_from}
-use Rattle.isolation.proofs.Words.{and_parts, eq-eqb, false_from_ne_true, Account, Line, empty_account, map_values, names_apart, get-map_values}
+use Rattle.isolation.proofs.Words.{and_parts, eq-eqb, Account, Line, empty_account, map_values, names_apart, get-map_values}
 use Rattle.isolation.proofs.Words.{map_values-twice, Registry, account_of, Contact, Postal, Domain, Roid, Objects, AreOne, is_charge, is_redacted}
-use Rattle.isolation.proofs.Words.{no_postal, redacted, redacted_account, redacted_contact, redacted_domain, blank_if, without_deposits}
+use Rattle.isolation.proofs.Words.{no_postal, redacted, redacted_account, redacted_contact, redacted_domain, blank_if, without_deposits, ne_eqb}
 
 -- ---- hidden data
 
@@ -83,9 +83,6 @@ module _ (r q : ℕ) where
 
 -- ---- what registries that are one share
 
-pub apart : (q r : ℕ) → q ≢ r → (q == r) ≡ false
-apart q r other = false_from_ne_true (q == r) (λ e. other (eqb-true q r e))
-
 module _ (r : ℕ) (touched : Objects) where
   contact-left : (s : Registry) (name : List ℕ) → get (redacted r touched s).contacts name ≡ option_map (redacted_contact r touched) (get s.contacts name)
   contact-left s name = get-map_values (slice_cmp nat_cmp) nat_list_cmp_total names_apart (λ name. redacted_contact r touched) s.contacts name
@@ -124,4 +121,4 @@ module _ (r : ℕ) (touched : Objects) where
     same-others q other = sym (other-left s) ∙ same-account q ∙ other-left t
       where
         other-left : (x : Registry) → redacted_account r q (account_of q x) ≡ without_deposits (account_of q x)
-        other-left x = ap (λ (b : Bool). cond b (account_of q x) (without_deposits (account_of q x))) (apart q r other)
+        other-left x = ap (λ (b : Bool). cond b (account_of q x) (without_deposits (account_of q x))) (ne_eqb q r other)

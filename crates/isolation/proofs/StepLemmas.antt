@@ -1,5 +1,6 @@
 -- One step in each of two runs.
 use Rattle.std.proofs.Common.{◌≡◌, ◌≢◌, ℕ, ℤ, Bool, true, false, cond, ◌&&◌, ◌==◌, List, [], Option, Some, None, is_none, option_and_then, option_map, refl, sym, ap, subst, ◌∙◌, eqb-true}
+use Rattle.std.proofs.lemmas.Bool.{ne_eqb}
 use Rattle.model.specs.declared.object.Object.TheVariants as objects
 use Rattle.model.specs.Objects.{object_at}
 use Rattle.objects.specs.declared.roid.ObjectKind.{ObjectKind}
@@ -14,7 +15,7 @@ use Rattle.isolation.specs.Runs.{answer_to, command, date, dated, effect_of, ins
 use Rattle.isolation.proofs.ChangeLemmas.{AreAlikeChanges, IsAlikeChange, changed-alike, deposited-alike, give-alike, put-contact-alike, put-domain-alike, same-change, same-changes}
 use Rattle.isolation.proofs.{CommandLemmas.{hidden-request, same-request}, OwnLemmas.{answer-alike, decision-alike, same-public}}
 use Rattle.isolation.proofs.PairLemmas.{equal-lists, no-changes, through}
-use Rattle.isolation.proofs.RedactionLemmas.{apart, left_out-twice, one-but-more, same-clock, same-contact, same-domain, same-hosts, secret-twice}
+use Rattle.isolation.proofs.RedactionLemmas.{left_out-twice, one-but-more, same-clock, same-contact, same-domain, same-hosts, secret-twice}
 use Rattle.isolation.proofs.Words.{slice_cmp, FinMap, get, list_any, nat_cmp, and_from, eq-eqb, false≢true, or_left, or_right, true≢false, same_Some, Facts}
 use Rattle.isolation.proofs.Words.{facts, CountCommand, Registry, Contact, Domain, Host, Roid, PolicyRules, place_of, Command, Asked, Bad, Request, asks_of}
 use Rattle.isolation.proofs.Words.{Change, Post, PutContact, changed_all, answer, decision, effect, refusing, refusal_of, Hidden, IsAlike, Pair}
@@ -195,7 +196,7 @@ pairs-step p r touched (same date) s t one alike = (one, λ e. ap dated (same-cl
 pairs-step p r touched (same look_up) s t one alike = (one, λ e. ap shown (same-public p r touched s t one))
 pairs-step p r touched (same inspection) s t one alike = (one, λ e. absurd (false≢true e))
 pairs-step p r touched (hidden q cl_trid request h) s t one alike =
-    let apart_too : (q == r) ≡ false = apart q r alike.elsewhere in
+    let apart_too : (q == r) ≡ false = ne_eqb q r alike.elsewhere in
     (other-hidden p r q alike.elsewhere touched s t one cl_trid request h (same_Some _ _ (alike.codes apart_too)), λ e. absurd (true≢false (sym e ∙ apart_too)))
 pairs-step p r touched (deposits registrar cents others) s t one alike =
     (other-deposit p r touched s t one registrar alike.elsewhere cents others (same_Some _ _ (alike.codes refl)), λ e. absurd (false≢true e))

@@ -27,7 +27,7 @@ pub use Rattle.protocol.specs.declared.command.{Command.TheVariants.{Asked, Bad}
 pub use Rattle.protocol.specs.declared.{command.Request.Request, transfer.TransferOp.TransferOp}
 pub use Rattle.rules.proofs.RowLemmas.{refusing, unrefused}
 pub use Rattle.rules.specs.{Rules.refusal_of, Transfers.transfer_after}
-pub use Rattle.std.proofs.lemmas.Bool.{and_from, and_parts, eq-eqb, false_from_ne_true, false≢true, not-false, not-true, not_from_false, or_from, or_left, or_parts, or_right, true≢false}
+pub use Rattle.std.proofs.lemmas.Bool.{and_from, and_parts, eq-eqb, false_from_ne_true, false≢true, ne_eqb, not-false, not-true, not_from_false, or_from, or_left, or_parts, or_right, true≢false}
 pub use Rattle.std.proofs.lemmas.Option.{same_Some}
 pub use Rattle.std.specs.Cmp.{nat_cmp_total, Lexicographic.{nat_list_cmp_total, slice_cmp}}
 pub use Rattle.std.specs.{FinMap.{FinMap, entries, get, insert, nat_cmp-IsAntisymmetric, remove, same_map}, List.{list_any, sum_by}}
