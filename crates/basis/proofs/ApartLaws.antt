@@ -1,20 +1,12 @@
 -- What one entry gives, apart from the others.
-use Rattle.std.proofs.Common.{◌≡◌, Bool, true, false, cond, not, ◌&&◌, T, subst, List, [], ◌∷◌, ◌++◌, Option, Some, None, refl, sym, ap, ◌∙◌}
+use Rattle.std.proofs.Common.{◌≡◌, Bool, true, false, cond, not, T, subst, List, [], ◌∷◌, ◌++◌, Option, Some, None, refl, sym, ap, ◌∙◌}
 use Rattle.std.specs.{Prelude.fold, declared.cmp.Ordering.{Ordering, TheVariants.{Less, Equal, Greater}}}
 use Rattle.std.specs.Cmp.{IsTotalOrder, Equal-is, tied_itself}
 use Rattle.std.specs.FinMap.{FinMap, is_sorted, entries_sorted, find, entries, get, get-entries, insert, remove, get-insert, get-remove, same_map, IsAntisymmetric}
 use Rattle.std.specs.{FinMap.Entries.{below_all, where_key, find-where_key, is_sorted-where_key, same_entries}, Option.option_map_or}
 use Rattle.std.specs.Ordering.{eq_by_cmp, is_lt, is_eq}
 use Rattle.basis.specs.Sweeps.{kept_list, kept, given_list, given}
-use Rattle.basis.proofs.SweepLaws.{fold_append, swap, entries-kept}
-
-pub first : (a b : Bool) → T (a && b) → T a
-first true b p = tt
-first false b p = p
-
-pub second : (a b : Bool) → T (a && b) → T b
-second true b p = p
-second false b p = absurd p
+use Rattle.basis.proofs.{SweepLaws.{fold_append, swap, entries-kept}, MapLemmas.{both-first, both-second}}
 
 less : (o : Ordering) → T (is_lt o) → is_eq o ≡ false
 less o p = elim o as (λ o. T (is_lt o) → is_eq o ≡ false) [ Less ↦ λ p. refl | Equal ↦ λ p. absurd p | Greater ↦ λ p. absurd p ] p
@@ -33,11 +25,11 @@ module _ {K : Type 0} (R : K → K → Ordering) where
 module _ {K X : Type 0} (R : K → K → Ordering) where
   where_below : (k : K) (es : List (K × X)) → T (below_all R k es) → where_key R (other R k) es ≡ es
   where_below k [] h = refl
-  where_below k (e ∷ es) h = ap (λ b. cond (not b) (e ∷ where_key R (other R k) es) (where_key R (other R k) es)) (less (R k e.0) (first _ _ h)) ∙ ap (λ (l : List (K × X)). e ∷ l) (where_below k es (second _ _ h))
+  where_below k (e ∷ es) h = ap (λ b. cond (not b) (e ∷ where_key R (other R k) es) (where_key R (other R k) es)) (less (R k e.0) (both-first _ _ h)) ∙ ap (λ (l : List (K × X)). e ∷ l) (where_below k es (both-second _ _ h))
 
   pub missing : (k : K) (es : List (K × X)) → T (below_all R k es) → find R k es ≡ None
   missing k [] h = refl
-  missing k (e ∷ es) h = ap (λ b. cond b (Some e.1) (find R k es)) (less (R k e.0) (first _ _ h)) ∙ missing k es (second _ _ h)
+  missing k (e ∷ es) h = ap (λ b. cond b (Some e.1) (find R k es)) (less (R k e.0) (both-first _ _ h)) ∙ missing k es (both-second _ _ h)
 
   module _ (o : IsTotalOrder R) (same : IsAntisymmetric R) where
     entries-remove : (m : FinMap R X) (k : K) → entries (remove m k) ≡ where_key R (other R k) (entries m)
@@ -75,7 +67,7 @@ module _ {K X : Type 0} (R : K → K → Ordering) where
 
       pulled : (k : K) (es : List (K × X)) → T (is_sorted R es) → (a : A) → fold credit a (given_list g es) ≡ fold credit (fold credit a (option_map_or (g k) (find R k es) [])) (given_list g (where_key R (other R k) es))
       pulled k [] h a = refl
-      pulled k (e ∷ es) h a = pulled-step k e es (eq_by_cmp R k e.0) refl (first _ _ h) (pulled k es (second _ _ h)) a
+      pulled k (e ∷ es) h a = pulled-step k e es (eq_by_cmp R k e.0) refl (both-first _ _ h) (pulled k es (both-second _ _ h)) a
 
       -- what a map gives is what one of its values gives, and what the others do
       pub given_apart : (m : FinMap R X) (k : K) (a : A) → fold credit a (given g m) ≡ fold credit (fold credit a (option_map_or (g k) (get m k) [])) (given g (remove m k))
@@ -135,8 +127,8 @@ module _ {K X : Type 0} (R : K → K → Ordering) where
       find-kept : (q : K) (es : List (K × X)) → T (is_sorted R es) → find R q (kept_list f es) ≡ option_map_or (f q) (find R q es) None
       find-kept q [] h = refl
       find-kept q (e ∷ es) h =
-          let rest = find-kept q es (second _ _ h) in
-          find-step q e.0 e.1 (kept_list f es) (f e.0 e.1) (eq_by_cmp R q e.0) (find R q es) None refl refl rest (λ t. rest ∙ ap (λ (x : Option X). option_map_or (f q) x None) (missing q es (subst (λ (z : K). T (below_all R z es)) (sym (tied R o same q e.0 t)) (first _ _ h))))
+          let rest = find-kept q es (both-second _ _ h) in
+          find-step q e.0 e.1 (kept_list f es) (f e.0 e.1) (eq_by_cmp R q e.0) (find R q es) None refl refl rest (λ t. rest ∙ ap (λ (x : Option X). option_map_or (f q) x None) (missing q es (subst (λ (z : K). T (below_all R z es)) (sym (tied R o same q e.0 t)) (both-first _ _ h))))
 
       pub get-kept : (m : FinMap R X) (q : K) → get (kept f m) q ≡ option_map_or (f q) (get m q) None
       get-kept m q = get-entries (kept f m) q ∙ ap (λ (l : List (K × X)). find R q l) (entries-kept R f o same m) ∙ find-kept q (entries m) (entries_sorted m) ∙ ap (λ (x : Option X). option_map_or (f q) x None) (sym (get-entries m q))

@@ -4,7 +4,7 @@ use Rattle.std.specs.{Prelude.⊤, declared.cmp.Ordering.Ordering, Cmp.IsTotalOr
 use Rattle.std.specs.FinMap.{FinMap, is_sorted, entries_sorted, find, entries, get, get-entries, values, from_entries, IsAntisymmetric}
 use Rattle.std.specs.{FinMap.Entries.below_all, List.list_any, Option.option_map_or, Ordering.eq_by_cmp}
 use Rattle.basis.specs.Sweeps.{kept_list, kept, given_list, given}
-use Rattle.basis.proofs.ApartLaws.{tied, itself, missing, first, second}
+use Rattle.basis.proofs.{ApartLaws.{tied, itself, missing}, MapLemmas.{both-first, both-second}}
 
 abbrev pub Each : {K X : Type 0} → (K → X → Type 0) → List (K × X) → Type 0
 Each P [] = ⊤
@@ -26,7 +26,7 @@ module _ {K X : Type 0} (R : K → K → Ordering) (o : IsTotalOrder R) (same : 
   each_of P [] h all = tt
   each_of P (e ∷ es) h all = (
     all e.0 e.1 (at_true (eq_by_cmp R e.0 e.0) (Some e.1) (find R e.0 es) (itself R o same e.0)),
-    each_of P es (second _ _ h) (λ k x found. all k x (later k x e es (eq_by_cmp R k e.0) refl (first _ _ h) found)),
+    each_of P es (both-second _ _ h) (λ k x found. all k x (later k x e es (eq_by_cmp R k e.0) refl (both-first _ _ h) found)),
   )
 
   pub each_entry : (P : K → X → Type 0) (m : FinMap R X) → ((k : K) (x : X) → get m k ≡ Some x → P k x) → Each P (entries m)

@@ -6,3 +6,4 @@ pub mod SweepLaws
 pub mod ApartLaws
 pub mod EntryLaws
 pub mod ChangeLaws
+pub mod TextLemmas

@@ -1,9 +1,11 @@
 //! Texts as contracts see them: by their bytes.
-ghost use Rattle.std.specs.{Prelude.{◌≡◌, IfOk, string_bytes}, Str.bytes_eq};
+ghost use Rattle.std.specs.Prelude.{◌≡◌, IfOk, None, Some, if◌then◌else◌, option_map, string_bytes};
+ghost use Rattle.std.specs.Str.{bytes_eq, is_utf8};
 
 use std::alloc::{AllocError, Global};
 use std::cmp::Ordering;
 use std::marker::Model;
+use std::str;
 
 /// A text. Contracts see the list of its bytes, and its order is theirs.
 #[derive(Clone, Drop)]
@@ -39,6 +41,17 @@ impl Text {
         ensures { result.now ≡ self.now }
     {
         self.text.as_str()
+    }
+}
+
+/// Bytes as a text, if they are UTF-8.
+pub fn text_in(bytes: &[u8]) -> Option<&str>
+    ensures { option_map (λ text. text.now) result
+        ≡ (if is_utf8 bytes.now then Some bytes.now else None) }
+{
+    match str::from_utf8(bytes) {
+        Ok(text) => Some(text),
+        Err(_) => None,
     }
 }
 

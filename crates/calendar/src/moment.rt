@@ -79,6 +79,13 @@ impl Moment {
         Moment { secs: FIRST as u64 }
     }
 
+    /// 2199-12-31T23:59:59Z, after which there is no moment.
+    pub fn last() -> Moment
+        ensures { result ≡ 7_258_118_399 }
+    {
+        Moment { secs: LAST as u64 }
+    }
+
     /// The moment that many seconds after 1970-01-01T00:00:00Z.
     pub fn of_secs(secs: i64) -> Result<Moment, Range>
         ensures { result ≡ checked_signed secs }

@@ -13,10 +13,10 @@ use Rattle.accounts.specs.Lines.{begins_by, in_order, is_kind, is_of, is_on, is_
 use Rattle.accounts.specs.{MessageOrder.message_cmp_total, Messages.message_cmp}
 use Rattle.accounts.specs.declared.line.LineKind.TheVariants as lines
 use Rattle.accounts.proofs.{EntryLaws.{entries-swap, insert_key-swap, postings_commute}, LineLaws.lines_in_order}
-use Rattle.accounts.proofs.MessageLaws.{message_cmp_only}
-use Rattle.basis.specs.{Bag.{add, bag_of, remade}, Maps.map_values, Sweeps.{change_at, given, given_list, kept}}
-use Rattle.basis.proofs.{ApartLaws.{get-kept, given_apart, given_insert}, BagLaws.{add-add, remade-add, remade-bag_of}}
-use Rattle.basis.proofs.{ChangeLaws.change_at-commutes, MapLemmas.{entries-map_values, get-map_values, names_apart}, SweepLaws.fold_append}
+use Rattle.accounts.proofs.{MessageLaws.message_cmp_only, EntryLaws.remade-swap}
+use Rattle.basis.specs.{Bag.{add, remade}, Maps.map_values, Sweeps.{change_at, given, given_list, kept}}
+use Rattle.basis.proofs.{ApartLaws.{get-kept, given_apart, given_insert}, BagLaws.{add-add, remade-add}, ChangeLaws.change_at-commutes}
+use Rattle.basis.proofs.{MapLemmas.{entries-map_values, get-map_values, names_apart}, SweepLaws.fold_append}
 use Rattle.lifecycle.specs.declared.change.AccountChange.{AccountChange}
 use Rattle.lifecycle.specs.declared.change.AccountChange.TheVariants.{Charge, RefundRunning, RefundTransfer, Lapse, Notify, Ack, CountCommand, TakeSerial}
 use Rattle.lifecycle.specs.declared.{change.Notification.Notification, lapsed.Lapsed.Lapsed}
@@ -153,14 +153,6 @@ module _ (p : PolicyRules) where
       unstarted : transfer_started x l ≡ l
       unstarted = ap (λ (b : Bool). cond ((b && (is_on x.roid l && not (is_some l.refunded))) && not (begins_by l.started l.years x.moment x.years)) (record l { started = Some x.moment; years = x.years }) l) other
   charge-swaps l other (Notice m) a = refl
-
-  map-swap : (f g : Line → Line) → ((l : Line) → f (g l) ≡ g (f l)) → (ls : List Line) → map f (map g ls) ≡ map g (map f ls)
-  map-swap f g e [] = refl
-  map-swap f g e (l ∷ ls) = λ i. e l i ∷ map-swap f g e ls i
-
-  remade-swap : (f g : Line → Line) → ((l : Line) → f (g l) ≡ g (f l)) → (ls : List Line) → remade in_order f (remade in_order g ls) ≡ remade in_order g (remade in_order f ls)
-  remade-swap f g e ls =
-      remade-bag_of in_order lines_in_order f (map g ls) ∙ ap (bag_of in_order) (map-swap f g e ls) ∙ sym (remade-bag_of in_order lines_in_order g (map f ls))
 
   refund-start : (x : TransferRefund) (y : TransferStart) → is_same_roid y.roid x.roid ≡ false → (l : Line) → transfer_started y (transfer_refunded x l) ≡ transfer_refunded x (transfer_started y l)
   refund-start x y apart l = by (is_on y.roid l) refl

@@ -1,6 +1,6 @@
 -- What the lapse of an object posts goes to its sponsor and to the parties of its transfer alone.
-use Rattle.std.proofs.Common.{◌≡◌, ◌≢◌, ℕ, ◌==◌, Bool, true, false, cond, nat_le, ◌&&◌, ◌||◌, List, [], ◌∷◌, Option, Some, None, refl, sym, ap, subst, ◌∙◌, arith}
-use Rattle.std.proofs.lemmas.Bool.{and_parts, false_from_ne_true, or_parts, Decides.nat_tests}
+use Rattle.std.proofs.Common.{◌≡◌, ◌≢◌, ℕ, ◌==◌, Bool, true, false, cond, ◌&&◌, ◌||◌, List, [], ◌∷◌, Option, Some, None, refl, sym, ap, subst, ◌∙◌, arith}
+use Rattle.std.proofs.lemmas.Bool.{false_from_ne_true, or_parts, Decides.nat_tests}
 use Rattle.std.specs.{Prelude.fold, Ordering.{eq_by_cmp, nat_cmp}}
 use Rattle.accounts.specs.{declared.entries.Posting.Posting, Entries.{entered, posted}}
 use Rattle.lifecycle.specs.Lapse.{due_by, lapse, lapse_contact}
@@ -11,7 +11,7 @@ use Rattle.model.specs.Registry.{Registry, account_of}
 use Rattle.decisions.specs.Changes.{with_account}
 use Rattle.concerns.specs.Concerns.{is_about, is_at_stake}
 use Rattle.decisions.proofs.PostingLemmas.{AllPosted, contact-posted, domain-posted, due-is}
-use Rattle.decisions.proofs.{ViewLemmas.{account_of-with_account, same_number}, Words.cond_some}
+use Rattle.decisions.proofs.{ViewLemmas.{account_of-with_account, same_number}, LineTimeLemmas.due-pending}
 
 module _ (P Q : Posting → Type 0) (weaker : (e : Posting) → P e → Q e) where
   pub post-weaker : (es : List Posting) → AllPosted P es → AllPosted Q es
@@ -32,12 +32,6 @@ elsewhere-posted r (e ∷ es) all s =
     ∙ ap (λ (b : Bool). cond b (entered e.what (account_of r s)) (account_of r s)) (false_from_ne_true (eq_by_cmp nat_cmp r e.registrar) (λ same. all.0 (sym (same_number r e.registrar same))))
 
 -- ---- a transfer that is due
-
-due-pending : (t : ℕ) (o : Option Transfer) (x : Transfer) → due_by t o ≡ Some x → is_pending_state x.state ≡ true
-due-pending t None x e = cc
-due-pending t (Some y) x e =
-    let h = cond_some (is_pending_state y.state && nat_le y.ac_date t) y x e in
-    ap (λ (z : Transfer). is_pending_state z.state) (sym h.1) ∙ (and_parts (is_pending_state y.state) _ h.0).0
 
 not-equal : (a b : ℕ) → (a == b) ≡ false → a ≢ b
 not-equal a b e same = grind (arith, nat_tests, e, same)

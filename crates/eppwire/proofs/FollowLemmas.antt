@@ -1,22 +1,18 @@
 -- Whatever a frame is answered, what was taken wrongly before isn't forgotten.
-use Rattle.std.proofs.Common.{◌≡◌, inl, inr, ℕ, List, Option, Some, None, sym, subst, arith}
+use Rattle.std.proofs.Common.{◌≡◌, inl, inr, ℕ, List, Option, Some, None, sym, subst}
 use Rattle.eppcommands.specs.Session.{before_login, in_session}
 use Rattle.policy.specs.Rules.{PolicyRules}
-use Rattle.protocol.specs.declared.session.{BeforeLogin.BeforeLogin, InSession.InSession}
+use Rattle.protocol.specs.declared.session.BeforeLogin.{BeforeLogin}
+use Rattle.protocol.specs.declared.session.InSession.{InSession}
 use Rattle.protocol.specs.declared.session.BeforeLogin.TheVariants as before
 use Rattle.protocol.specs.declared.session.InSession.TheVariants as within
 use Rattle.frames.specs.Outcomes.{Outcome}
 use Rattle.books.specs.Book.{BookState, Follows}
 use Rattle.eppwire.specs.Answers.{Answers, AnswersHello, AnswersSaidBeforeLogin, AnswersSaid}
-
-pub stays_followed : (state : BookState) → Follows state state
-stays_followed state = record { clean = λ clean. clean; counted = omega arith }
-
-pub follows_on : (old between new : BookState) → Follows old between → Follows between new → Follows old new
-follows_on old between new first next = record { clean = λ clean. first.clean (next.clean clean); counted = omega (arith, first.counted, next.counted) }
+pub use Rattle.registry.proofs.CallsKept.{follows-itself, follows-on}
 
 pub same_follows : (old new : BookState) → new ≡ old → Follows old new
-same_follows old new same = subst (λ (state : BookState). Follows old state) (sym same) (stays_followed old)
+same_follows old new same = subst (λ (state : BookState). Follows old state) (sym same) (follows-itself old)
 
 hello_follows : (p : PolicyRules) (moment : ℕ) (old : BookState) (outcome : Outcome) (new : BookState) → AnswersHello p moment old outcome new → Follows old new
 hello_follows p moment old outcome new (inl gives) = gives.2

@@ -1,7 +1,6 @@
 -- Calls are taken up to the last moment of calls.
 use Rattle.std.proofs.Common.{◌≡◌, inl, inr, ℕ, ◌<◌, ◌≤◌, ◌↔◌, Bool, true, false, nat_lt, Result, Ok, Err, refl, ap, arith}
 use Rattle.std.proofs.lemmas.Bool.Decides.{nat_tests}
-use Rattle.std.specs.Prelude.{OnOk}
 use Rattle.eppcommands.specs.Session.{in_session}
 use Rattle.frames.specs.{Texts.failed_text, Outcomes.{Outcome, sent}}
 use Rattle.policy.specs.Rules.{PolicyRules}
@@ -21,10 +20,6 @@ never_both both = absurd cc
 -- a call that was answered was in time
 pub in_time : {A : Type 0} (answer : A) (moment : ℕ) → ((◌≡◌ {A = Result A Fault} (Ok answer) (Err faults.Moment)) ↔ (last_call < moment)) → moment ≤ last_call
 in_time answer moment late = by_test (nat_lt last_call moment) moment refl (λ after. never_both (late.1 after))
-
-pub answered_in_time : {A : Type 0} (result : Result A Fault) (moment : ℕ) → ((result ≡ Err faults.Moment) ↔ (last_call < moment)) → OnOk result (moment ≤ last_call)
-answered_in_time (Ok answer) moment late = in_time answer moment late
-answered_in_time (Err fault) moment late = tt
 
 abbrev IsRefused : BookState → Outcome → BookState → Type 0
 IsRefused old outcome new = (sent outcome ≡ failed_text) × IsUnchanged old new

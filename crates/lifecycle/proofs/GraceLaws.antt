@@ -18,10 +18,13 @@ any-filter : (test part : Line → Bool) → ((l : Line) → part l ≡ false �
 any-filter test part out [] = refl
 any-filter test part out (l ∷ ls) = any-cons test l ls (filter part ls) (part l) (out l) (any-filter test part out ls)
 
+pub gives-part : (p : PolicyRules) (t : ℕ) (roid : Roid) (since : Option ℕ) (kind : LineKind) (lines : List Line) → list_any (gives kind p t roid since) (filter (is_on roid) lines) ≡ list_any (gives kind p t roid since) lines
+gives-part p t roid since kind lines = any-filter (gives kind p t roid since) (is_on roid) (λ l out. unasked (is_kind l.kind kind) (is_on roid l) _ out) lines
+
 on-domain : (p : PolicyRules) (t : ℕ) (roid : Roid) (since : Option ℕ) (kind : LineKind) (lines bag : List Line) → bag_of in_order lines ≡ filter (is_on roid) bag → list_any (gives kind p t roid since) lines ≡ list_any (gives kind p t roid since) bag
 on-domain p t roid since kind lines bag e =
     sym (any-bag_of in_order (gives kind p t roid since) lines) ∙ ap (list_any (gives kind p t roid since)) e
-    ∙ any-filter (gives kind p t roid since) (is_on roid) (λ l out. unasked (is_kind l.kind kind) (is_on roid l) _ out) bag
+    ∙ gives-part p t roid since kind bag
 
 pub graces-on : (p : PolicyRules) (t : ℕ) (roid : Roid) (since : Option ℕ) (lines bag : List Line) → bag_of in_order lines ≡ filter (is_on roid) bag → graces p t roid since lines ≡ graces p t roid since bag
 unfolding graces

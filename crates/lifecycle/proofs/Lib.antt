@@ -3,6 +3,7 @@ pub mod LapseLaws
 pub mod RenewLemmas
 pub mod PastLemmas
 pub mod DueLaws
+pub mod DueOrderLaws
 pub mod ContactLaws
 pub mod GraceLaws
 pub mod RefundLaws

@@ -1,6 +1,6 @@
 -- What is given back is what the balance rises by, and it is given back once.
 use Rattle.std.proofs.Common.{◌≡◌, ℕ, ◌+◌, Bool, true, false, cond, not, ◌&&◌, List, [], ◌∷◌, map, Option, Some, None, is_some, refl, sym, ap, ◌∙◌, arith, pos, ◌+ℤ◌}
-use Rattle.std.proofs.lemmas.{Bool.and_parts, Int.ints, List.Sums.sum_by-cons}
+use Rattle.std.proofs.lemmas.{Bool.{and_parts, not-true}, Int.ints, List.Sums.sum_by-cons}
 use Rattle.std.specs.List.{filter, sum_by}
 use Rattle.accounts.specs.{declared.line.{Line.Line, LineKind.LineKind}, Lines.{amount, amount_of, balance, in_order, is_kind, is_on}}
 use Rattle.accounts.specs.declared.line.LineKind.TheVariants as kinds
@@ -53,10 +53,6 @@ not-deposit p t since (Some start) kinds.AutoRenew e = refl
 not-deposit p t since (Some start) kinds.Transfer e = refl
 not-deposit p t since (Some start) kinds.Restore e = refl
 
-unset : (b : Bool) → not b ≡ true → b ≡ false
-unset true e = absurd cc
-unset false e = refl
-
 never : (b rest : Bool) → (b && (false && rest)) ≡ false
 never true rest = refl
 never false rest = refl
@@ -78,7 +74,7 @@ module _ (p : PolicyRules) (r : RunningRefund) where
       by true e =
           let parts = and_parts (is_on r.roid l) (not (is_some l.refunded) && runs_from p r.moment r.transferred l.started (period_of l.kind)) e in
           let rest = and_parts (not (is_some l.refunded)) (runs_from p r.moment r.transferred l.started (period_of l.kind)) parts.1 in
-          rises-charge (is_kind l.kind kinds.Deposit) (is_some l.refunded) l.cents (not-deposit p r.moment r.transferred l.started l.kind rest.1) (unset (is_some l.refunded) rest.0)
+          rises-charge (is_kind l.kind kinds.Deposit) (is_some l.refunded) l.cents (not-deposit p r.moment r.transferred l.started l.kind rest.1) (not-true (is_some l.refunded) rest.0)
       by false e = omega (arith, ints)
 
   not-again : (l : Line) → is_given_back p r (back l) ≡ false
@@ -122,10 +118,11 @@ module _ (p : PolicyRules) (r : RunningRefund) where
   years-elsewhere l e = rw e refl
 
   -- nor on lines of other domains
+  pub given_back-part : (ls : List Line) → given_back p r (filter (is_on r.roid) ls) ≡ given_back p r ls
+  given_back-part ls = λ i. record {
+    cents = sum-filter (cents_back p r) (is_on r.roid) cents-elsewhere ls i;
+    years = sum-filter (years_back p r) (is_on r.roid) years-elsewhere ls i;
+  }
+
   pub given_back-on : (lines bag : List Line) → bag_of in_order lines ≡ filter (is_on r.roid) bag → given_back p r lines ≡ given_back p r bag
-  given_back-on lines bag e =
-      sym (given_back-bag_of lines) ∙ ap (given_back p r) e
-      ∙ (λ i. record {
-        cents = sum-filter (cents_back p r) (is_on r.roid) cents-elsewhere bag i;
-        years = sum-filter (years_back p r) (is_on r.roid) years-elsewhere bag i;
-      })
+  given_back-on lines bag e = sym (given_back-bag_of lines) ∙ ap (given_back p r) e ∙ given_back-part bag

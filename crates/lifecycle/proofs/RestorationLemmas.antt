@@ -1,6 +1,6 @@
 -- The years of a restoration are counted one by one.
-use Rattle.std.proofs.Common.{◌≡◌, ℕ, suc, ◌+◌, ◌-◌, ◌<◌, ◌≤◌, Bool, true, false, not, nat_lt, refl, sym, arith}
-use Rattle.std.proofs.lemmas.Bool.Decides.{nat_tests}
+use Rattle.std.proofs.{Common.{◌≡◌, ℕ, suc, ◌+◌, ◌-◌, ◌<◌, ◌≤◌, true, false, not, nat_lt, refl, sym, arith}, lemmas.Bool.Decides.nat_tests}
+use Rattle.std.proofs.lemmas.Bool.{not-true, not-false}
 use Rattle.calendar.specs.Moment.{plus_years}
 use Rattle.calendar.proofs.YearLaws.{plus_years-lt}
 use Rattle.objects.specs.declared.domain.Domain.{Domain}
@@ -10,19 +10,11 @@ use Rattle.lifecycle.proofs.TurnLaws.{turns-only}
 pub lies-ahead : (t e : ℕ) → t < e → false ≡ not (nat_lt t e)
 lies-ahead t e lt = let yes : nat_lt t e ≡ true = grind (arith, nat_tests) in rw yes refl
 
-by-then : (b : Bool) → not b ≡ true → b ≡ false
-by-then true e = sym e
-by-then false e = refl
-
-not-then : (b : Bool) → not b ≡ false → b ≡ true
-not-then true e = refl
-not-then false e = sym e
-
 pub has-come : (t e : ℕ) → not (nat_lt t e) ≡ true → e ≤ t
-has-come t e is = let no : nat_lt t e ≡ false = by-then (nat_lt t e) is in grind (arith, nat_tests, no)
+has-come t e is = let no : nat_lt t e ≡ false = not-true (nat_lt t e) is in grind (arith, nat_tests, no)
 
 comes-later : (t e : ℕ) → not (nat_lt t e) ≡ false → t < e
-comes-later t e is = let yes : nat_lt t e ≡ true = not-then (nat_lt t e) is in grind (arith, nat_tests, yes)
+comes-later t e is = let yes : nat_lt t e ≡ true = not-false (nat_lt t e) is in grind (arith, nat_tests, yes)
 
 pub one-more-year : (d : Domain) (t k : ℕ) → not (nat_lt t (plus_years d.created (d.years + k))) ≡ true
     → suc t - plus_years d.created (d.years + (k + 1)) < suc t - plus_years d.created (d.years + k)

@@ -6,9 +6,6 @@ ghost use Rattle.lifecycle.specs.Periods.{end, in_time, rules_with};
 use calendar::Moment;
 use policy::{Period, Policy, Schedule};
 
-/// The last moment, in seconds since 1970: 2199-12-31T23:59:59Z.
-const LAST: i64 = 7_258_118_399;
-
 /// The end of a period that begins at a moment, by the length that a schedule has in force then, unless
 /// it lies past the last moment.
 pub(crate) fn end_in(schedule: &Schedule, period: Period, start: Moment) -> Option<Moment>
@@ -32,7 +29,7 @@ pub fn end_under(schedule: &Schedule, period: Period, start: Moment) -> Moment
 {
     let _ = start.secs();
     let Some(end) = end_in(schedule, period, start) else {
-        return Moment::of_secs(LAST).unwrap_or(start);
+        return Moment::last();
     };
     end
 }

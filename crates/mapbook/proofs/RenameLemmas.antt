@@ -1,35 +1,15 @@
 -- To give a host its new name in the domains that name it, one after another, is to give it in all.
-use Rattle.std.proofs.Common.{◌≡◌, ℕ, Bool, true, false, cond, not, ◌&&◌, T, map, filter, List, [], ◌∷◌, Option, Some, None, refl, sym, ap, ◌∙◌}
-use Rattle.std.specs.{declared.cmp.Ordering.{Ordering, TheVariants.{Less, Equal, Greater}}, FinMap.Entries.below_all}
+use Rattle.std.proofs.Common.{◌≡◌, ℕ, Bool, true, false, cond, not, T, map, filter, List, [], ◌∷◌, Option, Some, None, refl, sym, ap, ◌∙◌}
 use Rattle.mapbook.proofs.Words.{add, amended_entry, at_begin, bytes_eq, content_of, Domain, domains_naming, edited, entries, entries_sorted}
 use Rattle.mapbook.proofs.Words.{eq_by_cmp, eq_by_cmp_equiv, Equal-is, find, FinMap, get, get-entries, get-insert, get-map_values, host_moved}
-use Rattle.mapbook.proofs.Words.{host_renamed_at, host_renamed_in, host_set, insert, is_lt, is_sorted, names_apart, nat_cmp, nat_list_cmp_total}
+use Rattle.mapbook.proofs.Words.{host_renamed_at, host_renamed_in, host_set, insert, is_sorted, names_apart, nat_cmp, nat_list_cmp_total}
 use Rattle.mapbook.proofs.Words.{option_map, plain_records, precedes, same_map, slice_cmp, Stored, with_domains}
 use Rattle.basis.specs.Maps.{map_values}
 use Rattle.objects.specs.{Links.names_host, declared.host.Host.Host}
 use Rattle.decisions.specs.Changes.{may_rename, with_host_renamed}
 use Rattle.mapbook.specs.{declared.plain.Plain.Plain, Plain.registry_in}
 use Rattle.mapbook.specs.declared.edit.Edit.TheVariants as edit
-
--- ---- entries in order
-
-and-left : (a b : Bool) → T (a && b) → T a
-and-left true b h = tt
-and-left false b h = elim h [ ]
-
-and-right : (a b : Bool) → T (a && b) → T b
-and-right true b h = h
-and-right false b h = elim h [ ]
-
--- a key below all others isn't among them
-find-below : {X : Type 0} (R : List ℕ → List ℕ → Ordering) (k : List ℕ) (es : List (List ℕ × X)) → T (below_all R k es) → find R k es ≡ None
-find-below R k [] h = refl
-find-below {X} R k (e ∷ es) h = by (R k e.0) refl (and-left _ _ h) (find-below R k es (and-right _ _ h))
-  where
-    by : (r : Ordering) → R k e.0 ≡ r → T (is_lt r) → find R k es ≡ None → find R k (e ∷ es) ≡ None
-    by Less f t more = rw f more
-    by Equal f t more = absurd t
-    by Greater f t more = absurd t
+use Rattle.basis.proofs.{ApartLaws.missing, MapLemmas.{both-first, both-second}}
 
 -- ---- maps of domains
 
@@ -47,10 +27,10 @@ get-after : (test : Domain → Bool) (f : Domain → Domain) (es : List (List �
     → get (domains_after test f es m) q ≡ after test f (find (slice_cmp nat_cmp) q es) (get m q)
 unfolding domains_after after
 get-after test f [] h m q = refl
-get-after test f (e ∷ es) h m q = by (test e.1) refl (eq_by_cmp (slice_cmp nat_cmp) q e.0) refl (λ n. get-after test f es (and-right _ _ h) n q)
+get-after test f (e ∷ es) h m q = by (test e.1) refl (eq_by_cmp (slice_cmp nat_cmp) q e.0) refl (λ n. get-after test f es (both-second _ _ h) n q)
   where
     gone : eq_by_cmp (slice_cmp nat_cmp) q e.0 ≡ true → find (slice_cmp nat_cmp) q es ≡ None
-    gone t = ap (λ (k : List ℕ). find (slice_cmp nat_cmp) k es) (names_apart q e.0 ((Equal-is (slice_cmp nat_cmp q e.0)).0 t)) ∙ find-below (slice_cmp nat_cmp) e.0 es (and-left _ _ h)
+    gone t = ap (λ (k : List ℕ). find (slice_cmp nat_cmp) k es) (names_apart q e.0 ((Equal-is (slice_cmp nat_cmp q e.0)).0 t)) ∙ missing (slice_cmp nat_cmp) e.0 es (both-first _ _ h)
 
     by : (b : Bool) → test e.1 ≡ b → (c : Bool) → eq_by_cmp (slice_cmp nat_cmp) q e.0 ≡ c
         → ((n : FinMap (slice_cmp nat_cmp) Domain) → get (domains_after test f es n) q ≡ after test f (find (slice_cmp nat_cmp) q es) (get n q))
@@ -89,13 +69,13 @@ named-after : (test : Domain → Bool) (f : Domain → Domain) (es : List (List 
     → amended_all f n (map (λ (e : List ℕ × Domain). e.0) (filter (λ (e : List ℕ × Domain). test e.1) es)) ≡ domains_after test f es n
 unfolding amended_all domains_after
 named-after test f [] h n at = refl
-named-after test f (e ∷ es) h n at = by (test e.1) refl (named-after test f es (and-right _ _ h))
+named-after test f (e ∷ es) h n at = by (test e.1) refl (named-after test f es (both-second _ _ h))
   where
     here : get n e.0 ≡ Some e.1
     here = at e.0 e.1 (ap (λ (b : Bool). cond b (Some e.1) (find (slice_cmp nat_cmp) e.0 es)) ((eq_by_cmp_equiv nat_list_cmp_total).refl e.0))
 
     gone : (q : List ℕ) → eq_by_cmp (slice_cmp nat_cmp) q e.0 ≡ true → find (slice_cmp nat_cmp) q es ≡ None
-    gone q t = ap (λ (k : List ℕ). find (slice_cmp nat_cmp) k es) (names_apart q e.0 ((Equal-is (slice_cmp nat_cmp q e.0)).0 t)) ∙ find-below (slice_cmp nat_cmp) e.0 es (and-left _ _ h)
+    gone q t = ap (λ (k : List ℕ). find (slice_cmp nat_cmp) k es) (names_apart q e.0 ((Equal-is (slice_cmp nat_cmp q e.0)).0 t)) ∙ missing (slice_cmp nat_cmp) e.0 es (both-first _ _ h)
 
     kept : (q : List ℕ) (d : Domain) → find (slice_cmp nat_cmp) q es ≡ Some d → (b : Bool) → eq_by_cmp (slice_cmp nat_cmp) q e.0 ≡ b → get n q ≡ Some d
     kept q d found true t = let none : find (slice_cmp nat_cmp) q es ≡ None = gone q t in cc

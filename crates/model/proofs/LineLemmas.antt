@@ -1,23 +1,24 @@
 -- What is so of all items of a bag, of none, or of a number of them, as items are added and made anew;
 -- and tests of lines.
-use Rattle.std.proofs.Common.{◌≡◌, ◌≢◌, ℕ, suc, ◌==◌, Bool, true, false, cond, ◌&&◌, ◌||◌, List, [], ◌∷◌, map, length, Option, Some, None, refl, sym, ap, ◌∙◌, arith, eqb-true}
-use Rattle.std.proofs.lemmas.Bool.{or_parts, Decides.nat_tests}
+use Rattle.std.proofs.Common.{◌≡◌, ◌≢◌, ℕ, suc, ◌==◌, Bool, true, false, cond, ◌||◌, List, [], ◌∷◌, map, length, Option, Some, None, refl, sym, ap, ◌∙◌, arith, eqb-true}
+use Rattle.std.proofs.lemmas.Bool.{or_from, or_parts, or_right}
+use Rattle.std.proofs.lemmas.Bool.Decides.{nat_tests}
+pub use Rattle.std.proofs.lemmas.Bool.{and_right as and-false, ne_eqb as not-itself}
 use Rattle.std.specs.List.{AllByRecursion, filter, list_any}
 use Rattle.basis.specs.Bag.{add, bag_of, remade}
-use Rattle.basis.proofs.BagLaws.{any-add, any-bag_of}
-use Rattle.objects.specs.{declared.{domain.Domain.Domain, transfer.Transfer.Transfer}, Transfers.is_pending_state}
-use Rattle.model.specs.{Registry.{Registry, account_of}, WellFormed.{IsAwaitedIfPending, begins_after}}
+use Rattle.basis.proofs.BagLaws.{all-either, any-add, any-bag_of}
+use Rattle.objects.specs.declared.domain.Domain.{Domain}
+use Rattle.objects.specs.declared.transfer.Transfer.{Transfer}
+use Rattle.objects.specs.Transfers.{is_pending_state}
+use Rattle.model.specs.Registry.{Registry, account_of}
+use Rattle.model.specs.WellFormed.{IsAwaitedIfPending, begins_after}
 
 -- ---- all
-
-all-where : {A : Type 0} (P : A → Type 0) (b : Bool) (xs ys : List A) → AllByRecursion P xs → AllByRecursion P ys → AllByRecursion P (cond b xs ys)
-all-where P true xs ys h j = h
-all-where P false xs ys h j = j
 
 pub all-add : {A : Type 0} (le : A → A → Bool) (P : A → Type 0) (x : A) (ys : List A) → P x → AllByRecursion P ys → AllByRecursion P (add le x ys)
 unfolding add
 all-add le P x [] h all = (h, tt)
-all-add le P x (y ∷ ys) h all = all-where P (le x y) (x ∷ y ∷ ys) (y ∷ add le x ys) (h, all) (all.0, all-add le P x ys h all.1)
+all-add le P x (y ∷ ys) h all = all-either P (le x y) (x ∷ y ∷ ys) (y ∷ add le x ys) (h, all) (all.0, all-add le P x ys h all.1)
 
 pub all-remade : {A : Type 0} (le : A → A → Bool) (P Q : A → Type 0) (f : A → A) → ((x : A) → P x → Q (f x)) → (xs : List A) → AllByRecursion P xs → AllByRecursion Q (remade le f xs)
 unfolding bag_of
@@ -30,18 +31,14 @@ all-weaker P Q step (x ∷ xs) all = (step x all.0, all-weaker P Q step xs all.1
 
 -- ---- none
 
-or-none : (a b : Bool) → a ≡ false → b ≡ false → (a || b) ≡ false
-or-none true b e f = e
-or-none false b e f = f
-
 pub none-add : {A : Type 0} (le : A → A → Bool) (test : A → Bool) (x : A) (ys : List A) → test x ≡ false → list_any test ys ≡ false → list_any test (add le x ys) ≡ false
-none-add le test x ys e none = any-add le test x ys ∙ or-none (test x) (list_any test ys) e none
+none-add le test x ys e none = any-add le test x ys ∙ or_from (test x) (list_any test ys) e none
 
 pub none-map : {A : Type 0} (test tested : A → Bool) (f : A → A) → ((x : A) → test x ≡ false → tested (f x) ≡ false) → (xs : List A) → list_any test xs ≡ false → list_any tested (map f xs) ≡ false
 none-map test tested f step [] none = refl
 none-map test tested f step (x ∷ xs) none =
     let parts = or_parts (test x) (list_any test xs) none in
-    or-none (tested (f x)) (list_any tested (map f xs)) (step x parts.0) (none-map test tested f step xs parts.1)
+    or_from (tested (f x)) (list_any tested (map f xs)) (step x parts.0) (none-map test tested f step xs parts.1)
 
 pub none-remade : {A : Type 0} (le : A → A → Bool) (test tested : A → Bool) (f : A → A) → ((x : A) → test x ≡ false → tested (f x) ≡ false) → (xs : List A) → list_any test xs ≡ false → list_any tested (remade le f xs) ≡ false
 none-remade le test tested f step xs none = any-bag_of le tested (map f xs) ∙ none-map test tested f step xs none
@@ -50,12 +47,12 @@ pub none-weaker : {A : Type 0} (test tested : A → Bool) → ((x : A) → test 
 none-weaker test tested step [] none = refl
 none-weaker test tested step (x ∷ xs) none =
     let parts = or_parts (test x) (list_any test xs) none in
-    or-none (tested x) (list_any tested xs) (step x parts.0) (none-weaker test tested step xs parts.1)
+    or_from (tested x) (list_any tested xs) (step x parts.0) (none-weaker test tested step xs parts.1)
 
 -- what no item of a list passes that has a property
 pub none-by : {A : Type 0} (P : A → Type 0) (test : A → Bool) → ((x : A) → P x → test x ≡ false) → (xs : List A) → AllByRecursion P xs → list_any test xs ≡ false
 none-by P test step [] all = refl
-none-by P test step (x ∷ xs) all = or-none (test x) (list_any test xs) (step x all.0) (none-by P test step xs all.1)
+none-by P test step (x ∷ xs) all = or_from (test x) (list_any test xs) (step x all.0) (none-by P test step xs all.1)
 
 -- ---- how many
 
@@ -111,10 +108,6 @@ count-none test (x ∷ xs) none =
     let parts = or_parts (test x) (list_any test xs) none in
     count-cons test x xs ∙ (λ i. one_if (parts.0 i) (count-none test xs parts.1 i))
 
-or-second : (a b : Bool) → b ≡ true → (a || b) ≡ true
-or-second true b e = refl
-or-second false b e = e
-
 -- where there is one, some item passes, and is made to pass another test
 pub any-of-one : {A : Type 0} (le : A → A → Bool) (test tested : A → Bool) (f : A → A) → ((x : A) → test x ≡ true → tested (f x) ≡ true) → (xs : List A) → count test xs ≡ 1 → list_any tested (remade le f xs) ≡ true
 any-of-one {A} le test tested f step xs one = any-bag_of le tested (map f xs) ∙ from xs one
@@ -125,13 +118,9 @@ any-of-one {A} le test tested f step xs one = any-bag_of le tested (map f xs) �
       where
         by : (b : Bool) → test y ≡ b → one_if b (count test ys) ≡ 1 → (count test ys ≡ 1 → list_any tested (map f ys) ≡ true) → (tested (f y) || list_any tested (map f ys)) ≡ true
         by true e one rest = ap (λ (c : Bool). c || list_any tested (map f ys)) (step y e)
-        by false e one rest = or-second (tested (f y)) (list_any tested (map f ys)) (rest one)
+        by false e one rest = or_right (tested (f y)) (list_any tested (map f ys)) (rest one)
 
 -- ---- tests
-
-pub and-false : (a b : Bool) → b ≡ false → (a && b) ≡ false
-and-false true b e = e
-and-false false b e = refl
 
 pub itself : (n : ℕ) → (n == n) ≡ true
 itself n = grind (arith, nat_tests)
@@ -143,13 +132,6 @@ one-or-other {A} a b same other = by (a == b) refl
     by : (c : Bool) → (a == b) ≡ c → A
     by true e = same (eqb-true a b e)
     by false e = other (λ is. let never : true ≡ false = sym (itself a) ∙ ap (λ (n : ℕ). a == n) is ∙ e in absurd cc)
-
-pub not-itself : (a b : ℕ) → a ≢ b → (a == b) ≡ false
-not-itself a b other = by (a == b) refl
-  where
-    by : (c : Bool) → (a == b) ≡ c → c ≡ false
-    by true e = absurd (other (eqb-true a b e))
-    by false e = refl
 
 -- ---- a pending transfer
 

@@ -1,5 +1,6 @@
 -- Statuses that are shown are those that pass the test of being shown.
-use Rattle.std.proofs.{Common.{◌≡◌, ℕ, Bool, true, false, ◌&&◌, filter, refl, sym, ap, ◌∙◌, eqb-true}, lemmas.Map.Views.any-filter_same}
+use Rattle.std.proofs.{Common.{◌≡◌, ℕ, Bool, true, ◌&&◌, filter, refl, sym, ap, ◌∙◌, eqb-true}, lemmas.Map.Views.any-filter_same}
+use Rattle.std.proofs.Math.Bool.{and-true}
 use Rattle.std.specs.Prelude.{slice_get, unwrap_or}
 use Rattle.objects.specs.declared.status.Status.{Status}
 use Rattle.objects.specs.declared.status.Status.TheVariants.{ClientDeleteProhibited, ClientHold, ClientRenewProhibited, ClientTransferProhibited, ClientUpdateProhibited, Inactive, Linked, Fine, PendingDelete, PendingTransfer, ServerDeleteProhibited, ServerHold, ServerRenewProhibited, ServerTransferProhibited, ServerUpdateProhibited}
@@ -46,10 +47,6 @@ is_any ServerHold = refl
 is_any ServerRenewProhibited = refl
 is_any ServerTransferProhibited = refl
 is_any ServerUpdateProhibited = refl
-
-and-true : (b : Bool) → (b && true) ≡ b
-and-true true = refl
-and-true false = refl
 
 pub has_status-filter : (test : Status → Bool) (s : Status) → has_status (filter test all_statuses) s ≡ test s
 has_status-filter test s =

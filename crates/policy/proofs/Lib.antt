@@ -3,4 +3,3 @@ pub mod DocumentLemmas
 pub mod DatedLemmas
 pub mod ScheduleLemmas
 pub mod TermsLemmas
-pub mod Places

@@ -1,7 +1,7 @@
 -- What the comparison of schedules means, and what it keeps.
 use Rattle.std.proofs.Common.{◌≡◌, ℕ, ◌<◌, ◌≤◌, Bool, true, false, cond, ◌&&◌, nat_le, nat_lt, List, [], ◌∷◌, ◌++◌, drop, length, refl, sym, ap, ◌∙◌, append-nil, arith, length-append}
 use Rattle.std.proofs.{Math.Seq.drop-append_seam, lemmas.Bool.{and_parts, Decides.{Decides-and, Decides-eqb, Decides-like, nat_tests}}}
-use Rattle.std.proofs.lemmas.Slice.Eq.{starts_is}
+use Rattle.std.proofs.lemmas.{Slice.Eq.starts_is, Bool.and_from}
 use Rattle.std.specs.{Prelude.fold, Bool.Decides, List.{AllByRecursion, list_all, starts_with}}
 use Rattle.policy.specs.declared.days.{Days.Days, Period.Period}
 use Rattle.policy.specs.declared.days.Period.TheVariants.{Add, AutoRenew, Renew, Transfer, Redemption, Restore, PendingDelete, Answer, Lock}
@@ -30,10 +30,6 @@ table-Decides a b = Decides-like (same_table a b)
     (λ e. (ap (λ (t : DatedDays). t.from) e, ap (λ (t : DatedDays). t.days) e))
     (Decides-and _ _ (Decides-eqb a.from b.from) (days-Decides a.days b.days))
 
-both : (a b : Bool) → a ≡ true → b ≡ true → (a && b) ≡ true
-both true b e f = f
-both false b e f = cc
-
 all-after : (clock : ℕ) (tables : List DatedDays) → list_all (begins_after clock) tables ≡ true → AllByRecursion (λ (t : DatedDays). clock < t.from) tables
 all-after clock [] h = tt
 all-after clock (t ∷ ts) h =
@@ -42,7 +38,7 @@ all-after clock (t ∷ ts) h =
 
 after-all : (clock : ℕ) (tables : List DatedDays) → AllByRecursion (λ (t : DatedDays). clock < t.from) tables → list_all (begins_after clock) tables ≡ true
 after-all clock [] h = refl
-after-all clock (t ∷ ts) h = both (nat_lt clock t.from) (list_all (begins_after clock) ts) (let lt = h.0 in grind (arith, nat_tests)) (after-all clock ts h.1)
+after-all clock (t ∷ ts) h = and_from (nat_lt clock t.from) (list_all (begins_after clock) ts) (let lt = h.0 in grind (arith, nat_tests)) (after-all clock ts h.1)
 
 pub days-continue-Decides : (clock : ℕ) (later earlier : Schedule) → Decides (days_continue clock later earlier) (DaysContinue clock later earlier)
 unfolding days_continue
@@ -58,7 +54,7 @@ days-continue-Decides clock later earlier =
             tables = starts.0 two.1;
             after = all-after clock (drop (length earlier.later) later.later) all.1;
           },
-      λ k. both _ _ (both _ _ (firsts.1 k.first) (starts.1 k.added k.tables))
+      λ k. and_from _ _ (and_from _ _ (firsts.1 k.first) (starts.1 k.added k.tables))
           (ap (list_all (begins_after clock)) (ap (drop (length earlier.later)) k.tables ∙ drop-append_seam earlier.later k.added) ∙ after-all clock k.added k.after),
     )
 

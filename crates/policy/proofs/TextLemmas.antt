@@ -1,6 +1,6 @@
 -- Reading the entries of a list one after the other.
 use Rattle.std.proofs.Common.{◌≡◌, Bool, true, false, ◌||◌, ◌&&◌, ℕ, suc, ◌+◌, ◌<◌, List, [], ◌∷◌, ◌++◌, map, length, take, drop, get_or, ◌-◌, Some, None, Result, Ok, Err, refl, sym, ap, ◌∙◌, append_assoc, arith}
-use Rattle.std.proofs.lemmas.List.{append-nil, drop_more, take_all, length-drop}
+use Rattle.std.proofs.lemmas.{List.{append-nil, drop_more, take_all, length-drop}, Bool.or_parts}
 use Rattle.std.specs.{Cmp.Lexicographic.nat_list_eq_equiv, List.{AllByRecursion, IsDistinct, list_all, list_any}, Str.bytes_eq}
 use Rattle.names.specs.{Labels.is_label, Canonical.reads_as_itself}
 use Rattle.toml.specs.{Data.Data, View.{items_of, view}, declared.value.Value.Value}
@@ -78,15 +78,10 @@ pub first_twice-none : first_twice [] ≡ None
 unfolding first_twice
 first_twice-none = refl
 
--- where none stands twice, they are distinct
-or_false : (a b : Bool) → (a || b) ≡ false → (a ≡ false) × (b ≡ false)
-or_false true b e = absurd cc
-or_false false b e = (refl, e)
-
 apart : (id : List ℕ) (others : List (List ℕ)) → list_any (λ o. bytes_eq o id) others ≡ false → AllByRecursion (λ o. bytes_eq id o ≡ false) others
 apart id [] none = tt
 apart id (o ∷ os) none =
-    let parts = or_false (bytes_eq o id) (list_any (λ o. bytes_eq o id) os) none in
+    let parts = or_parts (bytes_eq o id) (list_any (λ o. bytes_eq o id) os) none in
     (nat_list_eq_equiv.symm id o ∙ parts.0, apart id os parts.1)
 
 pub distinct_ids : (ids : List (List ℕ)) → first_twice ids ≡ None → IsDistinct bytes_eq ids

@@ -1,6 +1,6 @@
 -- No body has a float.
-use Rattle.std.proofs.Common.{◌≡◌, ℕ, Bool, true, false, List, [], ◌∷◌, ◌++◌, Option, Some, None, refl, Result, Ok, Err, codes}
-use Rattle.std.specs.Prelude.{◌||◌, IfSome, map}
+use Rattle.std.proofs.{Common.{ℕ, List, [], ◌∷◌, ◌++◌, Option, Some, None, refl, Result, Ok, Err, codes}, lemmas.Bool.{or_parts, or_from}}
+use Rattle.std.specs.Prelude.{IfSome, map}
 use Rattle.serde_json.specs.{Data.{Data, array}, View.items_of, Written.has_float}
 use Rattle.jsonobjects.proofs.Floats.{IsPlain, items_plain, members_plain, texts}
 use Rattle.names.specs.{Canonical.unicode_of, declared.fault.NameFault.NameFault, Reading.or_syntax}
@@ -11,23 +11,12 @@ use Rattle.rdap.specs.declared.domain.Role.{Role, TheVariants.Registrar}
 use Rattle.rdap.specs.Bodies.{address_members, addresses_value, members_of_entity, entity_object, event_if_dated, events_value, nameserver_members, nameserver_value, of_version_4, of_version_6, text_if_valid, some_texts, contact_entity, contact_names, members_of_domain, domain_object, entities, members_of_host, host_object, registrar_entity, role_members, role_text, role_value, roles_of}
 use Rattle.rdap.specs.StatusWords.{status_words}
 
-or_first : (a b : Bool) → (a || b) ≡ false → a ≡ false
-or_first true b e = absurd cc
-or_first false b e = refl
-
-or_second : (a b : Bool) → (a || b) ≡ false → b ≡ false
-or_second true b e = absurd cc
-or_second false b e = e
-
-neither : (a b : Bool) → a ≡ false → b ≡ false → (a || b) ≡ false
-neither a b p q = rw (p, q) refl
-
 abbrev ArePlainItems : List Data → Type 0
 ArePlainItems items = IsPlain (array (items_of items))
 
 pub append_plain : (xs ys : List Data) → ArePlainItems xs → ArePlainItems ys → ArePlainItems (xs ++ ys)
 append_plain [] ys p q = q
-append_plain (x ∷ xs) ys p q = neither _ _ (or_first _ _ p) (append_plain xs ys (or_second (has_float x) _ p) q)
+append_plain (x ∷ xs) ys p q = let parts = or_parts (has_float x) _ p in or_from _ _ parts.0 (append_plain xs ys parts.1 q)
 
 dated_plain : (action : List ℕ) (date : Option ℕ) → ArePlainItems (event_if_dated action date)
 dated_plain action None = refl
@@ -68,7 +57,7 @@ role_plain handle roles = members_plain (role_members handle roles) (refl, (refl
 
 registrar_plain : (sponsor : Option (List ℕ)) → ArePlainItems (registrar_entity sponsor)
 registrar_plain None = refl
-registrar_plain (Some id) = neither _ _ (role_plain id (Registrar ∷ [])) refl
+registrar_plain (Some id) = or_from _ _ (role_plain id (Registrar ∷ [])) refl
 
 entities_plain : (sponsor : Option (List ℕ)) (links : Links) → ArePlainItems (entities sponsor links)
 entities_plain sponsor links =

@@ -1,24 +1,16 @@
 -- Paths that are plain.
 use Rattle.std.proofs.Common.{rules, ◌≡◌, ℕ, zero, suc, Bool, true, false, ◌<◌, List, [], ◌∷◌, refl, slice_index}
-use Rattle.std.proofs.lemmas.Str.{IsUtf8-from_ascii}
-use Rattle.std.specs.{Prelude.◌&&◌, Str.IsUtf8}
+use Rattle.std.proofs.lemmas.{Str.IsUtf8-from_ascii, Bool.and_parts}
+use Rattle.std.specs.Str.{IsUtf8}
 use Rattle.rdap.specs.Requests.{is_plain_byte, is_plain_path}
-
-and_first : (a b : Bool) → (a && b) ≡ true → a ≡ true
-and_first true b e = refl
-and_first false b e = absurd cc
-
-and_second : (a b : Bool) → (a && b) ≡ true → b ≡ true
-and_second true b e = e
-and_second false b e = absurd cc
 
 plain_byte_below : (b : ℕ) → is_plain_byte b ≡ true → b < 128
 plain_byte_below b e = search rules
 
 plain_below : (path : List ℕ) → is_plain_path path ≡ true → (i : ℕ) → slice_index path i < 128
 plain_below [] e i = search rules
-plain_below (b ∷ path) e zero = plain_byte_below b (and_first _ _ e)
-plain_below (b ∷ path) e (suc i) = plain_below path (and_second (is_plain_byte b) _ e) i
+plain_below (b ∷ path) e zero = plain_byte_below b (and_parts _ _ e).0
+plain_below (b ∷ path) e (suc i) = plain_below path (and_parts (is_plain_byte b) _ e).1 i
 
 -- a plain path is a text
 pub plain_is_text : (path : List ℕ) → is_plain_path path ≡ true → IsUtf8 path

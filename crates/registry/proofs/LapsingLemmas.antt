@@ -1,14 +1,13 @@
 -- What is due lapses one after another as the whole registry does.
 use Rattle.std.proofs.Common.{◌≡◌, ◌<◌, ◌⊎◌, inl, inr, ℕ, Bool, true, false, cond, ◌||◌, true≢false, List, [], ◌∷◌, filter, Option, Some, None, option_and_then, refl, sym, ap, ◌∙◌, arith}
 use Rattle.std.proofs.lemmas.Bool.Decides.{nat_tests}
-use Rattle.std.specs.{BTreeSet.insert_key, FinMap.{IsAntisymmetric, find, get-entries}, declared.cmp.Ordering.Ordering}
-use Rattle.std.specs.declared.cmp.Ordering.TheVariants.{Less, Equal, Greater}
+use Rattle.std.specs.{BTreeSet.insert_key, FinMap.{find, get-entries}, declared.cmp.Ordering.{Ordering, TheVariants.{Less, Equal, Greater}}}
 use Rattle.registry.proofs.Words.{all-due-lapse-as-all, at, completes_at, Contact, Domain, Due, due_at, due_by, dues_lapsed, entries, get}
-use Rattle.registry.proofs.Words.{lapses-on-from-some, match_ordering, nat_cmp, nat_cmp-IsAntisymmetric, nat_list_cmp_total, now, object_lapsed}
-use Rattle.registry.proofs.Words.{ObjectKind, ordering_then, PolicyRules, Registry, slice_cmp, some-lapse-together, transfer_due_by}
+use Rattle.registry.proofs.Words.{lapses-on-from-some, match_ordering, nat_cmp, nat_list_cmp_total, now, object_lapsed}
+use Rattle.registry.proofs.Words.{ObjectKind, PolicyRules, Registry, slice_cmp, some-lapse-together, transfer_due_by}
 use Rattle.accounts.specs.declared.message.Subject.TheVariants as subjects
 use Rattle.basis.proofs.{ApartLaws.{itself, tied}, MapLemmas.names_apart}
-use Rattle.lifecycle.specs.{Periods.passed, DueObjects.{contact_due, domain_due, due_cmp, due_then, found_due, kind_rank, with_due}}
+use Rattle.lifecycle.specs.{Periods.passed, DueObjects.{contact_due, domain_due, due_cmp, due_then, found_due, with_due}}
 use Rattle.model.specs.Lapse.{Choice, accounts_at, either, is_named, lapse, lapse_some, nothing, only}
 use Rattle.model.proofs.{OneByOneLemmas.one-lapses, SweepLemmas.swept-still}
 use Rattle.objects.specs.declared.roid.ObjectKind.TheVariants as kinds
@@ -16,6 +15,7 @@ use Rattle.objects.specs.declared.transfer.Transfer.{Transfer}
 use Rattle.concerns.specs.{declared.given.Names.Names, Concerns.{HasConcerned, concerned}}
 use Rattle.concerns.specs.DueFor as dues
 use Rattle.states.specs.States.{Has}
+use Rattle.lifecycle.proofs.DueOrderLaws.{due_cmp_only}
 
 -- ---- what is due lapses one after another as it does together
 
@@ -51,22 +51,6 @@ module _ (p : PolicyRules) (t : ℕ) where
 
 -- ---- a list of what is due has what is found
 
-then_equal : (a b : Ordering) → ordering_then a b ≡ Equal → (a ≡ Equal) × (b ≡ Equal)
-then_equal a b e = (grind (arith, e), grind (arith, e))
-
-one-kind : (k l : ObjectKind) → kind_rank k ≡ kind_rank l → k ≡ l
-one-kind k l e = grind (arith, e)
-
--- only equals tie
-same-due : IsAntisymmetric due_cmp
-same-due d x e =
-    let last = then_equal (ordering_then (nat_cmp d.due x.due) (nat_cmp (kind_rank d.kind) (kind_rank x.kind))) (slice_cmp nat_cmp d.name x.name) e in
-    let first = then_equal (nat_cmp d.due x.due) (nat_cmp (kind_rank d.kind) (kind_rank x.kind)) last.0 in
-    let due = nat_cmp-IsAntisymmetric d.due x.due first.0 in
-    let kind = one-kind d.kind x.kind (nat_cmp-IsAntisymmetric (kind_rank d.kind) (kind_rank x.kind) first.1) in
-    let name = names_apart d.name x.name last.1 in
-    λ i. record { due = due i; kind = kind i; name = name i }
-
 insert-has : (new : Due) (ds : List Due) (d : Due) → (d ≡ new) ⊎ Has ds d → Has (insert_key due_cmp ds new) d
 insert-has new [] d which = which
 insert-has new (x ∷ xs) d which = by (due_cmp new x) refl (insert-has new xs d) which
@@ -74,7 +58,7 @@ insert-has new (x ∷ xs) d which = by (due_cmp new x) refl (insert-has new xs d
     by : (o : Ordering) → due_cmp new x ≡ o → ((d ≡ new) ⊎ Has xs d → Has (insert_key due_cmp xs new) d)
         → (d ≡ new) ⊎ ((d ≡ x) ⊎ Has xs d) → Has (match_ordering o (new ∷ x ∷ xs) (x ∷ xs) (x ∷ insert_key due_cmp xs new)) d
     by Less tie rest which = which
-    by Equal tie rest (inl is) = inl (is ∙ same-due new x tie)
+    by Equal tie rest (inl is) = inl (is ∙ due_cmp_only new x tie)
     by Equal tie rest (inr old) = old
     by Greater tie rest (inl is) = inr (rest (inl is))
     by Greater tie rest (inr (inl first)) = inl first

@@ -24,7 +24,7 @@ taken_front : (a b : Option (List ℕ)) (text : List ℕ) (n : ℕ) → Appends 
 taken_front a b text n wrote = (take n text, drop n text, wrote, sym (take-append-drop n text))
 
 -- the front of a front
-front_of_more : (a b : Option (List ℕ)) (text more : List ℕ) → AppendsFront a b text → AppendsFront a b (text ++ more)
+pub front_of_more : (a b : Option (List ℕ)) (text more : List ℕ) → AppendsFront a b text → AppendsFront a b (text ++ more)
 front_of_more a b text more (front, rest, wrote, is) = (front, rest ++ more, wrote, ap (λ (l : List ℕ). l ++ more) is ∙ append_assoc front rest more)
 
 -- what was sent and is pending was told behind what was pending
@@ -107,10 +107,6 @@ pending_front (Some x) pending text = (pending, text, refl, refl)
 pub write_front : {X E : Type 0} (result : Result X E) (a b : Option (List ℕ)) (bytes : List ℕ) → OnErr result (AppendsLess a b bytes) → OnErr result (AppendsFront a b bytes)
 write_front (Ok x) a b bytes wrote = tt
 write_front (Err e) a b bytes (n, less, wrote) = taken_front a b bytes n wrote
-
--- no room was made
-pub unroomed : (a b : Option (List ℕ)) (pending line : List ℕ) → AppendsFront a b pending → AppendsFront a b (pending ++ line)
-unroomed a b pending line front = front_of_more a b pending line front
 
 -- room was made, and the front of a line is pending
 pub line_begun : (a b : Option (List ℕ)) (pending roomed new line : List ℕ) → Keeps (append_known a pending) (append_known b roomed) → AppendsFront (Some roomed) (Some new) line → AppendsFront a (append_known b new) (pending ++ line)

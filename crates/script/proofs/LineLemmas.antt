@@ -1,7 +1,7 @@
 -- What the parts of a line are.
-use Rattle.std.proofs.Common.{◌≡◌, ℕ, ◌+◌, ◌/◌, ◌%◌, ◌<◌, lit<, Bool, true, false, List, [], ◌∷◌, ◌++◌, Some, None, refl, ap, ◌∙◌, arith, cond}
-use Rattle.std.proofs.lemmas.Str.{IsUtf8-from_ascii, IsUtf8-from_is_utf8, is_utf8-from_IsUtf8, Ascii.{IsAscii-cons, IsAscii-nil}}
-use Rattle.std.specs.Str.{IsAscii, IsUtf8, is_utf8}
+use Rattle.std.proofs.Common.{◌≡◌, ℕ, ◌+◌, ◌/◌, ◌%◌, ◌<◌, lit<, true, List, [], ◌∷◌, ◌++◌, Some, None, ap, ◌∙◌, arith, cond}
+use Rattle.std.proofs.lemmas.Str.{IsUtf8-from_ascii, is_utf8-from_IsUtf8, Ascii.{IsAscii-cons, IsAscii-nil}}
+use Rattle.std.specs.Str.{IsAscii, is_utf8}
 use Rattle.calendar.proofs.ReadLemmas.{AreShort-parts_of}
 use Rattle.calendar.specs.{Calendar.date_of, Moment.IsMoment, Text.{moment_text, two}}
 
@@ -32,18 +32,6 @@ low_moment m h =
 -- a moment's text is UTF-8
 pub moment_utf8 : (m : ℕ) → IsMoment m → is_utf8 (moment_text m) ≡ true
 moment_utf8 m h = is_utf8-from_IsUtf8 _ (IsUtf8-from_ascii _ (low_moment m h).low)
-
--- ---- what is read as a text
-
-pub text_some : (bs text : List ℕ) → text ≡ bs → IsUtf8 bs → Some text ≡ cond (is_utf8 bs) (Some bs) None
-text_some bs text e h = rw (is_utf8-from_IsUtf8 bs h, e)
-
-pub text_none : (bs : List ℕ) → (IsUtf8 bs → ⊥) → None ≡ cond (is_utf8 bs) (Some bs) None
-text_none bs h = by (is_utf8 bs) refl
-  where
-    by : (b : Bool) → is_utf8 bs ≡ b → None ≡ cond b (Some bs) None
-    by true e = absurd (h (IsUtf8-from_is_utf8 bs e))
-    by false e = refl
 
 -- what is no text is no moment's
 pub no_moment : (bs : List ℕ) (m : ℕ) → None ≡ cond (is_utf8 bs) (Some bs) None → IsMoment m → bs ≡ moment_text m → ⊥

@@ -1,14 +1,14 @@
 //! A line of a script: `MOMENT CALLER JSON`, with single blanks.
-ghost use Rattle.std.specs.Prelude.{◌≡◌, ℕ, IfSome, IfNone, Some, None, if◌then◌else◌, option_map};
-ghost use Rattle.std.specs.{List.position, Str.is_utf8};
+ghost use Rattle.std.specs.Prelude.{◌≡◌, ℕ, IfSome, IfNone, Some, None, option_map};
+ghost use Rattle.std.specs.List.{position};
 ghost use Rattle.calendar.specs.{Moment.IsMoment, Text.moment_text};
 ghost use Rattle.script.specs.Lines.{Asked, IsKnown, IsLine, asked_by_line, is_blank, registrar_of, sender_in, sender_named};
 ghost use Rattle.script.specs.Lines as spec;
 
 use basis::registrar::RegistrarNo;
+use basis::text::text_in;
 use calendar::Moment;
 use policy::Policy;
-use std::str;
 
 /// What names the operator in place of a registrar's id. No registrar has it as its id.
 const OPERATOR: &str = "operator";
@@ -74,17 +74,6 @@ impl<'a> Line<'a> {
             sender,
             payload,
         })
-    }
-}
-
-/// The bytes as a text.
-fn text_in(bytes: &[u8]) -> Option<&str>
-    ensures { option_map (λ text. text.now) result
-        ≡ (if is_utf8 bytes.now then Some bytes.now else None) }
-{
-    match str::from_utf8(bytes) {
-        Ok(text) => Some(text),
-        Err(_) => None,
     }
 }
 

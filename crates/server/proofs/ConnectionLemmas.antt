@@ -5,7 +5,7 @@ use Rattle.policy.specs.Rules.{PolicyRules}
 use Rattle.frames.specs.{Outcomes.Outcome, Sessions.{Session, SessionState}, declared.session.SessionEnd.SessionEnd}
 use Rattle.server.specs.{Connections.{Agrees, AnswersAt, Desk, FramesBeginConnections, IsServed, Serves, begins_frame}, Http.AnswersHttp}
 use Rattle.server.specs.declared.{connection.ConnectionEnd.ConnectionEnd, http.HttpEnd.HttpEnd}
-use Rattle.eppwire.proofs.FollowLemmas.{answers_follow, follows_on, same_follows}
+use Rattle.eppwire.proofs.FollowLemmas.{answers_follow, follows-on, same_follows}
 use Rattle.server.specs.declared.connection.ConnectionEnd.TheVariants as ends
 use Rattle.server.specs.declared.http.HttpEnd.TheVariants as http
 use Rattle.server.proofs.PeerLemmas.{session_taken, taken_for}
@@ -45,7 +45,7 @@ served {S} policy passwords desk answers are p g old new before written after en
         → K y × AnswersAt p g (desk x) moment payload outcome (desk y)
     keeps x y moment payload outcome k a =
         let next = answers_follow (policy x) (passwords x) (desk x).caller payload moment (desk x).book outcome (desk y).book (desk y).caller a.0 in (
-          (a.1 ∙ k.0, a.2 ∙ k.1, follows_on old (desk x).book (desk y).book k.2 next),
+          (a.1 ∙ k.0, a.2 ∙ k.1, follows-on old (desk x).book (desk y).book k.2 next),
           subst (λ (h : List (List ℕ)). AnswersAt p h (desk x) moment payload outcome (desk y)) k.1
               (subst (λ (q : PolicyRules). AnswersAt q (passwords x) (desk x) moment payload outcome (desk y)) k.0 a.0),
         )

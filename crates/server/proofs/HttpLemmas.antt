@@ -4,7 +4,7 @@ use Rattle.std.proofs.{lemmas.{List.take-append-le, Slice.take-put_mid_below}, K
 use Rattle.std.specs.{Io.KnownBytes.{Consumes, ReadConsumes}, Prelude.IfOk}
 use borrow.Rule.Slice.PartMut.{put_mid}
 use lib.Seq.{take-add}
-use Rattle.eppwire.proofs.{FollowLemmas.stays_followed, LateLemmas.in_time}
+use Rattle.eppwire.proofs.{FollowLemmas.follows-itself, LateLemmas.in_time}
 use Rattle.frames.specs.Clocks.{Tells}
 use Rattle.model.specs.{Lapse.lapsed, Registry.Registry}
 use Rattle.policy.specs.Rules.{PolicyRules}
@@ -32,7 +32,7 @@ at_that_moment p moment old new passes clean = elim (passes.registry clean) [
 pub left_of : {S : Type 0} (policy : S → PolicyRules) (moment : S → ℕ) (state : S → BookState) (old new : S)
     → (new ≡ old) ⊎ (Passes (policy old) (moment old) (state old) (state new) × (policy new ≡ policy old) × (moment new ≡ moment old))
     → Passes (policy old) (moment old) (state old) (state new) × (policy new ≡ policy old) × (moment new ≡ moment old)
-left_of policy moment state old new (inl same) = rw same (record { registry = λ clean. inl refl; terms = λ clean. refl; follows = stays_followed (state old) }, refl, refl)
+left_of policy moment state old new (inl same) = rw same (record { registry = λ clean. inl refl; terms = λ clean. refl; follows = follows-itself (state old) }, refl, refl)
 left_of policy moment state old new (inr left) = left
 
 -- what is found is what the source shows then

@@ -10,7 +10,7 @@ use Rattle.frames.specs.{Sessions.{EndsSession, IsTurn, Rests, Run, SessionState
 use Rattle.frames.specs.declared.session.SessionEnd.TheVariants.{Logout, End, Cut, Length, ReadFault, WriteFault, Lost}
 use Rattle.eppreplies.specs.Reply.{reply_text}
 use Rattle.eppwire.specs.Answers.{Answers, AnswersHello, AnswersSaidBeforeLogin, AnswersSaid, FailsToAnswer, IsSentOrLost, is_last}
-use Rattle.eppwire.proofs.FollowLemmas.{answers_follow, follows_on, same_follows}
+use Rattle.eppwire.proofs.FollowLemmas.{answers_follow, follows-on, same_follows}
 use Rattle.model.specs.Registry.{Registry}
 use Rattle.policy.specs.Rules.{PolicyRules}
 use Rattle.isolation.specs.Runs.{Answer, IsCall, Question, command, date, dated, reply}
@@ -130,7 +130,7 @@ turn-follows p g turn old new is = answers_follow p g old.peer.caller turn.paylo
 
 pub run-follows : (p : PolicyRules) (g : List (List ℕ)) (turns : List Turn) (old new : SessionState Desk) → Run (AnswersAt p g) turns old new → Follows old.peer.book new.peer.book
 run-follows p g [] old new same = same_follows old.peer.book new.peer.book (ap (λ (s : SessionState Desk). s.peer.book) same)
-run-follows p g (turn ∷ turns) old new (goes, next, is, more) = follows_on old.peer.book next.peer.book new.peer.book (turn-follows p g turn old next is) (run-follows p g turns next new more)
+run-follows p g (turn ∷ turns) old new (goes, next, is, more) = follows-on old.peer.book next.peer.book new.peer.book (turn-follows p g turn old next is) (run-follows p g turns next new more)
 
 -- those of a run, and some that are answered behind them
 answered-on : (p : PolicyRules) (g : List (List ℕ)) (turns rest : List Turn) (old mid : SessionState Desk) (new : Registry) → Run (AnswersAt p g) turns old mid → mid.peer.book.is_clean ≡ true

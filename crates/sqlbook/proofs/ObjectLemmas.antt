@@ -8,7 +8,7 @@ use Rattle.sqlbook.proofs.{Words.{rules_with, Schedule, slice_cmp, StateOf, stor
 use Rattle.sqlite_rules.specs.Lists.{Has}
 use Rattle.objects.specs.{Domains.expiry, declared.{contact.Contact.Contact, host.Host.Host}}
 use Rattle.books.specs.Ledgers as store
-use Rattle.sqldomains.proofs.FrameLemmas.{contact-leaves-domains, contact-leaves-reading, host-leaves-domains, host-leaves-reading}
+use Rattle.sqldomains.proofs.FrameLemmas.{contact-frame, domains-same, host-frame, reads-same}
 use Rattle.sqlobjects.proofs.VerdictLemmas.{all-alike}
 
 -- a put over rows is a put of a map by name
@@ -46,15 +46,15 @@ dues-alike old new metas days domains alike =
 
 contact-put : (name : List ℕ) (value : Option Contact) (old new : Content) → IsContactPut name value old new → (stored_of new ≡ contact_set name value (stored_of old)) × (are_right new ≡ are_right old)
 contact-put name value old new it =
-    let domains = contact-leaves-domains name value old new it in
+    let domains = domains-same old new (contact-frame name value old new it) in
     objects-put old new it.metas it.days _ _ _ (it.contacts ∙ same-put _ name value) it.hosts domains it.accounts it.lines it.messages (accounts-kept old new domains it.accounts)
-    (dues-where old new it.metas it.days it.domains (contact-leaves-reading name value old new it)) (contact-sponsors name value old new it)
+    (dues-where old new it.metas it.days it.domains (reads-same old new (contact-frame name value old new it))) (contact-sponsors name value old new it)
 
 host-put : (name : List ℕ) (value : Option Host) (old new : Content) → IsHostPut name value old new → (stored_of new ≡ host_set name value (stored_of old)) × (are_right new ≡ are_right old)
 host-put name value old new it =
-    let domains = host-leaves-domains name value old new it in
+    let domains = domains-same old new (host-frame name value old new it) in
     objects-put old new it.metas it.days _ _ _ it.contacts (it.hosts ∙ same-put _ name value) domains it.accounts it.lines it.messages (accounts-kept old new domains it.accounts)
-    (dues-where old new it.metas it.days it.domains (host-leaves-reading name value old new it)) (host-sponsors name value old new it)
+    (dues-where old new it.metas it.days it.domains (reads-same old new (host-frame name value old new it))) (host-sponsors name value old new it)
 
 pub contact_made : (name : List ℕ) (value : Option Contact) (r : Result (Unit {0}) BookFault) (old new : StateOf Content) → Changes r (IsContactPut name value) old new
     → MakesAs r stored_of are_right (contact_set name value (stored_of old.content)) old new

@@ -26,7 +26,7 @@ has-meant (one ∷ leaves) left (inl is) = inl (ap (remains_meant stored_of) is)
 has-meant (one ∷ leaves) left (inr h) = inr (has-meant leaves left h)
 
 -- a registry that was opened has a row of meta, so the row has the number
-numbered-if : (xs : Content) (terms : Terms) (metas : List MetaRow) → xs.metas ≡ metas → may_be_numbered metas ≡ true → terms_of_rows xs ≡ Some terms → is_numbered metas ≡ true
+pub numbered-if : (xs : Content) (terms : Terms) (metas : List MetaRow) → xs.metas ≡ metas → may_be_numbered metas ≡ true → terms_of_rows xs ≡ Some terms → is_numbered metas ≡ true
 numbered-if xs terms [] is e some = absurd (let never : ◌≡◌ {A = Option Terms} None (Some terms) = sym (ap (λ rows. terms_of_rows (record xs { metas = rows })) is) ∙ some in cc)
 numbered-if xs terms (meta ∷ more) is e some = e
 

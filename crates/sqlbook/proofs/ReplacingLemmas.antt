@@ -16,7 +16,7 @@ use Rattle.sqltables.specs.Domain as table
 use Rattle.sqlrows.specs.Read.{first_read, or_else}
 use Rattle.books.specs.Ledgers as store
 use Rattle.sqlaccounts.proofs.FindingLemmas.{equal}
-use Rattle.sqldomains.proofs.{FoundLemmas.domain-named, FrameLemmas.{sponsors-leave-domains, sponsors-leave-reading}}
+use Rattle.sqldomains.proofs.{FoundLemmas.domain-named, FrameLemmas.{domains-same, reads-same, sponsor-frame}}
 use Rattle.sqlobjects.proofs.{PutLemmas.only_named, VerdictLemmas.same-verdict}
 
 -- ---- what the row of a name reads as
@@ -49,13 +49,13 @@ module _ (name : List ℕ) (right : Content → DomainRow → Bool) (before afte
   rows-mid = ap (λ (xs : Content). xs.domains) it.counted.rest ∙ ap (λ (xs : Content). xs.domains) it.followed.rest
 
   reads-mid : (row : DomainRow) → Has old.domains row → domain_read it.mid row ≡ domain_read old row
-  reads-mid row there = ap (λ (xs : Content). domain_read xs row) it.counted.rest ∙ sponsors-leave-reading name (sponsor_in after) old it.moved it.followed row there
+  reads-mid row there = ap (λ (xs : Content). domain_read xs row) it.counted.rest ∙ reads-same old it.moved (sponsor-frame name (sponsor_in after) old it.moved it.followed) row there
 
   accounts-moved : it.moved.accounts ≡ old.accounts
   accounts-moved = ap (λ (xs : Content). xs.accounts) it.followed.rest
 
   domains-moved : domains_of it.moved ≡ domains_of old
-  domains-moved = sponsors-leave-domains name (sponsor_in after) old it.moved it.followed
+  domains-moved = domains-same old it.moved (sponsor-frame name (sponsor_in after) old it.moved it.followed)
 
   ids-mid : ids_in it.mid.accounts ≡ ids_in old.accounts
   ids-mid =

@@ -1,51 +1,32 @@
 -- What is found due of rows is what is due of the objects that stand.
-use Rattle.std.proofs.Common.{◌≡◌, ◌⊎◌, ⊎_elim, inl, inr, ℕ, Bool, true, false, cond, List, [], ◌∷◌, filter, Option, Some, None, option_map, refl, sym, ap, subst, ◌∙◌, arith}
-use Rattle.std.specs.declared.cmp.Ordering.TheVariants.{Less, Equal, Greater}
+use Rattle.std.proofs.Common.{◌≡◌, ◌⊎◌, ⊎_elim, inl, inr, ℕ, Bool, true, false, cond, List, [], ◌∷◌, filter, Option, Some, None, option_map, refl, sym, ap, subst, ◌∙◌}
 use Rattle.sqlderived.proofs.Words.{bytes_is, Due, due_cmp, entries, eq_by_cmp, filter-has, find, FinMap, found_due, get, get-entries, Has}
-use Rattle.sqlderived.proofs.Words.{has-filter, IsAntisymmetric, kind_rank, nat_cmp, nat_cmp-IsAntisymmetric, nat_list_cmp_total, ObjectKind}
-use Rattle.sqlderived.proofs.Words.{Ordering, ordering_then, same_some, slice_cmp, slice_cmp-IsAntisymmetric, step, with_due, with_rows}
+use Rattle.sqlderived.proofs.Words.{has-filter, nat_cmp, nat_cmp-IsAntisymmetric, nat_list_cmp_total}
+use Rattle.sqlderived.proofs.Words.{same_some, slice_cmp, slice_cmp-IsAntisymmetric, step, with_due, with_rows}
 use Rattle.sqlderived.proofs.OrderLemmas.{Rises, has-insert, insert-from, insert-keeps, insert-rises, same-list}
 use Rattle.basis.proofs.EntryLaws.{Each, each_entry}
 use Rattle.lifecycle.specs.DueOrder.{due_cmp_total}
 use Rattle.sqlcolumns.specs.Steps.{◌>>=◌}
 use Rattle.sqlderived.specs.inner.Finding.{with_row}
-
--- ---- only equals tie
-
-both-equal : (a b : Ordering) → ordering_then a b ≡ Equal → (a ≡ Equal) × (b ≡ Equal)
-both-equal Less b e = cc
-both-equal Equal b e = (refl, e)
-both-equal Greater b e = cc
-
-same-kind : (k l : ObjectKind) → kind_rank k ≡ kind_rank l → k ≡ l
-same-kind k l e = grind arith
-
-pub due_same : IsAntisymmetric due_cmp
-due_same a b e =
-    let last = both-equal (ordering_then (nat_cmp a.due b.due) (nat_cmp (kind_rank a.kind) (kind_rank b.kind))) (slice_cmp nat_cmp a.name b.name) e in
-    let first = both-equal (nat_cmp a.due b.due) (nat_cmp (kind_rank a.kind) (kind_rank b.kind)) last.0 in
-    let due = nat_cmp-IsAntisymmetric a.due b.due first.0 in
-    let kind = same-kind a.kind b.kind (nat_cmp-IsAntisymmetric (kind_rank a.kind) (kind_rank b.kind) first.1) in
-    let name = slice_cmp-IsAntisymmetric nat_cmp-IsAntisymmetric a.name b.name last.1 in
-    λ i. record { due = due i; kind = kind i; name = name i }
+use Rattle.lifecycle.proofs.DueOrderLaws.{due_cmp_only}
 
 abbrev pub InOrder : List Due → Type 0
-InOrder found = Rises due_cmp due_cmp_total due_same found
+InOrder found = Rises due_cmp due_cmp_total due_cmp_only found
 
 -- ---- what is found
 
 module _ {X : Type 0} (test : X → Option Due) where
   one-keeps : (o : Option Due) (found : List Due) (d : Due) → Has found d → Has (with_due o found) d
   one-keeps None found d there = there
-  one-keeps (Some new) found d there = insert-keeps due_cmp due_cmp_total due_same found new d there
+  one-keeps (Some new) found d there = insert-keeps due_cmp due_cmp_total due_cmp_only found new d there
 
   one-has : (o : Option Due) (found : List Due) (d : Due) → o ≡ Some d → Has (with_due o found) d
   one-has None found d e = cc
-  one-has (Some new) found d e = subst (Has (with_due (Some new) found)) (same_some new d e) (has-insert due_cmp due_cmp_total due_same found new)
+  one-has (Some new) found d e = subst (Has (with_due (Some new) found)) (same_some new d e) (has-insert due_cmp due_cmp_total due_cmp_only found new)
 
   one-from : (o : Option Due) (found : List Due) (d : Due) → Has (with_due o found) d → Has found d ⊎ (o ≡ Some d)
   one-from None found d there = inl there
-  one-from (Some new) found d there = turned (insert-from due_cmp due_cmp_total due_same found new d there)
+  one-from (Some new) found d there = turned (insert-from due_cmp due_cmp_total due_cmp_only found new d there)
     where
       turned : Has found d ⊎ (d ≡ new) → Has found d ⊎ (Some new ≡ Some d)
       turned (inl before) = inl before
@@ -53,7 +34,7 @@ module _ {X : Type 0} (test : X → Option Due) where
 
   one-rises : (o : Option Due) (found : List Due) → InOrder found → InOrder (with_due o found)
   one-rises None found rise = rise
-  one-rises (Some new) found rise = insert-rises due_cmp due_cmp_total due_same found new rise
+  one-rises (Some new) found rise = insert-rises due_cmp due_cmp_total due_cmp_only found new rise
 
   pub found-keeps : (found : List Due) (xs : List X) (d : Due) → Has found d → Has (found_due test found xs) d
   found-keeps found [] d there = there
@@ -137,7 +118,7 @@ pub record ArePicked (pick : Due → Bool) (ds es : List Due) : Type 0 where
 
 pub same-picked : (pick : Due → Bool) (ds es : List Due) → ArePicked pick ds es → filter pick ds ≡ filter pick es
 same-picked pick ds es are =
-    same-list due_cmp due_cmp_total due_same (filter pick ds) (filter pick es) (picked-rises pick ds are.rises.0) (picked-rises pick es are.rises.1)
+    same-list due_cmp due_cmp_total due_cmp_only (filter pick ds) (filter pick es) (picked-rises pick ds are.rises.0) (picked-rises pick es are.rises.1)
     (λ d has. let it = has-filter pick ds d has in filter-has pick es d (are.forth d it.0) it.1)
     (λ d has. let it = has-filter pick es d has in filter-has pick ds d (are.back d it.1 it.0) it.1)
 

@@ -24,20 +24,11 @@ use sqltables::{DomainRow, RowStore};
 use states::BookFault;
 use std::alloc::Global;
 
-/// The last moment, in seconds since 1970: 2199-12-31T23:59:59Z.
-const LAST: i64 = 7_258_118_399;
-
-pub(crate) fn last_moment() -> Moment
-    ensures { result ≡ 7_258_118_399 }
-{
-    Moment::of_secs(LAST).unwrap_or(Moment::first())
-}
-
 /// When a domain's row is due: when the domain is, or at the last moment where that lies past it.
 pub fn due_of_domain(domain: &Domain, policy: &Policy) -> Moment
     ensures { result ≡ capped (lapse.due_at (rules_with policy.now.days) domain.now) }
 {
-    let last = last_moment();
+    let last = Moment::last();
     match due_by(domain, last, policy) {
         None => last,
         Some(moment) => moment,

@@ -9,7 +9,7 @@ ghost use Rattle.lifecycle.specs.Periods.{passed};
 ghost use Rattle.model.specs.DueBy as model;
 ghost use Rattle.states.specs.States.{FindsSome};
 
-use crate::checking::{due_in, last_moment};
+use crate::checking::due_in;
 use crate::length::have_days;
 use basis::list::Seq;
 use basis::text::Text;
@@ -148,7 +148,7 @@ fn with_domain<S: Alter>(
         ≡ Some more.keys) store.old store.new }
 {
     let column = due_in(&row)?;
-    if column < last_moment() {
+    if column < Moment::last() {
         return Ok(with_due(found, ObjectKind::Domain, row.name, come(column, moment))?);
     }
     with_domain_read(store, alloc, moment, policy, found, row)

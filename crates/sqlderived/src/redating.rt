@@ -7,7 +7,6 @@ ghost use Rattle.lifecycle.specs.Phases as phases;
 ghost use Rattle.sqlderived.specs.Redates as spec;
 ghost use Rattle.states.specs.States.{Finds, FindsSome};
 
-use crate::checking::last_moment;
 use basis::list::Seq;
 use basis::text::Text;
 use calendar::Moment;
@@ -24,7 +23,7 @@ use std::alloc::{AllocError, Global};
 pub fn end_of_deletion(deletion: &Deletion, days: &Schedule) -> Moment
     ensures { result ≡ capped (phases.purge_at (rules_with days.now) deletion.now) }
 {
-    let last = last_moment();
+    let last = Moment::last();
     match purged_under(deletion, last, days) {
         None => last,
         Some(moment) => moment,

@@ -16,7 +16,7 @@ entries-where f g (row ∷ rows) same = λ i. cons_option (same row (inl refl) i
 
 -- domains, their links and their transfers are as they were, and what refers to a contact or a host leads to
 -- the same name
-record IsFrame (xs ys : Content) : Type 0 where
+pub record IsFrame (xs ys : Content) : Type 0 where
   pub domains : ys.domains ≡ xs.domains
   pub links : ys.links ≡ xs.links
   pub transfers : (id : ℤ) → filter (transfer_with_domain id) ys.transfers ≡ filter (transfer_with_domain id) xs.transfers
@@ -25,12 +25,12 @@ record IsFrame (xs ys : Content) : Type 0 where
   pub hosts : (row : LinkRow) → Has xs.links row → (id : ℤ) → row.host ≡ Some id → host_name_by_number ys id ≡ host_name_by_number xs id
 
 module _ (xs ys : Content) (it : IsFrame xs ys) where
-  reads-same : (row : DomainRow) → Has xs.domains row → domain_read ys row ≡ domain_read xs row
+  pub reads-same : (row : DomainRow) → Has xs.domains row → domain_read ys row ≡ domain_read xs row
   reads-same row there = read-where xs ys row (ap (filter (link_with_domain row.id)) it.links) (it.transfers row.id) (it.registrants row there) (λ link has role.
       let before = (has-filter (link_with_domain row.id) xs.links link has).0 in
       name-where xs ys role link.contact link.host (it.contacts link before) (it.hosts link before))
 
-  domains-same : domains_of ys ≡ domains_of xs
+  pub domains-same : domains_of ys ≡ domains_of xs
   domains-same =
       ap (λ rows. from_entries (filter_map (domain_entry ys) rows)) it.domains
       ∙ ap from_entries (entries-where (domain_entry ys) (domain_entry xs) xs.domains (λ row there. ap (named row.name) (reads-same row there)))
@@ -38,7 +38,7 @@ module _ (xs ys : Content) (it : IsFrame xs ys) where
 -- ---- a contact put
 
 module _ (name : List ℕ) (value : Option Contact) (xs ys : Content) (put : IsContactPut name value xs ys) where
-  contact-frame : IsFrame xs ys
+  pub contact-frame : IsFrame xs ys
   contact-frame =
       let was = put.consistent.0.linked in
       let now = put.consistent.1.linked in
@@ -51,16 +51,10 @@ module _ (name : List ℕ) (value : Option Contact) (xs ys : Content) (put : IsC
         hosts = λ row there id is. ap (λ rows. host_name_by_number (record ys { hosts = rows }) id) put.host_rows;
       }
 
-  pub contact-leaves-reading : (row : DomainRow) → Has xs.domains row → domain_read ys row ≡ domain_read xs row
-  contact-leaves-reading = reads-same xs ys contact-frame
-
-  pub contact-leaves-domains : domains_of ys ≡ domains_of xs
-  contact-leaves-domains = domains-same xs ys contact-frame
-
 -- ---- a host put
 
 module _ (name : List ℕ) (value : Option Host) (xs ys : Content) (put : IsHostPut name value xs ys) where
-  host-frame : IsFrame xs ys
+  pub host-frame : IsFrame xs ys
   host-frame =
       let contacts = λ (id : ℤ). ap (λ rows. contact_name_by_number (record ys { contacts = rows }) id) put.contact_rows in
       record {
@@ -71,12 +65,6 @@ module _ (name : List ℕ) (value : Option Host) (xs ys : Content) (put : IsHost
         contacts = λ row there id is. contacts id;
         hosts = name-kept named_hosts xs ys put.consistent put.names xs.links ys.links (λ (x : LinkRow). x.host) put.consistent.0.linked.link_host put.consistent.1.linked.link_host put.links;
       }
-
-  pub host-leaves-reading : (row : DomainRow) → Has xs.domains row → domain_read ys row ≡ domain_read xs row
-  host-leaves-reading = reads-same xs ys host-frame
-
-  pub host-leaves-domains : domains_of ys ≡ domains_of xs
-  host-leaves-domains = domains-same xs ys host-frame
 
 -- ---- hosts that take a domain's sponsor
 
@@ -107,7 +95,7 @@ module _ (above : List ℕ) (after : Option ℕ) (xs ys : Content) (it : IsSpons
           ap (λ rows. name_in (get_by host_table.hosts.key rows id)) (it.moves e).has
           ∙ names-kept above (maybe_registrar_column after) xs.hosts id
 
-  sponsor-frame : IsFrame xs ys
+  pub sponsor-frame : IsFrame xs ys
   sponsor-frame = record {
     domains = ap (λ (x : Content). x.domains) it.rest;
     links = ap (λ (x : Content). x.links) it.rest;
@@ -116,9 +104,3 @@ module _ (above : List ℕ) (after : Option ℕ) (xs ys : Content) (it : IsSpons
     contacts = λ row there id is. ap (λ (x : Content). contact_name_by_number x id) it.rest;
     hosts = λ row there id is. sponsor-names id;
   }
-
-  pub sponsors-leave-reading : (row : DomainRow) → Has xs.domains row → domain_read ys row ≡ domain_read xs row
-  sponsors-leave-reading = reads-same xs ys sponsor-frame
-
-  pub sponsors-leave-domains : domains_of ys ≡ domains_of xs
-  sponsors-leave-domains = domains-same xs ys sponsor-frame

@@ -2,7 +2,7 @@
 use Rattle.std.proofs.Common.{◌≡◌, inl, inr, ℕ, Bool, true, false, ◌||◌, cond, List, [], ◌∷◌, filter, Option, Some, None, option_map, refl, sym, ap, ◌∙◌, true≢false}
 use Rattle.std.proofs.lemmas.Map.Made.{keys_of-map_values}
 use Rattle.std.specs.{Map.keys_of, Option.option_map_or}
-use Rattle.sqldomains.proofs.Words.{all_at, bytes_is, Content, Domain, domain_read, DomainRow, domains_of, empty, entries, entries-map_values}
+use Rattle.sqldomains.proofs.Words.{at-all, bytes_is, Content, Domain, domain_read, DomainRow, domains_of, empty, entries, entries-map_values}
 use Rattle.sqldomains.proofs.Words.{eq_by_cmp, get, get-empty, get-insert, get-map_values, Has, has-filter, insert, keys, list_any, Named}
 use Rattle.sqldomains.proofs.Words.{names_apart, nat_cmp, nat_list_cmp_total, none_from_any, same_map, same_some, slice_cmp, with_one, with_read}
 use Rattle.sqldomains.proofs.{Words.◌>>=◌, FoundLemmas.{domain-named, parts}, LinkedLemmas.first-has}
@@ -52,7 +52,7 @@ module _ {R V : Type 0} (read : R → Option (List ℕ × V)) (of : List ℕ →
       go false None is f = get-empty (slice_cmp nat_cmp) n ∙ sym f
       go false (Some v) is f =
           let it = complete n v f in
-          absurd (true≢false (sym it.2 ∙ all_at (λ row. gives n (read row) ≡ false) rows it.0 (none_from_any (λ row. gives n (read row)) rows is) it.1))
+          absurd (true≢false (sym it.2 ∙ at-all (λ row. gives n (read row) ≡ false) rows it.0 (none_from_any (λ row. gives n (read row)) rows is) it.1))
 
 -- ---- the names of the values that pass
 

@@ -27,7 +27,8 @@ pub use Rattle.sqlobjects.specs.inner.Stages.{IsPlaced, IsPlacedAt, IsRowPlaced,
 pub use Rattle.sqlobjects.specs.inner.Transfers.{AreOtherTransfersKept, IsTransferCleared, IsTransferPut, is_transfer_of}
 pub use Rattle.sqlrows.proofs.StateLemmas.{one-asked, reads-on, reads-same, stays-on, then-became, then-made}
 pub use Rattle.sqlrows.specs.{Meanings.HasChanged, Read.{first_read, named, or_else, rows_of}}
-pub use Rattle.sqltables.proofs.RowLemmas.{all_at, bytes_same}
+pub use Rattle.sqltables.proofs.RowLemmas.{bytes_same}
+pub use Rattle.sqlrows.proofs.ReplaceLemmas.{at-all}
 pub use Rattle.sqltables.specs.{Content.Content, Domain.{domain_after_id, domain_with_id, domain_with_registrant}}
 pub use Rattle.sqltables.specs.Link.{link_of_domains, link_with_contact, link_with_domain, link_with_host, links}
 pub use Rattle.sqltables.specs.Transfer.{transfer_of_domains, transfer_with_contact, transfer_with_domain}

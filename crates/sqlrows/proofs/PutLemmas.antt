@@ -1,5 +1,6 @@
 -- What an upsert by key does.
-use Rattle.std.proofs.Common.{◌≡◌, ◌++◌, ◌&&◌, ◌||◌, inl, inr, ℕ, ℤ, Bool, true, false, List, [], ◌∷◌, map, drop, length, slice_get, Option, Some, None, Ok, refl, sym, ap, ap₂, ◌∙◌, subst, IsPermutation, int_eq, true≢false}
+use Rattle.std.proofs.Common.{◌≡◌, ◌++◌, ◌||◌, inl, inr, ℕ, ℤ, Bool, true, false, List, [], ◌∷◌, map, drop, length, slice_get, Option, Some, None, Ok, refl, sym, ap, ap₂, ◌∙◌, subst, IsPermutation, int_eq, true≢false}
+use Rattle.std.proofs.lemmas.Bool.{and_parts}
 use Rattle.sqlrows.proofs.Words.{Above, cast_row, Chosen, chosen_query, col, count_of, Database, deletes-map, Does, edit_of, edited, eval_all, Given}
 use Rattle.sqlrows.proofs.Words.{Gives, Has, Holds, holds, ids_of, insert_by, Int, IsKeyedBy-insert_by, IsPut, Layout, Leads, list_all, Listed, Null}
 use Rattle.sqlrows.proofs.Words.{one_permutation, op2, put_row, puts-map, Row, rowid, rowids_for, same_int, Schema, Sets, steady, Table, Tally, Task}
@@ -32,10 +33,6 @@ has_source f (x ∷ xs) y (inr later) = let it = has_source f xs y later in (it.
 or_first : (a b : Bool) → (a || b) ≡ true → b ≡ false → a ≡ true
 or_first true b h none = refl
 or_first false b h none = absurd (true≢false (sym h ∙ none))
-
-and_first : (a b : Bool) → (a && b) ≡ true → a ≡ true
-and_first true b h = refl
-and_first false b h = h
 
 module _ {X : Type 0} (L : Layout X) (schema : Schema) (at : ℕ) (table : Table) (listed : Listed L schema at table) (given : ℕ) (terms more : List Term) (params : X → Row) (gives : Gives L schema table given terms more params) where
   abbrev update : Program
@@ -94,7 +91,7 @@ module _ {X : Type 0} (L : Layout X) (schema : Schema) (at : ℕ) (table : Table
         let source = has_source L.to_row xs r (subst (λ l. Has l r) (ap db listed.tree ∙ h.rows) there) in
         let y = source.0 in
         let id = ap rowid source.2 ∙ L.keyed y in
-        let equals = and_first _ _ (or_first _ _ hit (gives.unshared (L.to_row x) r)) in
+        let equals = (and_parts _ _ (or_first _ _ hit (gives.unshared (L.to_row x) r))).0 in
         let binary_is = ap (λ (k : Key). is_true (binary (Compare Eq k.collation) (rowid r) (rowid (L.to_row x)))) first_key-plain in
         let same : int_eq (L.key y) (L.key x) ≡ true =
         sym (at_ints false Eq (L.key y) (L.key x)) ∙ sym (ap₂ (λ a b. is_true (binary (Compare Eq Binary) a b)) id (L.keyed x)) ∙ sym binary_is ∙ equals in

@@ -2,7 +2,7 @@
 use Rattle.std.proofs.Common.{◌≡◌, inl, inr, ℤ, ◌<ℤ◌, true, false, List, [], ◌∷◌, refl, sym, ap, ◌∙◌, subst, arith, Equal, int_cmp, int_eq}
 use Rattle.sqlrows.proofs.Words.{AllByRecursion, Has, insert_by, ints, IsKeyedBy, Less-from_lt, update_where}
 
-at-all : {X : Type 0} (P : X → Type 0) (xs : List X) (x : X) → AllByRecursion P xs → Has xs x → P x
+pub at-all : {X : Type 0} (P : X → Type 0) (xs : List X) (x : X) → AllByRecursion P xs → Has xs x → P x
 at-all P [] x each h = absurd h
 at-all P (y ∷ ys) x each (inl e) = subst P (sym e) each.0
 at-all P (y ∷ ys) x each (inr h) = at-all P ys x each.1 h

@@ -1,10 +1,11 @@
 -- One call after another.
 use Rattle.std.proofs.Common.{◌≡◌, Bool, true, List, filter, find, Option, Result, Ok, Err, IfOk, refl, sym, ap, subst, ◌∙◌}
-use Rattle.states.specs.{declared.fault.BookFault.BookFault, States.{Finds, FindsSome, Reads, StateOf, Stays, Writes}}
-use Rattle.std.specs.Result.{IsErr}
+use Rattle.states.specs.declared.fault.BookFault.{BookFault}
+use Rattle.states.specs.States.{Finds, Reads, StateOf, Stays, Writes}
 use Rattle.states.proofs.LeavingLemmas.{leaves-on, leaves-refl}
 pub use Rattle.states.proofs.CallLemmas.{finds-on, reads-on}
-use Rattle.sqlrows.specs.{Meanings.HasChanged, Read.rows_of}
+use Rattle.sqlrows.specs.Meanings.{HasChanged}
+use Rattle.sqlrows.specs.Read.{rows_of}
 use Rattle.sqlrows.proofs.RowLemmas.{find_one}
 
 pub reads-same : {X : Type 0} (s : StateOf X) → Reads s s
@@ -43,8 +44,3 @@ then-became first second as_written a b c one two is = record {
   answers = λ was. two.answers (one.answers was);
   leaves = leaves-on a b c one.leaves two.leaves;
 }
-
--- whatever answer it is that has failed
-pub refused-meets : {A X : Type 0} (r : Result A BookFault) (is : A → Type 0) (old new : StateOf X) → IsErr r → Stays old new → FindsSome r is old new
-refused-meets (Err fault) is old new failed stays = stays
-refused-meets (Ok it) is old new failed stays = cc

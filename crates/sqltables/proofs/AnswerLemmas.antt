@@ -1,7 +1,7 @@
 -- What is found among the answers that are kept, and what is kept.
 use Rattle.std.proofs.Common.{◌≡◌, ◌≢◌, ◌++◌, ◌==◌, ◌&&◌, Bool, true, false, not, ℕ, List, [], ◌∷◌, length, map, filter, flat_map, get_or, if◌then◌else◌, IfOk, IfSome, IsTrue, Option, Some, None, Result, inl, inr, refl, sym, ap, subst, subst₂, ◌∙◌, arith}
 use Rattle.std.proofs.lemmas.{Bool.Decides.leb_tells, List.Sums.{count_by-le-length, length-filter}}
-use Rattle.std.proofs.lemmas.{List.Elements.{All-filter, All-push, filter_passes}, Simd.map-map}
+use Rattle.std.proofs.lemmas.{List.Elements.{All-filter, All-push, filter_passes}, Simd.map-map, Bool.not-true}
 use Rattle.sqltables.proofs.Words.{All, Answer, AreOthersSame, AreRight, Asks, BookFault, bound, bound_value, Content, end, Env}
 use Rattle.sqltables.proofs.Words.{eqb-false, Finds, Fits, Form, has_rows, HasCleanDisk, inner, IsAnswer, IsAnsweredByRows, IsContent, IsOfTable}
 use Rattle.sqltables.proofs.Words.{IsRight, lasting, lasts, matches_as, Null, overlay, overlay_none, owned, Query, Reads, Recalls, registry, Remains}
@@ -99,12 +99,8 @@ pub rights-after : (written : ℕ) (old new : Trees) → AreOthersSame written o
 rights-after written old new others items left is right =
     subst (All (IsRight new)) (sym is) (λ i d short.
     let it = get_or (filter (λ (a : Answer). not (a.tree == written)) items) i d in
-    let other : (it.tree == written) ≡ false = not_true (it.tree == written) (filter_passes (λ (a : Answer). not (a.tree == written)) items i d short) in
+    let other : (it.tree == written) ≡ false = not-true (it.tree == written) (filter_passes (λ (a : Answer). not (a.tree == written)) items i d short) in
     right-after written old new others it (eqb-false it.tree written other) (All-filter (λ (a : Answer). not (a.tree == written)) (IsRight old) items right i d short))
-  where
-    not_true : (b : Bool) → not b ≡ true → b ≡ false
-    not_true true e = sym e
-    not_true false e = refl
 
 -- the answer to a question, as it is kept
 pub right-as : (db : Trees) (it : Answer) (tree : ℕ) (sql : List ℕ) (params : Row) (rows : List Row) → IsOf it sql params → it.tree ≡ tree → it.rows.items ≡ rows → IsAnsweredByRows db sql params rows → IsQueryOf tree sql → IsRight db it

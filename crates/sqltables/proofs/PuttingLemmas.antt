@@ -3,8 +3,8 @@ use Rattle.std.proofs.Common.{◌≡◌, ◌⊎◌, inl, inr, ℤ, ◌<ℤ◌, �
 use Rattle.std.specs.Ordering.{is_eq, match_ordering}
 use Rattle.sqltables.proofs.Words.{account_with_id, AccountRow, accounts, accounts_to, AllByRecursion, Content, Has, insert_by, ints}
 use Rattle.sqltables.proofs.Words.{IsConsistent, IsKeyedBy, IsKeyedBy-insert_by, IsNamedBy, LeadsTo, metas, same_int, update_where}
-use Rattle.sqltables.proofs.RowLemmas.{all_at, same_by_key}
-use Rattle.sqlrows.proofs.ReplaceLemmas.{replaced-is-put}
+use Rattle.sqltables.proofs.RowLemmas.{same_by_key}
+use Rattle.sqlrows.proofs.ReplaceLemmas.{replaced-is-put, at-all}
 
 -- ---- a row put in its place
 
@@ -75,7 +75,7 @@ module _ {X : Type 0} (key : X → ℤ) where
       subst (λ (y : X). filter (λ z. int_eq (key z) (key y)) (x ∷ xs) ≡ y ∷ []) (sym e)
       (let same : int_eq (key x) (key x) ≡ true = grind (arith, ints) in rw (same, none-above xs (key x) up.0))
   found-by-key (x ∷ xs) row up (inr h) =
-      let below = all_at (λ y. key x <ℤ key y) xs row up.0 h in
+      let below = at-all (λ y. key x <ℤ key y) xs row up.0 h in
       let apart : int_eq (key x) (key row) ≡ false = grind (arith, ints) in
       rw apart (found-by-key xs row up.1 h)
 

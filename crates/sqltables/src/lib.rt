@@ -53,7 +53,7 @@ mod transfer;
 pub use account::AccountRow;
 pub use address::AddressRow;
 pub use adoption::{Unadopted, reread};
-pub use balance::{balance_of_bytes, bytes_of_balance};
+pub use balance::bytes_of_balance;
 pub use contact::{ContactRow, PostalRow};
 pub use day::DayRow;
 pub use domain::DomainRow;

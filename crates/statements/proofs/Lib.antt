@@ -1,3 +1,2 @@
 mod TableLemmas
-mod TextLemmas
 mod TimeLemmas

@@ -1,12 +1,11 @@
 //! Which lines of which account a statement has.
-ghost use Rattle.std.specs.Prelude.{◌≡◌, ◌<◌, length, position, option_map, IfSome, Some, None, if◌then◌else◌};
-ghost use Rattle.std.specs.Str.{is_utf8};
+ghost use Rattle.std.specs.Prelude.{◌≡◌, ◌<◌, length, position, option_map, IfSome, Some, None};
 ghost use Rattle.statements.specs.Extracts as spec;
 
 use basis::registrar::RegistrarNo;
+use basis::text::text_in;
 use calendar::Moment;
 use policy::Policy;
-use std::str;
 
 /// Between which moments: at or after the one, and before the other.
 #[derive(Clone, Copy, Debug, PartialEq, Eq)]
@@ -132,17 +131,6 @@ pub fn after<'t>(front: &[u8], text: &'t [u8]) -> Option<&'t [u8]>
         return None;
     }
     Some(&text[size..])
-}
-
-/// The bytes as a text.
-fn text_in(bytes: &[u8]) -> Option<&str>
-    ensures { option_map (λ text. text.now) result
-        ≡ (if is_utf8 bytes.now then Some bytes.now else None) }
-{
-    match str::from_utf8(bytes) {
-        Ok(text) => Some(text),
-        Err(_) => None,
-    }
 }
 
 /// The moment whose text the bytes are.

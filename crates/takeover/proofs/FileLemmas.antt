@@ -1,5 +1,5 @@
 -- What a crash leaves of the files of a takeover.
-use Rattle.std.proofs.Common.{◌≡◌, ◌⊎◌, inl, inr, true, List, [], ◌∷◌, Option, Some, None, Result, Ok, Err, IsTrue, refl, sym, ap, subst, ◌∙◌}
+use Rattle.std.proofs.Common.{◌≡◌, ◌⊎◌, inl, inr, true, List, [], Some, Result, Ok, Err, IsTrue, refl, sym, ap, subst, ◌∙◌}
 use Rattle.std.proofs.{Math.Logic.∥∥₁_map, lemmas.Bool.and_parts}
 use Rattle.sqlite_disk.specs.declared.Disk.{Ghosts}
 use Rattle.sqlite_wal.specs.Recovery.{Image}
@@ -12,17 +12,17 @@ use Rattle.policy.specs.{declared.terms.Terms.Terms, Rules.PolicyRules}
 use Rattle.books.specs.Book.{Stored}
 use Rattle.oldrows.specs.{Stored.OldState, inner.Stored.{CoversOld, IsLeftAsOld}}
 use Rattle.oldrows.specs.Stored as old
-use Rattle.sqltables.specs.{Adoption.IsAdopted, Content.Content, declared.meta.MetaRow.MetaRow, Readiness.{is_numbered, may_be_numbered}}
+use Rattle.sqltables.specs.{Adoption.IsAdopted, Content.Content, Readiness.{is_numbered, may_be_numbered}}
 use Rattle.sqltables.specs.inner.Reopening.{IsContentFoundAgain, AreRowsReopened}
 use Rattle.sqltables.specs.Stored as stored
 use Rattle.sqltables.proofs.ReopeningLemmas.{reopened}
 use Rattle.sqlbook.specs.{Files.IsFoundIn, Meaning.{are_right, stored_of}}
-use Rattle.sqlterms.specs.Terms.{terms_of_rows}
 use Rattle.states.specs.{States.{Has, Remains, StateOf}, declared.readiness.Ready.Ready}
 use Rattle.states.proofs.LeavingLemmas.{has-alone}
 use Rattle.takeover.specs.declared.migrating.MigrateFault.{MigrateFault, TheVariants.{Policy, Schema, Memory, Store}}
 use Rattle.takeover.specs.Files.{IsAsBefore, IsThereAfter, IsFoundComplete, NewFilesHoldAllOrNothing, OldFilesStay}
 use Rattle.takeover.specs.Migrating.{IsAll, IsTried, Migrates, numbered_anew, with_days}
+use Rattle.sqlbook.proofs.ReopeningLemmas.{numbered-if}
 
 -- ---- what the files may hold
 
@@ -40,11 +40,6 @@ pub old-files-stay : {D : Type 0} (g : Ghosts D) → OldFilesStay g
 old-files-stay g files found from read it reads honest over image may trees opened =
     ∥∥₁_map (over image may trees opened)
     (λ h. (h.0, it.leaves (it.answers (reads.honest honest)) h.0 (subst (λ (l : List (Remains Content)). Has l h.0) reads.leaves h.1), h.2))
-
--- a registry that was opened has a row of meta, so the row has the number
-numbered-if : (xs : Content) (terms : Terms) (metas : List MetaRow) → xs.metas ≡ metas → may_be_numbered metas ≡ true → terms_of_rows xs ≡ Some terms → is_numbered metas ≡ true
-numbered-if xs terms [] is e some = absurd (let never : ◌≡◌ {A = Option Terms} None (Some terms) = sym (ap (λ (rows : List MetaRow). terms_of_rows (record xs { metas = rows })) is) ∙ some in cc)
-numbered-if xs terms (meta ∷ more) is e some = e
 
 module _ (p : PolicyRules) (from : OldState) (to again : StateOf Content) (right : are_right (numbered_anew from.content) ≡ true) (terms : Terms) (some : (stored_of from.content).terms ≡ Some terms) where
   -- what is found where all was left

@@ -1,5 +1,5 @@
 use Rattle.std.proofs.Common.{◌∙◌}
-use Rattle.eppwire.proofs.FollowLemmas.{follows_on}
+use Rattle.eppwire.proofs.FollowLemmas.{follows-on}
 use Rattle.policy.specs.Rules.{PolicyRules}
 use Rattle.books.specs.Book.{BookState}
 use Rattle.server.proofs.ListeningLemmas.{one_more}
@@ -16,6 +16,6 @@ turns-preserved g c =
     let one = c.serve_public-registry.ensures in
     record {
       served = one_more p q c.args.passwords.now old between new before.policy before.served one.served;
-      follows = follows_on old between new before.follows one.follows;
+      follows = follows-on old between new before.follows one.follows;
       policy = one.policy ∙ before.policy;
     }

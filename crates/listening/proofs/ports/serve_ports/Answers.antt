@@ -1,5 +1,5 @@
 use Rattle.std.proofs.Common.{◌∙◌, List, ℕ}
-use Rattle.eppwire.proofs.FollowLemmas.{follows_on}
+use Rattle.eppwire.proofs.FollowLemmas.{follows-on}
 use Rattle.policy.specs.Rules.{PolicyRules}
 use Rattle.books.specs.Book.{BookState}
 use Rattle.listening.proofs.PortLemmas.{one_more_turn}
@@ -17,6 +17,6 @@ turns-preserved g c =
     let one = c.serve_turn-registry.ensures in
     record {
       served = one_more_turn p q c.args.passwords.now credentials old between new before.policy before.served one.served;
-      follows = follows_on old between new before.follows one.follows;
+      follows = follows-on old between new before.follows one.follows;
       policy = one.policy ∙ before.policy;
     }

@@ -1,7 +1,7 @@
 use Rattle.std.proofs.Common.{◌≡◌, ◌∙◌, ◌<◌, ◌++◌, ◌∷◌, [], inl, ap, refl, length, length-append, IfSome, arith}
 use Rattle.std.proofs.{lemmas.Result.err_from_is_err_and, KnownBytes.{Appends-nil, Appends-trans}}
 use Rattle.std.specs.Io.BufRead.{strip_last, take_through}
-use Rattle.eppwire.proofs.FollowLemmas.{follows_on, stays_followed}
+use Rattle.eppwire.proofs.FollowLemmas.{follows-on, follows-itself}
 use Rattle.script.specs.inner.Runs.{run_end}
 use Rattle.script.proofs.{BeginLemmas.{Ends-between, fault_by}, HaltLemmas.Ends-halted}
 use Rattle.script.proofs.RunLemmas.{ArePrinted-more, ArePrinted-nil, Ends-done, Reads-more, Reads-nil}
@@ -14,7 +14,7 @@ loop-number-init g c = record {
   count = refl;
   read = Reads-nil _;
   sent = ([], Appends-nil _);
-  follows = stays_followed _;
+  follows = follows-itself _;
   is_printed = λ clean. ArePrinted-nil _ _ _;
 }
 
@@ -66,6 +66,6 @@ loop-number-preserved g c =
       count = omega (arith, length-append before.lines (strip_last 10 text ∷ []));
       read = Reads-more before.lines _ _ _ text before.read read c.in_ok-read_until.ensures.rest some;
       sent = (before.sent.0 ++ is_printed.sent.0, Appends-trans _ _ _ _ _ before.sent.1 is_printed.sent.1);
-      follows = follows_on _ _ _ before.follows is_printed.follows;
+      follows = follows-on _ _ _ before.follows is_printed.follows;
       is_printed = λ clean. ArePrinted-more _ _ before.lines (strip_last 10 text) _ _ _ _ _ _ _ before.policy line (before.is_printed (is_printed.follows.clean clean)) (is_printed.is_printed clean);
     }
