@@ -1,7 +1,7 @@
 //! Contacts (RFC 5733).
-ghost use Rattle.std.specs.{Prelude.{◌≡◌, ◌==◌, ◌||◌, IfOk, filter}, Option.option_copied};
+ghost use Rattle.std.specs.{Prelude.{◌≡◌, ◌==◌, IfOk, filter}, Option.option_copied};
 ghost use Rattle.objects.specs.Contacts as spec;
-ghost use Rattle.objects.specs.Sight.{is_party, authorizes, contact_as};
+ghost use Rattle.objects.specs.Sight.{authorizes, contact_as};
 ghost use Rattle.objects.specs.Transfers as transfers;
 
 use crate::roid::Roid;
@@ -133,19 +133,6 @@ impl Contact {
         sight::authorizes(presented, &self.secret)
     }
 
-    fn is_seen_in_full(&self, registrar: RegistrarNo, presented: Option<&Text>) -> bool
-        ensures { result ≡ (is_party registrar self.now.sponsor self.now.transfer
-            || authorizes (option_copied presented.entry) self.now.secret) }
-    {
-        sight::is_seen_in_full(
-            registrar,
-            self.sponsor,
-            &self.transfer,
-            presented,
-            &self.secret,
-        )
-    }
-
     /// The same in memory of its own.
     pub fn copy(&self) -> Result<Contact, AllocError>
         ensures { IfOk result (λ copy. copy ≡ self.now) }
@@ -178,15 +165,12 @@ impl Contact {
         ensures { IfOk result (λ seen. seen ≡ contact_as registrar (option_copied presented.entry)
             self.now) }
     {
-        if self.is_seen_in_full(registrar, presented) {
+        if sight::is_party(registrar, self.sponsor, &self.transfer)
+            || self.is_authorized_by(presented)
+        {
             return Ok(Seen::Full(self.copy()?));
         }
-        match &self.transfer {
-            Some(transfer) if transfer.names(registrar) => {
-                Ok(Seen::TransferParty(self.face(alloc)?, *transfer))
-            }
-            _ => Ok(Seen::Public(self.face(alloc)?)),
-        }
+        Ok(sight::seen_by_outsider(registrar, self.face(alloc)?, &self.transfer))
     }
 }
 

@@ -1,5 +1,5 @@
 //! Domains (RFC 5731).
-ghost use Rattle.std.specs.{Prelude.{◌≡◌, ◌==◌, ◌||◌, IfOk, filter}, Option.option_copied};
+ghost use Rattle.std.specs.{Prelude.{◌≡◌, ◌==◌, IfOk, filter}, Option.option_copied};
 ghost use Rattle.objects.specs.Domains.{shown_expiry, shows, shown, face_of};
 ghost use Rattle.objects.specs.Sight.{is_party, authorizes, domain_as};
 ghost use Rattle.objects.specs.Transfers as transfers;
@@ -205,19 +205,6 @@ impl Domain {
         sight::authorizes(presented, &self.secret)
     }
 
-    fn is_seen_in_full(&self, registrar: RegistrarNo, presented: Option<&Text>) -> bool
-        ensures { result ≡ (is_party registrar self.now.sponsor self.now.transfer
-            || authorizes (option_copied presented.entry) self.now.secret) }
-    {
-        sight::is_seen_in_full(
-            registrar,
-            self.sponsor,
-            &self.transfer,
-            presented,
-            &self.secret,
-        )
-    }
-
     /// What the registrar sees of it.
     pub fn seen_by(
         &self,
@@ -229,16 +216,10 @@ impl Domain {
         ensures { IfOk result (λ seen. seen ≡ domain_as registrar (option_copied presented.entry)
             standing self.now) }
     {
-        if self.is_seen_in_full(registrar, presented) {
+        if self.is_held_by(registrar) || self.is_authorized_by(presented) {
             return Ok(Seen::Full(self.in_full(standing)?));
         }
-        match &self.transfer {
-            Some(transfer) if transfer.names(registrar) => Ok(Seen::TransferParty(
-                self.face(alloc, standing)?,
-                *transfer,
-            )),
-            _ => Ok(Seen::Public(self.face(alloc, standing)?)),
-        }
+        Ok(sight::seen_by_outsider(registrar, self.face(alloc, standing)?, &self.transfer))
     }
 }
 

@@ -1,5 +1,5 @@
 //! What one registrar sees of an object.
-ghost use Rattle.std.specs.{Prelude.{◌≡◌, ◌||◌}, Option.option_copied};
+ghost use Rattle.std.specs.{Prelude.{◌≡◌}, Option.option_copied};
 ghost use Rattle.objects.specs.Sight as spec;
 
 use crate::transfer::Transfer;
@@ -42,16 +42,16 @@ pub(crate) fn authorizes(presented: Option<&Text>, secret: &Text) -> bool
     }
 }
 
-/// Whether the registrar sees an object in full, which has this sponsor, transfer and secret.
-pub(crate) fn is_seen_in_full(
+/// The face, with the last transfer where that names the registrar.
+pub(crate) fn seen_by_outsider<O, F>(
     registrar: RegistrarNo,
-    sponsor: RegistrarNo,
+    face: F,
     transfer: &Option<Transfer>,
-    presented: Option<&Text>,
-    secret: &Text,
-) -> bool
-    ensures { result ≡ (spec.is_party registrar sponsor transfer.now
-        || spec.authorizes (option_copied presented.entry) secret.now) }
+) -> Seen<O, F>
+    ensures { result ≡ spec.seen_by_outsider registrar face transfer.now }
 {
-    is_party(registrar, sponsor, transfer) || authorizes(presented, secret)
+    match transfer {
+        Some(transfer) if transfer.names(registrar) => Seen::TransferParty(face, *transfer),
+        _ => Seen::Public(face),
+    }
 }
