@@ -1,5 +1,5 @@
 -- What time enters into accounts commutes.
-use Rattle.std.proofs.Common.{◌≡◌, ℕ, Bool, true, false, not, cond, ◌&&◌, List, [], ◌∷◌, map, Option, Some, None, refl, sym, ap, ◌∙◌, arith}
+use Rattle.std.proofs.Common.{◌≡◌, ℕ, Bool, true, false, not, cond, ◌&&◌, List, [], ◌∷◌, map, Option, Some, refl, sym, ap, ◌∙◌, arith}
 use Rattle.std.proofs.lemmas.{Bool.Decides.nat_tests, Cmp.{alike_right, nat_cmp_total}}
 use Rattle.std.specs.{BTreeSet.insert_key, Cmp.IsTotalOrder, FinMap.{FinMap, IsAntisymmetric, nat_cmp-IsAntisymmetric}}
 use Rattle.std.specs.{Ordering.{nat_cmp, ordering_reverse}, declared.cmp.Ordering.{Ordering, TheVariants.{Less, Equal, Greater}}}
@@ -56,21 +56,10 @@ module _ {K : Type 0} (R : K → K → Ordering) (o : IsTotalOrder R) (only : Is
 -- b and c: the line begins by the one and by the other; d and e: the one begins by the other, and the other by it
 earliest : (l k m : Line) (b c d e : Bool) → (b ≡ true → d ≡ true → c ≡ true) → (c ≡ true → e ≡ true → b ≡ true) → (d ≡ false → e ≡ true) → (d ≡ true → e ≡ true → k ≡ m)
     → cond c (cond b l k) (cond e m k) ≡ cond b (cond c l m) (cond d k m)
-earliest l k m true true d e f g h j = refl
-earliest l k m true false true e f g h j = let never : false ≡ true = f refl refl in cc
-earliest l k m true false false true f g h j = refl
-earliest l k m true false false false f g h j = let never : false ≡ true = h refl in cc
-earliest l k m false true d true f g h j = let never : false ≡ true = g refl refl in cc
-earliest l k m false true true false f g h j = refl
-earliest l k m false true false false f g h j = let never : false ≡ true = h refl in cc
-earliest l k m false false true true f g h j = sym (j refl refl)
-earliest l k m false false true false f g h j = refl
-earliest l k m false false false true f g h j = refl
-earliest l k m false false false false f g h j = let never : false ≡ true = h refl in cc
+earliest l k m b c d e f g h j = grind (arith, f, g, h, j)
 
 begins-trans : (s : Option ℕ) (y t n u m : ℕ) → begins_by s y t n ≡ true → begins_by (Some t) n u m ≡ true → begins_by s y u m ≡ true
-begins-trans None y t n u m e f = e
-begins-trans (Some s) y t n u m e f = grind (arith, nat_tests, e, f)
+begins-trans s y t n u m e f = grind (arith, nat_tests, e, f)
 
 begins-total : (t n u m : ℕ) → begins_by (Some t) n u m ≡ false → begins_by (Some u) m t n ≡ true
 begins-total t n u m e = grind (arith, nat_tests, e)
@@ -85,8 +74,7 @@ abbrev begins : TransferStart → Line → Bool
 begins x l = begins_by l.started l.years x.moment x.years
 
 not-cond : (b : Bool) (l m : Line) → cond (not b) m l ≡ cond b l m
-not-cond true l m = refl
-not-cond false l m = refl
+not-cond b l m = grind arith
 
 on : (x : TransferStart) (l : Line) → is_for_transfer x.roid l ≡ true → transfer_started x l ≡ cond (begins x l) l (begun x l)
 on x l e = ap (λ b. cond (b && not (begins x l)) (begun x l) l) e ∙ not-cond (begins x l) l (begun x l)

@@ -1,6 +1,6 @@
 -- The bag of lines that are kept by their domains.
 use Rattle.std.proofs.Common.{◌≡◌, ℕ, ◌+◌, ◌<◌, Bool, true, false, cond, not, ◌||◌, List, [], ◌∷◌, ◌++◌, map, length, Option, Some, None, Result, Ok, Err, refl, sym, ap, subst, ◌∙◌, arith, ℤ, ◌+ℤ◌, ◌-ℤ◌}
-use Rattle.std.proofs.lemmas.{Bool.Decides.{Decides-like, same_from_decides}, Cmp.nat_list_cmp_total, Int.ints, List.{append-nil, append_assoc, map-append}}
+use Rattle.std.proofs.lemmas.{Bool.Decides.{Decides-like, same_from_decides}, Cmp.nat_list_cmp_total, Int.ints, List.{append-nil, append_assoc, map-append}, Option.same_Some}
 use Rattle.std.proofs.Math.Bool.{or-false}
 use Rattle.std.proofs.lemmas.{List.{Elements.filter-append, Folds.list_any-append}, Map.{NonePasses, none_passes_from_lookup}}
 use Rattle.std.proofs.lemmas.Map.{Entries.none_past_head, Steps.set_value_same, Keys.{IsDistinct-from_sorted, IsDistinct-tail}}
@@ -14,7 +14,7 @@ use Rattle.basis.proofs.BagLaws.{add-add, any-bag_of, filter-bag_of, remade-bag_
 use Rattle.objects.specs.declared.roid.Roid.{Roid}
 use Rattle.accounts.specs.{declared.line.{Line.Line, LineSwap.LineSwap}, Groups.{IsGroup, IsGrouped, IsSmall, all_lines, lines_at}}
 use Rattle.accounts.specs.Lines.{balance, in_order, is_line, is_of, is_on, roid_numbers, swapped_all, swaps_of}
-use Rattle.accounts.proofs.LineLaws.{bounded-small, fits, line-told, lines_in_order, roid-Decides, roid_only, same-in_order, some_only}
+use Rattle.accounts.proofs.LineLaws.{bounded-small, fits, line-told, lines_in_order, roid-Decides, roid_only, same-in_order}
 
 abbrev Group : Type 0
 Group = List ℕ × List Line
@@ -156,7 +156,7 @@ at-Decides key other = (same_key key other, λ e. ap (at key) (sym e) ∙ number
 
 of-Decides : (roid : Roid) (o : Option Roid) → Decides (is_of roid o) (roid_numbers (Some roid) ≡ roid_numbers o)
 of-Decides roid None = (λ e. cc, λ e. cc)
-of-Decides roid (Some other) = Decides-like _ (λ e. ap (λ (r : Roid). roid_numbers (Some r)) (sym e)) (λ e. sym (some_only roid other (roid_only (Some roid) (Some other) [] [] e).0)) (roid-Decides other roid)
+of-Decides roid (Some other) = Decides-like _ (λ e. ap (λ (r : Roid). roid_numbers (Some r)) (sym e)) (λ e. sym (same_Some roid other (roid_only (Some roid) (Some other) [] [] e).0)) (roid-Decides other roid)
 
 -- a line is on a domain where it stands under its numbers
 on-key : (roid : Roid) (o : Option Roid) → is_of roid o ≡ at (roid_numbers (Some roid)) (roid_numbers o)
@@ -321,11 +321,7 @@ module _ (x : Line) where
 pub length-add : (x : Line) (ls : List Line) → length (add in_order x ls) ≡ length ls + 1
 unfolding add
 length-add x [] = refl
-length-add x (y ∷ ys) = by (in_order x y) (length-add x ys)
-  where
-    by : (b : Bool) → length (add in_order x ys) ≡ length ys + 1 → length (cond b (x ∷ y ∷ ys) (y ∷ add in_order x ys)) ≡ length (y ∷ ys) + 1
-    by true e = omega arith
-    by false e = omega (arith, e)
+length-add x (y ∷ ys) = grind (arith, length-add x ys)
 
 -- so many small lines, and one more
 pub small-add : (x : Line) (ls : List Line) → IsSmall x → AllByRecursion IsSmall ls → AllByRecursion IsSmall (add in_order x ls)

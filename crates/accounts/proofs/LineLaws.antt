@@ -1,11 +1,10 @@
 -- Lines stand in an order, and balances are sums.
-use Rattle.std.proofs.Common.{◌≡◌, ℕ, ◌+◌, ◌<◌, Bool, true, false, cond, nat_eq, List, [], ◌∷◌, ◌++◌, Option, Some, None, is_some, refl, sym, ap, ◌∙◌, arith, ℤ, pos, negsuc, ◌+ℤ◌, ◌-ℤ◌, ◌≤ℤ◌}
-use Rattle.std.proofs.lemmas.{Bool.Decides.{Decides-and, Decides-eqb, Decides-like, same_from_decides}, Int.ints}
+use Rattle.std.proofs.Common.{◌≡◌, ℕ, ◌+◌, ◌<◌, Bool, true, false, cond, List, [], ◌∷◌, ◌++◌, Option, Some, None, is_some, refl, sym, ap, ◌∙◌, arith, ℤ, pos, negsuc, ◌+ℤ◌, ◌-ℤ◌, ◌≤ℤ◌}
+use Rattle.std.proofs.lemmas.{Bool.Decides.{Decides-and, Decides-eqb, Decides-like, same_from_decides}, Int.ints, Option.same_Some}
 use Rattle.std.specs.{Bool.Decides, Int.{saturate_signed, w128}, List.AllByRecursion}
 use Rattle.basis.specs.Bag.{IsLinear, add, bag_of, same}
 use Rattle.basis.proofs.{BagLaws.{le-itself, same-is}, OrderLaws.linear_by_numbers}
 use Rattle.objects.specs.declared.roid.{ObjectKind.ObjectKind, Roid.Roid}
-use Rattle.objects.specs.declared.roid.ObjectKind.TheVariants as objects
 use Rattle.accounts.specs.{declared.line.{Line.Line, LineKind.LineKind}, Groups.{IsBounded, IsSmall}}
 use Rattle.accounts.specs.Lines.{amount, amount_of, balance, in_order, is_kind, is_line, is_line_for, is_same_domain, is_same_number, is_same_roid, kind_rank, maybe_number, numbers, object_rank, roid_numbers}
 use Rattle.accounts.specs.declared.line.LineKind.TheVariants as kinds
@@ -13,35 +12,17 @@ use Rattle.accounts.specs.declared.line.LineKind.TheVariants as kinds
 -- ---- the numbers tell a line
 
 maybe_only : (x y : Option ℕ) → maybe_number x ≡ maybe_number y → x ≡ y
-maybe_only None None e = refl
-maybe_only None (Some n) e = absurd (omega (arith, e))
-maybe_only (Some m) None e = absurd (omega (arith, e))
-maybe_only (Some m) (Some n) e = let same : m ≡ n = omega (arith, e) in ap Some same
+maybe_only x y e = grind (arith, e)
 
-kind_of : ℕ → LineKind
-kind_of n = cond (nat_eq n 0) kinds.Deposit (cond (nat_eq n 1) kinds.Create (cond (nat_eq n 2) kinds.Renew (cond (nat_eq n 3) kinds.AutoRenew (cond (nat_eq n 4) kinds.Transfer kinds.Restore))))
+same-kind : (a b : LineKind) → kind_rank a ≡ kind_rank b → a ≡ b
+same-kind a b e = grind (arith, e)
 
-kind_back : (k : LineKind) → kind_of (kind_rank k) ≡ k
-unfolding kind_of
-kind_back kinds.Deposit = refl
-kind_back kinds.Create = refl
-kind_back kinds.Renew = refl
-kind_back kinds.AutoRenew = refl
-kind_back kinds.Transfer = refl
-kind_back kinds.Restore = refl
-
-object_of : ℕ → ObjectKind
-object_of n = cond (nat_eq n 0) objects.Contact (cond (nat_eq n 1) objects.Domain objects.Host)
-
-object_back : (k : ObjectKind) → object_of (object_rank k) ≡ k
-unfolding object_of
-object_back objects.Contact = refl
-object_back objects.Domain = refl
-object_back objects.Host = refl
+pub same-object : (a b : ObjectKind) → object_rank a ≡ object_rank b → a ≡ b
+same-object a b e = grind (arith, e)
 
 one_roid : (a b : Roid) → object_rank a.kind ≡ object_rank b.kind → a.creator ≡ b.creator → a.serial ≡ b.serial → a ≡ b
 one_roid a b e f g =
-    let kind : a.kind ≡ b.kind = sym (object_back a.kind) ∙ ap object_of e ∙ object_back b.kind in
+    let kind = same-object a.kind b.kind e in
     λ i. record { kind = kind i; creator = f i; serial = g i }
 
 -- the roids, and what follows them in the numbers
@@ -59,15 +40,12 @@ roid_only (Some a) (Some b) rest more e =
 numbers_only : (a b : Line) → numbers a ≡ numbers b → a ≡ b
 unfolding numbers
 numbers_only a b e =
-    let kind_ranks : kind_rank a.kind ≡ kind_rank b.kind = cc in
-    let kind : a.kind ≡ b.kind = sym (kind_back a.kind) ∙ ap kind_of kind_ranks ∙ kind_back b.kind in
+    let kind = same-kind a.kind b.kind cc in
     let tails : (roid_numbers a.roid ++ a.recorded ∷ a.years ∷ a.cents ∷ maybe_number a.started ∷ maybe_number a.refunded ∷ []) ≡ (roid_numbers b.roid ++ b.recorded ∷ b.years ∷ b.cents ∷ maybe_number b.started ∷ maybe_number b.refunded ∷ []) = cc in
     let rest = roid_only a.roid b.roid _ _ tails in
     let last : (a.recorded ∷ a.years ∷ a.cents ∷ maybe_number a.started ∷ maybe_number a.refunded ∷ []) ≡ (b.recorded ∷ b.years ∷ b.cents ∷ maybe_number b.started ∷ maybe_number b.refunded ∷ []) = rest.1 in
-    let starts : maybe_number a.started ≡ maybe_number b.started = cc in
-    let started : a.started ≡ b.started = maybe_only a.started b.started starts in
-    let ends : maybe_number a.refunded ≡ maybe_number b.refunded = cc in
-    let refunded : a.refunded ≡ b.refunded = maybe_only a.refunded b.refunded ends in
+    let started = maybe_only a.started b.started cc in
+    let refunded = maybe_only a.refunded b.refunded cc in
     let recorded : a.recorded ≡ b.recorded = cc in
     let years : a.years ≡ b.years = cc in
     let cents : a.cents ≡ b.cents = cc in
@@ -80,7 +58,7 @@ lines_in_order = linear_by_numbers numbers numbers_only
 -- ---- a line is told by what it says
 
 kind-Decides : (a b : LineKind) → Decides (is_kind a b) (a ≡ b)
-kind-Decides a b = Decides-like _ (λ e. sym (kind_back a) ∙ ap kind_of e ∙ kind_back b) (ap kind_rank) (Decides-eqb (kind_rank a) (kind_rank b))
+kind-Decides a b = Decides-like _ (same-kind a b) (ap kind_rank) (Decides-eqb (kind_rank a) (kind_rank b))
 
 pub roid-Decides : (a b : Roid) → Decides (is_same_roid a b) (a ≡ b)
 roid-Decides a b = Decides-like _
@@ -94,18 +72,15 @@ same-roids a b = (roid-Decides a b).0
 pub itself-roid : (a : Roid) → is_same_roid a a ≡ true
 itself-roid a = (roid-Decides a a).1 refl
 
-pub some_only : {A : Type 0} (a b : A) → Some a ≡ Some b → a ≡ b
-some_only a b e = cc
-
 domain-Decides : (a b : Option Roid) → Decides (is_same_domain a b) (a ≡ b)
 domain-Decides None None = (λ e. refl, λ e. refl)
-domain-Decides (Some a) (Some b) = Decides-like _ (ap Some) (some_only a b) (roid-Decides a b)
+domain-Decides (Some a) (Some b) = Decides-like _ (ap Some) (same_Some a b) (roid-Decides a b)
 domain-Decides None (Some b) = (λ e. cc, λ e. cc)
 domain-Decides (Some a) None = (λ e. cc, λ e. cc)
 
 number-Decides : (a b : Option ℕ) → Decides (is_same_number a b) (a ≡ b)
 number-Decides None None = (λ e. refl, λ e. refl)
-number-Decides (Some a) (Some b) = Decides-like _ (ap Some) (some_only a b) (Decides-eqb a b)
+number-Decides (Some a) (Some b) = Decides-like _ (ap Some) (same_Some a b) (Decides-eqb a b)
 number-Decides None (Some b) = (λ e. cc, λ e. cc)
 number-Decides (Some a) None = (λ e. cc, λ e. cc)
 
@@ -157,9 +132,7 @@ balance-append [] ys = omega (arith, ints)
 balance-append (x ∷ xs) ys = omega (arith, ints, balance-append xs ys)
 
 bound : (d r : Bool) (c : ℕ) → c < 18_446_744_073_709_551_616 → ((pos 0 -ℤ pos 18_446_744_073_709_551_615) ≤ℤ amount_of d r c) × (amount_of d r c ≤ℤ pos 18_446_744_073_709_551_615)
-bound true r c h = (omega (arith, ints), omega (arith, ints))
-bound false true c h = (omega (arith, ints), omega (arith, ints))
-bound false false c h = (omega (arith, ints), omega (arith, ints))
+bound d r c h = (grind (arith, ints, h), grind (arith, ints, h))
 
 pub bounded-small : (ls : List Line) → AllByRecursion IsSmall ls → IsBounded ls
 unfolding balance

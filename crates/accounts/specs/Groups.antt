@@ -6,13 +6,18 @@ use Rattle.std.specs.List.{AllByRecursion}
 use Rattle.std.specs.List.Sorted.{IsStrictlySortedBy}
 use Rattle.std.specs.Map.{keys_of, lookup}
 use Rattle.std.specs.Ordering.{nat_cmp}
+use Rattle.basis.specs.Bag.{bag_of}
 use Rattle.accounts.specs.declared.line.Line.{Line}
-use Rattle.accounts.specs.Lines.{balance, roid_numbers}
+use Rattle.accounts.specs.Lines.{balance, in_order, roid_numbers}
 
 -- the lines of all groups
 abbrev pub all_lines : List (List ℕ × List Line) → List Line
 all_lines [] = []
 all_lines (g ∷ gs) = g.1 ++ all_lines gs
+
+-- as a bag
+abbrev pub bag_in : List (List ℕ × List Line) → List Line
+bag_in groups = bag_of in_order (all_lines groups)
 
 -- cents that fit
 abbrev pub IsSmall : Line → Type 0
@@ -42,3 +47,8 @@ pub record IsCounted (lines : List Line) (n : ℕ) (all : ℤ) : Type 0 where
   pub few : length lines < 4_611_686_018_427_387_904
   pub small : AllByRecursion IsSmall lines
   pub sum : all ≡ balance lines
+
+-- the groups of a bag that is counted
+pub record IsKept (groups : List (List ℕ × List Line)) (n : ℕ) (all : ℤ) : Type 0 where
+  pub grouped : IsGrouped groups
+  pub counted : IsCounted (bag_in groups) n all

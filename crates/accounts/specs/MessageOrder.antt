@@ -1,6 +1,5 @@
 -- The order of messages is a total one.
-use Rattle.std.specs.Prelude.{◌≡◌, Some, refl}
-use Rattle.std.specs.Cmp.{IsEquivalence, IsPartialOrder, IsTotalOrder, eq_by_cmp_equiv, nat_cmp_total, on_total, partial_order_from_agreeing_total, then_total}
+use Rattle.std.specs.Cmp.{IsEquivalence, IsTotalOrder, eq_by_cmp_equiv, nat_cmp_total, on_total, then_total}
 use Rattle.std.specs.Cmp.Lexicographic.{nat_list_cmp_total}
 use Rattle.std.specs.Ordering.{eq_by_cmp}
 use Rattle.accounts.specs.declared.message.Message.{Message}
@@ -18,9 +17,3 @@ message_cmp_total =
 
 pub message_eq_equiv : IsEquivalence (eq_by_cmp message_cmp)
 message_eq_equiv = eq_by_cmp_equiv message_cmp_total
-
-pub message_ties : (x y : Message) → eq_by_cmp message_cmp x y ≡ eq_by_cmp message_cmp x y
-message_ties x y = refl
-
-pub message_order : IsPartialOrder (eq_by_cmp message_cmp) (λ x y. Some (message_cmp x y))
-message_order = partial_order_from_agreeing_total message_cmp message_cmp_total (λ x y. refl) (λ x y. refl)

@@ -1,8 +1,8 @@
 //! Lines by the domains that they are for.
 ghost use Rattle.std.specs.Prelude.{◌≡◌, ◌<◌, ◌++◌, ◌∷◌, [], length, true, false, IfOk, IfSome, OnOk, OnErr};
-ghost use Rattle.std.specs.List.{filter, list_any, position};
-ghost use Rattle.basis.specs.Bag.{add, bag_of, remade, same, taken};
-ghost use Rattle.accounts.specs.{Groups.{all_lines, lines_at}, Lines.in_order};
+ghost use Rattle.std.specs.List.{list_any, position};
+ghost use Rattle.basis.specs.Bag.{add, same, taken};
+ghost use Rattle.accounts.specs.{Groups.{IsGrouped, all_lines, bag_in, lines_at}, Lines.in_order};
 ghost use Rattle.accounts.specs.Lines as spec;
 
 use crate::line::{Line, LineChange, LineSwap, object_rank};
@@ -13,7 +13,7 @@ use std::marker::Model;
 
 /// Lines in an order that says nothing: one that replaces another comes last.
 #[derive(Drop)]
-struct Group {
+pub(crate) struct Group {
     lines: Vec<Line>,
 }
 
@@ -74,7 +74,7 @@ impl Group {
 }
 
 /// The index of a line.
-fn place_of(lines: &[Line], line: &Line) -> Option<usize>
+pub(crate) fn place_of(lines: &[Line], line: &Line) -> Option<usize>
     ensures value { result ≡ position (spec.is_line line.now) lines.now }
     ensures bound { IfSome result (λ at. at < length lines.now) }
 {
@@ -82,7 +82,7 @@ fn place_of(lines: &[Line], line: &Line) -> Option<usize>
 }
 
 /// The lines that a change makes others of, each with what it makes of it.
-fn swaps_of<C: LineChange>(
+pub(crate) fn swaps_of<C: LineChange>(
     alloc: Global,
     lines: &[Line],
     change: &C,
@@ -100,7 +100,7 @@ fn swaps_of<C: LineChange>(
 }
 
 /// The key of a domain's lines, and of those of none.
-fn key_of(roid: &Option<Roid>) -> [u64; 3]
+pub(crate) fn key_of(roid: &Option<Roid>) -> [u64; 3]
     ensures { result ≡ spec.roid_numbers roid.now }
 {
     match roid {
@@ -114,7 +114,7 @@ fn key_of(roid: &Option<Roid>) -> [u64; 3]
 }
 
 /// The lines of the group with this key.
-fn lines_at(groups: &BTreeMap<[u64; 3], Group>, key: [u64; 3]) -> &[Line]
+pub(crate) fn lines_at(groups: &BTreeMap<[u64; 3], Group>, key: [u64; 3]) -> &[Line]
     ensures { result.now ≡ lines_at key groups.now.entries }
 {
     match groups.get(&key) {
@@ -124,7 +124,10 @@ fn lines_at(groups: &BTreeMap<[u64; 3], Group>, key: [u64; 3]) -> &[Line]
 }
 
 /// The lines of all groups, one group after another.
-fn joined(alloc: Global, groups: &BTreeMap<[u64; 3], Group>) -> Result<Vec<Line>, AllocError>
+pub(crate) fn joined(
+    alloc: Global,
+    groups: &BTreeMap<[u64; 3], Group>,
+) -> Result<Vec<Line>, AllocError>
     ensures { IfOk result (λ lines. lines.items ≡ all_lines groups.now.entries) }
 {
     let mut lines = Vec::new(alloc);
@@ -134,104 +137,39 @@ fn joined(alloc: Global, groups: &BTreeMap<[u64; 3], Group>) -> Result<Vec<Line>
     Ok(lines)
 }
 
-/// A bag of lines. Those of one domain are found by a look-up.
-#[derive(Drop)]
-pub(crate) struct Groups {
+/// Puts a line into the group of its domain.
+pub(crate) fn put(
     alloc: Global,
-    groups: BTreeMap<[u64; 3], Group>,
+    groups: &mut BTreeMap<[u64; 3], Group>,
+    line: Line,
+) -> Result<(), AllocError>
+    requires { IsGrouped groups.old.entries }
+    ensures grouped { IsGrouped groups.new.entries }
+    ensures ok { OnOk result (bag_in groups.new.entries ≡ add in_order line
+        (bag_in groups.old.entries)) }
+    ensures err { OnErr result (bag_in groups.new.entries ≡ bag_in groups.old.entries) }
+{
+    let key = key_of(&line.roid);
+    if let Some(group) = groups.get_mut(&key) {
+        return group.push(line);
+    }
+    let mut group = Group::new(alloc);
+    group.push(line)?;
+    groups.insert(key, group)?;
+    Ok(())
 }
 
-impl Model for Groups {
-    ghost use Rattle.std.specs.Prelude.{List};
-    ghost use Rattle.basis.specs.Bag.{bag_of};
-    ghost use Rattle.accounts.specs.Groups.{IsGrouped, all_lines};
-    ghost use Rattle.accounts.specs.Lines.{in_order};
-    ghost use Rattle.accounts.specs.declared.line.Line.{Line};
-
-    ghost Value = { List Line };
-
-    ghost view = { λ g. bag_of in_order (all_lines g.groups.entries) };
-
-    ghost invariant = { λ g. IsGrouped g.groups.entries };
-}
-
-impl Clone for Groups {
-    ghost is_clone = { λ groups copy. copy ≡ groups };
-
-    fn clone(&self) -> Result<Groups, AllocError> {
-        Ok(Groups {
-            alloc: self.alloc,
-            groups: self.groups.clone()?,
-        })
-    }
-}
-
-impl Groups {
-    pub(crate) fn new(alloc: Global) -> Groups
-        ensures { result ≡ [] }
-    {
-        Groups {
-            alloc,
-            groups: BTreeMap::new(alloc),
-        }
-    }
-
-    /// The lines on a domain, in no order that says anything.
-    pub(crate) fn on(&self, roid: &Roid) -> &[Line]
-        ensures { bag_of in_order result.now ≡ filter (spec.is_on roid.now) self.now }
-    {
-        lines_at(&self.groups, key_of(&Some(*roid)))
-    }
-
-    /// The lines on all domains and on none, in no order that says anything.
-    pub(crate) fn all(&self) -> Result<Vec<Line>, AllocError>
-        ensures { IfOk result (λ lines. bag_of in_order lines.items ≡ self.now) }
-    {
-        joined(self.alloc, &self.groups)
-    }
-
-    /// Whether a line is there, so that it can be taken out and put back.
-    pub(crate) fn has(&self, line: &Line) -> bool
-        ensures there { result ≡ list_any (same in_order line.now) self.now }
-        ensures back { result ≡ true
-            → add in_order line.now (taken in_order line.now self.now) ≡ self.now }
-    {
-        place_of(lines_at(&self.groups, key_of(&line.roid)), line).is_some()
-    }
-
-    /// One line for another, wherever the change makes another of it. It reads the lines of the
-    /// change's domain alone.
-    pub(crate) fn swaps<C: LineChange>(&self, change: &C) -> Result<Vec<LineSwap>, AllocError>
-        ensures { IfOk result (λ swaps. spec.swapped_all swaps.items self.now
-            ≡ remade in_order (C.changed change.now) self.now) }
-    {
-        let lines = lines_at(&self.groups, key_of(&Some(change.domain())));
-        swaps_of(self.alloc, lines, change)
-    }
-
-    pub(crate) fn add(&mut self, line: Line) -> Result<(), AllocError>
-        ensures ok { OnOk result (self.new ≡ add in_order line self.old) }
-        ensures err { OnErr result (self.new ≡ self.old) }
-    {
-        let key = key_of(&line.roid);
-        if let Some(group) = self.groups.get_mut(&key) {
-            return group.push(line);
-        }
-        let mut group = Group::new(self.alloc);
-        group.push(line)?;
-        self.groups.insert(key, group)?;
-        Ok(())
-    }
-
-    /// Takes a line out, if it is there, and gives whether it was.
-    pub(crate) fn take(&mut self, line: &Line) -> bool
-        ensures taken { self.new ≡ taken in_order line.now self.old }
-        ensures found { result ≡ true → self.old ≡ add in_order line.now self.new }
-        ensures missed { result ≡ false → self.new ≡ self.old }
-    {
-        let Some(group) = self.groups.get_mut(&key_of(&line.roid)) else {
-            return false;
-        };
-        group.take(line)
-    }
+/// Takes a line out, if it is there, and gives whether it was.
+pub(crate) fn take_out(groups: &mut BTreeMap<[u64; 3], Group>, line: &Line) -> bool
+    requires { IsGrouped groups.old.entries }
+    ensures grouped { IsGrouped groups.new.entries }
+    ensures taken { bag_in groups.new.entries ≡ taken in_order line.now (bag_in groups.old.entries) }
+    ensures found { result ≡ true
+        → bag_in groups.old.entries ≡ add in_order line.now (bag_in groups.new.entries) }
+    ensures missed { result ≡ false → bag_in groups.new.entries ≡ bag_in groups.old.entries }
+{
+    let Some(group) = groups.get_mut(&key_of(&line.roid)) else {
+        return false;
+    };
+    group.take(line)
 }

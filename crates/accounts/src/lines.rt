@@ -4,10 +4,11 @@ ghost use Rattle.basis.specs.Bag.{add, bag_of, remade, same, taken};
 ghost use Rattle.accounts.specs.Lines as spec;
 ghost use Rattle.accounts.specs.Lines.{in_order};
 
-use crate::groups::Groups;
+use crate::groups::{Group, joined, key_of, lines_at, place_of, put, swaps_of, take_out};
 use crate::line::{Line, LineChange, LineSwap};
 use objects::Roid;
 use std::alloc::{AllocError, Global};
+use std::collections::BTreeMap;
 use std::marker::Model;
 
 /// No memory holds so many lines.
@@ -15,23 +16,37 @@ const TOO_MANY: usize = 1 << 62;
 
 /// A bag of lines, with what they add up to. The lines of a domain are found by a look-up, and no
 /// call goes over those of others.
-#[derive(Clone, Drop)]
+#[derive(Drop)]
 pub struct Lines {
-    groups: Groups,
+    alloc: Global,
+    groups: BTreeMap<[u64; 3], Group>,
     count: usize,
     balance: i128,
 }
 
 impl Model for Lines {
     ghost use Rattle.std.specs.Prelude.{List};
-    ghost use Rattle.accounts.specs.Groups.{IsCounted};
+    ghost use Rattle.accounts.specs.Groups.{IsKept, bag_in};
     ghost use Rattle.accounts.specs.declared.line.Line.{Line};
 
     ghost Value = { List Line };
 
-    ghost view = { λ l. l.groups };
+    ghost view = { λ l. bag_in l.groups.entries };
 
-    ghost invariant = { λ l. IsCounted l.groups l.count l.balance };
+    ghost invariant = { λ l. IsKept l.groups.entries l.count l.balance };
+}
+
+impl Clone for Lines {
+    ghost is_clone = { λ lines copy. copy ≡ lines };
+
+    fn clone(&self) -> Result<Lines, AllocError> {
+        Ok(Lines {
+            alloc: self.alloc,
+            groups: self.groups.clone()?,
+            count: self.count,
+            balance: self.balance,
+        })
+    }
 }
 
 impl Lines {
@@ -39,7 +54,8 @@ impl Lines {
         ensures { result ≡ [] }
     {
         Lines {
-            groups: Groups::new(alloc),
+            alloc,
+            groups: BTreeMap::new(alloc),
             count: 0,
             balance: 0,
         }
@@ -49,14 +65,14 @@ impl Lines {
     pub fn on(&self, roid: &Roid) -> &[Line]
         ensures { bag_of in_order result.now ≡ filter (spec.is_on roid.now) self.now }
     {
-        self.groups.on(roid)
+        lines_at(&self.groups, key_of(&Some(*roid)))
     }
 
     /// All lines, in no order that says anything.
     pub fn all(&self) -> Result<Vec<Line>, AllocError>
         ensures { IfOk result (λ lines. bag_of in_order lines.items ≡ self.now) }
     {
-        self.groups.all()
+        joined(self.alloc, &self.groups)
     }
 
     /// Whether a line is there, so that it can be taken out and put back.
@@ -65,7 +81,7 @@ impl Lines {
         ensures back { result ≡ true
             → add in_order line.now (taken in_order line.now self.now) ≡ self.now }
     {
-        self.groups.has(line)
+        place_of(lines_at(&self.groups, key_of(&line.roid)), line).is_some()
     }
 
     /// What makes of the lines what the change makes of them, one line for another. It reads those of
@@ -74,7 +90,8 @@ impl Lines {
         ensures { IfOk result (λ swaps. spec.swapped_all swaps.items self.now
             ≡ remade in_order (C.changed change.now) self.now) }
     {
-        self.groups.swaps(change)
+        let lines = lines_at(&self.groups, key_of(&Some(change.domain())));
+        swaps_of(self.alloc, lines, change)
     }
 
     /// Adds a deposit or a charge.
@@ -85,7 +102,7 @@ impl Lines {
         if self.count >= TOO_MANY - 1 {
             return Err(AllocError);
         }
-        self.groups.add(line)?;
+        put(self.alloc, &mut self.groups, line)?;
         self.count += 1;
         self.balance = self.balance.saturating_add(line.amount());
         Ok(())
@@ -95,7 +112,7 @@ impl Lines {
     pub fn take_back(&mut self, line: &Line)
         ensures { self.new ≡ taken in_order line.now self.old }
     {
-        if self.groups.take(line) {
+        if take_out(&mut self.groups, line) {
             self.count -= 1;
             self.balance = self.balance.saturating_sub(line.amount());
         }

@@ -175,13 +175,13 @@ impl Eq for Message {
 }
 
 impl PartialOrd for Message {
-    ghost use Rattle.std.specs.Prelude.{Some};
+    ghost use Rattle.std.specs.{Prelude.{Some, refl}, Cmp.partial_order_from_agreeing_total};
     ghost use Rattle.accounts.specs.Messages.{message_cmp};
-    ghost use Rattle.accounts.specs.MessageOrder.{message_order};
+    ghost use Rattle.accounts.specs.MessageOrder.{message_cmp_total};
 
     ghost partial_cmp = { λ x y. Some (message_cmp x y) };
 
-    ghost laws = { message_order };
+    ghost laws = { partial_order_from_agreeing_total message_cmp message_cmp_total (λ x y. refl) (λ x y. refl) };
 
     fn partial_cmp(&self, other: &Self) -> Option<Ordering> {
         Some(self.cmp(other))
@@ -191,7 +191,7 @@ impl PartialOrd for Message {
 impl Ord for Message {
     ghost use Rattle.std.specs.Prelude.{refl};
     ghost use Rattle.accounts.specs.Messages.{message_cmp};
-    ghost use Rattle.accounts.specs.MessageOrder.{message_cmp_total, message_ties};
+    ghost use Rattle.accounts.specs.MessageOrder.{message_cmp_total};
 
     ghost cmp = { message_cmp };
 
@@ -199,7 +199,7 @@ impl Ord for Message {
 
     ghost matches_partial_cmp = { λ x y. refl };
 
-    ghost matches_eq = { message_ties };
+    ghost matches_eq = { λ x y. refl };
 
     fn cmp(&self, other: &Self) -> Ordering {
         self.moment
