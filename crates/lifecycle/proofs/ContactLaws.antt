@@ -1,5 +1,6 @@
 -- To lapse a contact on is to lapse it at once.
 use Rattle.std.proofs.Common.{◌≡◌, ℕ, ◌≤◌, Option, Some, None, Result, Ok, Err, refl, sym, ap, ◌∙◌}
+use Rattle.std.proofs.lemmas.Option.{same_Some}
 use Rattle.std.specs.Result.{IfOk}
 use Rattle.objects.specs.declared.{contact.Contact.Contact, transfer.Transfer.Transfer}
 use Rattle.lifecycle.specs.declared.lapsed.Lapsed.{Lapsed}
@@ -10,12 +11,9 @@ on-by : (t u : ℕ) (c : Contact) (o : Option Transfer) → due_by t c.transfer 
 on-by t u c None e le = refl
 on-by t u c (Some x) e le = ap (λ o. contact_completed o c) (sym (stays_due t u c.transfer x le e))
 
-contact-only : (c d : Contact) → (let o : Option Contact = Some c in o) ≡ Some d → c ≡ d
-contact-only c d e = cc
-
 after-by : (t : ℕ) (c b : Contact) (o : Option Transfer) → due_by t c.transfer ≡ o → (contact_completed o c).object ≡ Some b → due_by t b.transfer ≡ None
-after-by t c b None e found = ap (λ (a : Contact). due_by t a.transfer) (sym (contact-only c b found)) ∙ e
-after-by t c b (Some x) e found = ap (λ (a : Contact). due_by t a.transfer) (sym (contact-only (contact_moved x c) b found))
+after-by t c b None e found = ap (λ (a : Contact). due_by t a.transfer) (sym (same_Some c b found)) ∙ e
+after-by t c b (Some x) e found = ap (λ (a : Contact). due_by t a.transfer) (sym (same_Some (contact_moved x c) b found))
 
 pub is_contact_lapse : (t : ℕ) (c : Contact) (l : Lapsed Contact) → l ≡ lapse_contact t c → IsContactLapseOf t c l
 is_contact_lapse t c l e = record {

@@ -1,12 +1,12 @@
 -- When a domain is due, and that a lapse leaves nothing due.
-use Rattle.std.proofs.Common.{◌≡◌, ℕ, ◌+◌, ◌<◌, ◌≤◌, min, ◌&&◌, Bool, true, false, cond, nat_lt, nat_le, List, [], Option, Some, None, Result, Ok, Err, refl, sym, subst, ap, ◌∙◌, arith}
-use Rattle.std.proofs.lemmas.Bool.Decides.{nat_tests}
+use Rattle.std.proofs.Common.{◌≡◌, ℕ, ◌+◌, ◌<◌, ◌≤◌, min, Bool, true, false, cond, nat_lt, List, [], Option, Some, None, Result, Ok, Err, refl, sym, subst, ap, ◌∙◌, arith}
+use Rattle.std.proofs.lemmas.{Bool.Decides.nat_tests, Option.same_Some}
 use Rattle.std.specs.Result.{IfOk}
-use Rattle.calendar.specs.Moment.{IsMoment, is_moment}
+use Rattle.calendar.specs.Moment.{IsMoment}
 use Rattle.calendar.proofs.YearLaws.{plus_years-later}
 use Rattle.policy.specs.Rules.{PolicyRules}
 use Rattle.accounts.specs.declared.entries.Posting.{Posting}
-use Rattle.objects.specs.{Domains.expiry, Transfers.is_pending_state, declared.domain.{Deletion.Deletion, Domain.Domain}}
+use Rattle.objects.specs.{Domains.expiry, declared.domain.{Deletion.Deletion, Domain.Domain}}
 use Rattle.objects.specs.declared.transfer.Transfer.{Transfer}
 use Rattle.lifecycle.specs.declared.lapsed.Lapsed.{Lapsed}
 use Rattle.lifecycle.specs.Lapse.{IsLapseOf, completes_at, due_at, due_by, due_of, earlier, earlier_end, lapse, lapse_by, leaves, lived, moved, purged, raised, renewals}
@@ -15,14 +15,8 @@ use Rattle.lifecycle.proofs.{LapseLaws.lapse-law, TurnLaws.{turns-are, turns-onl
 
 -- ---- after a lapse
 
-ahead-case : (x : Transfer) (t e : ℕ) (b q : Bool) → cond (b && q) (Some x) None ≡ None → (q ≡ false → t < x.ac_date) → t < e → t < earlier e (cond b (Some x.ac_date) None)
-ahead-case x t e false q h late lt = lt
-ahead-case x t e true true h late lt = cc
-ahead-case x t e true false h late lt = omega (arith, late refl)
-
 ahead : (t e : ℕ) (o : Option Transfer) → due_by t o ≡ None → t < e → t < earlier e (completes_at o)
-ahead t e None h lt = lt
-ahead t e (Some x) h lt = ahead-case x t e (is_pending_state x.state) (nat_le x.ac_date t) h (λ f. grind (arith, nat_tests, f)) lt
+ahead t e o h lt = grind (arith, nat_tests, h, lt)
 
 -- a domain that isn't deleted, after its turns
 turned-ahead : (p : PolicyRules) (t : ℕ) (d : Domain) → d.deletion ≡ None → due_by t d.transfer ≡ None → t < due_at p (raised (turns d t) d)
@@ -31,19 +25,16 @@ turned-ahead p t d alive none =
     let h : t < due_of p None c = ahead t (expiry c) d.transfer none (turns-are d t).after in
     subst (λ o. t < due_of p o c) (sym alive) h
 
-some-only : (c d : Domain) → (let o : Option Domain = Some c in o) ≡ Some d → c ≡ d
-some-only c d e = cc
-
 after-by : (p : PolicyRules) (t : ℕ) (d : Domain) (o : Option Transfer) → d.deletion ≡ None → due_by t d.transfer ≡ o → (c : Domain) → (lived p t o d).object ≡ Some c → t < due_at p c
-after-by p t d None alive none c e = let same = some-only (raised (turns d t) d) c e in rw (sym same) (turned-ahead p t d alive none)
+after-by p t d None alive none c e = let same = same_Some (raised (turns d t) d) c e in rw (sym same) (turned-ahead p t d alive none)
 after-by p t d (Some x) alive due c e =
     let m : Domain = moved x (raised (turns d x.ac_date) d) in
-    let same = some-only (raised (turns m t) m) c e in
+    let same = same_Some (raised (turns m t) m) c e in
     rw (sym same) (turned-ahead p t m alive refl)
 
 kept-after : (p : PolicyRules) (t : ℕ) (x : Deletion) (d : Domain) (b : Bool) → d.deletion ≡ Some x → nat_lt t (purge_at p x) ≡ b → (c : Domain) → (cond b (leaves d []) (purged p x d)).object ≡ Some c → t < due_at p c
 kept-after p t x d true gone lt c e =
-    let same = some-only d c e in
+    let same = same_Some d c e in
     let below : t < purge_at p x = grind (arith, nat_tests, lt) in
     rw (sym same) (subst (λ o. t < due_of p o d) (sym gone) below)
 kept-after p t x d false gone lt c e = cc
@@ -57,18 +48,8 @@ lapse-due p t d c e = after-any p t d d.deletion refl c e
 
 -- ---- before it is due
 
-none-due-case : (x : Transfer) (t e : ℕ) (b q : Bool) → t < earlier e (cond b (Some x.ac_date) None) → (q ≡ true → x.ac_date ≤ t) → (let o : Option Transfer = cond (b && q) (Some x) None in o) ≡ None
-none-due-case x t e false q lt come = refl
-none-due-case x t e true false lt come = refl
-none-due-case x t e true true lt come = absurd (omega (arith, lt, come refl))
-
 none-due : (t e : ℕ) (o : Option Transfer) → t < earlier e (completes_at o) → due_by t o ≡ None
-none-due t e None lt = refl
-none-due t e (Some x) lt = none-due-case x t e (is_pending_state x.state) (nat_le x.ac_date t) lt (λ f. grind (arith, nat_tests, f))
-
-below-case : (t e : ℕ) (o : Option ℕ) → t < earlier e o → t < e
-below-case t e None lt = lt
-below-case t e (Some n) lt = omega (arith, lt)
+none-due t e o lt = grind (arith, nat_tests, lt)
 
 no-turns : (t : ℕ) (d : Domain) → t < expiry d → turns d t ≡ 0
 no-turns t d lt = turns-only d t 0 (record { after = let none : d.years + 0 ≡ d.years = omega arith in rw none lt; before = λ j below. absurd (omega (arith, below)) })
@@ -86,7 +67,7 @@ no-turn p t d lt = ap (λ n. leaves (raised n d) (renewals p d n)) (no-turns t d
 before-any : (p : PolicyRules) (t : ℕ) (d : Domain) (o : Option Deletion) → t < due_of p o d → lapse_by p t o d ≡ leaves d []
 before-any p t d None lt =
     ap (λ (o : Option Transfer). lived p t o d) (none-due t (expiry d) d.transfer lt)
-    ∙ no-turn p t d (below-case t (expiry d) (completes_at d.transfer) lt)
+    ∙ no-turn p t d (grind (arith, lt))
 before-any p t d (Some x) lt =
     let early : nat_lt t (purge_at p x) ≡ true = grind (arith, nat_tests, lt) in
     ap (λ b. cond b (leaves d []) (purged p x d)) early
@@ -110,36 +91,15 @@ lapse-result p t d (Err x) e = e
 
 -- ---- the code's moment
 
-in_time-is : (m : ℕ) → IsMoment m → in_time m ≡ Some m
-in_time-is m h = let within : is_moment m ≡ true = grind (arith, nat_tests, h.0, h.1) in rw within refl
-
-due-pick : (e n : ℕ) (b : Bool) → is_moment e ≡ b → 946_684_800 ≤ e → IsMoment n → Some (earlier_end (cond b (Some e) None) n) ≡ in_time (min e n)
-due-pick e n true is low h =
-    let high : e ≤ 7_258_118_399 = grind (arith, nat_tests, is) in
-    sym (in_time-is (min e n) (omega (arith, low, h.0), omega (arith, high)))
-due-pick e n false is low h =
-    let past : 7_258_118_399 < e = grind (arith, nat_tests, is, low) in
-    let same : min e n ≡ n = omega (arith, past, h.1) in
-    rw same (sym (in_time-is n h))
+due-pick : (e n : ℕ) → 946_684_800 ≤ e → IsMoment n → Some (earlier_end (in_time e) n) ≡ in_time (min e n)
+due-pick e n low h = grind (arith, nat_tests, low, h.0, h.1)
 
 pub due-steps : (p : PolicyRules) (d : Domain) (end : Option ℕ) (n r : ℕ) → d.deletion ≡ None → completes_at d.transfer ≡ Some n → end ≡ in_time (expiry d) → r ≡ earlier_end end n → 946_684_800 ≤ d.created → IsMoment n → Some r ≡ in_time (due_at p d)
 due-steps p d end n r alive completes is_end value low h =
     let low_end : 946_684_800 ≤ expiry d = omega (arith, low, plus_years-later d.created d.years) in
     let due : due_at p d ≡ min (expiry d) n = ap (λ o. due_of p o d) alive ∙ ap (earlier (expiry d)) completes in
-    ap Some (value ∙ ap (λ o. earlier_end o n) is_end) ∙ due-pick (expiry d) n (is_moment (expiry d)) refl low_end h ∙ ap in_time (sym due)
-
-in-time-at : (e : ℕ) (a b : Bool) → nat_le 946_684_800 e ≡ a → nat_le e 7_258_118_399 ≡ b → cond (a && b) (Some e) None ≡ None → 946_684_800 ≤ e → 7_258_118_399 < e
-in-time-at e true true p q h low = cc
-in-time-at e true false p q h low = grind (arith, nat_tests, q)
-in-time-at e false b p q h low = absurd (let least : 946_684_800 ≤ e = low in grind (arith, nat_tests, p, least))
-
-not-passed : (t e : ℕ) (b : Bool) → nat_lt t e ≡ b → t < e → None ≡ cond b None (Some e)
-not-passed t e true p lt = refl
-not-passed t e false p lt = absurd (grind (arith, nat_tests, p, lt))
+    ap Some (value ∙ ap (λ o. earlier_end o n) is_end) ∙ due-pick (expiry d) n low_end h ∙ ap in_time (sym due)
 
 -- an expiry past the last moment hasn't come
 pub not-expired : (t : ℕ) (d : Domain) → in_time (expiry d) ≡ None → 946_684_800 ≤ d.created → t ≤ 7_258_118_399 → None ≡ passed t (expiry d)
-not-expired t d past low last =
-    let least : 946_684_800 ≤ expiry d = omega (arith, low, plus_years-later d.created d.years) in
-    let most : 7_258_118_399 < expiry d = in-time-at (expiry d) (nat_le 946_684_800 (expiry d)) (nat_le (expiry d) 7_258_118_399) refl refl past least in
-    not-passed t (expiry d) (nat_lt t (expiry d)) refl (omega (arith, most, last))
+not-expired t d past low last = grind (arith, nat_tests, past, low, last, plus_years-later d.created d.years)

@@ -1,5 +1,5 @@
 -- Graces hang on the lines of the domain alone, and not on their order.
-use Rattle.std.proofs.Common.{◌≡◌, ℕ, Bool, true, false, cond, ◌||◌, List, [], ◌∷◌, Option, refl, sym, ap, ◌∙◌}
+use Rattle.std.proofs.Common.{◌≡◌, ℕ, Bool, false, List, [], ◌∷◌, Option, refl, sym, ap, ◌∙◌, arith}
 use Rattle.std.specs.List.{filter, list_any}
 use Rattle.accounts.specs.{declared.line.{Line.Line, LineKind.LineKind}, LineChanges.unasked, Lines.{in_order, is_kind, is_on}}
 use Rattle.accounts.specs.declared.line.LineKind.TheVariants as kinds
@@ -9,14 +9,10 @@ use Rattle.objects.specs.declared.roid.Roid.{Roid}
 use Rattle.policy.specs.Rules.{PolicyRules}
 use Rattle.lifecycle.specs.Graces.{graces, gives}
 
-any-cons : (test : Line → Bool) (l : Line) (ls rest : List Line) (b : Bool) → (b ≡ false → test l ≡ false) → list_any test rest ≡ list_any test ls → list_any test (cond b (l ∷ rest) rest) ≡ list_any test (l ∷ ls)
-any-cons test l ls rest true out ih = ap (λ b. test l || b) ih
-any-cons test l ls rest false out ih = ih ∙ sym (ap (λ b. b || list_any test ls) (out refl))
-
 -- what no other item passes is asked of a part alone
 any-filter : (test part : Line → Bool) → ((l : Line) → part l ≡ false → test l ≡ false) → (ls : List Line) → list_any test (filter part ls) ≡ list_any test ls
 any-filter test part out [] = refl
-any-filter test part out (l ∷ ls) = any-cons test l ls (filter part ls) (part l) (out l) (any-filter test part out ls)
+any-filter test part out (l ∷ ls) = grind (arith, out l, any-filter test part out ls)
 
 pub gives-part : (p : PolicyRules) (t : ℕ) (roid : Roid) (since : Option ℕ) (kind : LineKind) (lines : List Line) → list_any (gives kind p t roid since) (filter (is_on roid) lines) ≡ list_any (gives kind p t roid since) lines
 gives-part p t roid since kind lines = any-filter (gives kind p t roid since) (is_on roid) (λ l out. unasked (is_kind l.kind kind) (is_on roid l) _ out) lines

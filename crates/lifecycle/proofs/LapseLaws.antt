@@ -1,8 +1,8 @@
 -- The lapse law: to lapse to a moment and then to a later one is to lapse to the later one.
-use Rattle.std.proofs.Common.{◌≡◌, ℕ, zero, suc, ◌+◌, ◌≤◌, ◌&&◌, Bool, true, false, cond, nat_lt, nat_le, List, [], ◌++◌, append_assoc, append-nil, Option, Some, None, refl, sym, ap, ◌∙◌, arith}
+use Rattle.std.proofs.Common.{◌≡◌, ℕ, zero, suc, ◌+◌, ◌≤◌, Bool, true, false, cond, nat_lt, List, [], ◌++◌, append_assoc, append-nil, Option, Some, None, refl, sym, ap, ◌∙◌, arith}
 use Rattle.std.proofs.lemmas.Bool.Decides.{nat_tests}
 use Rattle.policy.specs.Rules.{PolicyRules}
-use Rattle.objects.specs.{declared.{domain.{Domain.Domain, Deletion.Deletion}, transfer.Transfer.Transfer}, Transfers.is_pending_state}
+use Rattle.objects.specs.{declared.{domain.{Domain.Domain, Deletion.Deletion}, transfer.Transfer.Transfer}}
 use Rattle.accounts.specs.declared.entries.Posting.{Posting}
 use Rattle.lifecycle.specs.{declared.lapsed.Lapsed.Lapsed, Turns.turns, Phases.purge_at}
 use Rattle.lifecycle.specs.Lapse.{leaves, after, next, ◌>>=◌, turn, renewals, raised, renewed, moved, completed, due_by, lived, purged, lapse_by, lapse}
@@ -55,27 +55,11 @@ early p a b x d le e =
     (assoc (Some (moved x d1)) (completed x d1).postings (renewed p a) (lapse p b)
     ∙ ap (after (completed x d1).postings) (quiet p a b (moved x d1) le e refl))
 
-due_later : (c : Bool) (y x : Transfer) (q r : Bool) → (q ≡ true → r ≡ true) → cond (c && q) (Some y) None ≡ Some x → cond (c && r) (Some y) None ≡ Some x
-due_later false y x q r h e = e
-due_later true y x false r h e = cc
-due_later true y x true r h e = rw (h refl) e
-
-due_soon : (c : Bool) (y x : Transfer) (q r : Bool) → cond (c && q) (Some y) None ≡ None → cond (c && r) (Some y) None ≡ Some x → (q ≡ false) × (y ≡ x)
-due_soon false y x q r e f = cc
-due_soon true y x true r e f = cc
-due_soon true y x false false e f = cc
-due_soon true y x false true e f = (refl, cc)
-
 pub stays_due : (a b : ℕ) (o : Option Transfer) (x : Transfer) → a ≤ b → due_by a o ≡ Some x → due_by b o ≡ Some x
-stays_due a b None x le e = e
-stays_due a b (Some y) x le e = due_later (is_pending_state y.state) y x (nat_le y.ac_date a) (nat_le y.ac_date b) (λ h. grind (arith, nat_tests, h)) e
+stays_due a b o x le e = grind (arith, nat_tests, le, e)
 
 due_after : (a b : ℕ) (o : Option Transfer) (x : Transfer) → due_by a o ≡ None → due_by b o ≡ Some x → a ≤ x.ac_date
-due_after a b None x e f = cc
-due_after a b (Some y) x e f =
-    let h : (nat_le y.ac_date a ≡ false) × (y ≡ x) = due_soon (is_pending_state y.state) y x (nat_le y.ac_date a) (nat_le y.ac_date b) e f in
-    let late : a ≤ y.ac_date = grind (arith, nat_tests, h.0) in
-    rw h.1 at late
+due_after a b o x e f = grind (arith, nat_tests, e, f)
 
 lived-law : (p : PolicyRules) (a b : ℕ) (d : Domain) (o q : Option Transfer) → a ≤ b → d.deletion ≡ None → due_by a d.transfer ≡ o → due_by b d.transfer ≡ q → (lived p a o d >>= lapse p b) ≡ lived p b q d
 lived-law p a b d None None le e f g = quiet p a b d le e g

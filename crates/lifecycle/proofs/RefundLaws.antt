@@ -1,26 +1,21 @@
 -- What is given back is what the balance rises by, and it is given back once.
-use Rattle.std.proofs.Common.{◌≡◌, ℕ, ◌+◌, Bool, true, false, cond, not, ◌&&◌, List, [], ◌∷◌, map, Option, Some, None, is_some, refl, sym, ap, ◌∙◌, arith, pos, ◌+ℤ◌}
-use Rattle.std.proofs.lemmas.{Bool.{and_parts, not-true}, Int.ints, List.Sums.sum_by-cons}
+use Rattle.std.proofs.Common.{◌≡◌, ℕ, ◌+◌, Bool, true, false, cond, List, [], ◌∷◌, map, Some, refl, sym, ap, ◌∙◌, arith, pos, ◌+ℤ◌}
+use Rattle.std.proofs.lemmas.{Int.ints, List.Sums.sum_by-cons}
 use Rattle.std.specs.List.{filter, sum_by}
-use Rattle.accounts.specs.{declared.line.{Line.Line, LineKind.LineKind}, Lines.{amount, amount_of, balance, in_order, is_kind, is_on}}
-use Rattle.accounts.specs.declared.line.LineKind.TheVariants as kinds
+use Rattle.accounts.specs.{declared.line.{Line.Line}, Lines.{amount, balance, in_order, is_on}}
 use Rattle.accounts.proofs.LineLaws.{balance-bag_of}
 use Rattle.basis.specs.Bag.{add, bag_of}
 use Rattle.policy.specs.Rules.{PolicyRules}
 use Rattle.lifecycle.specs.{declared.{change.RunningRefund.RunningRefund, refund.GivenBack.GivenBack}, Changes.refunded_by}
-use Rattle.lifecycle.specs.{Graces.{period_of, runs_from}, Refunds.{IsGivenBack, cents_back, given_back, is_given_back, years_back}}
+use Rattle.lifecycle.specs.{Refunds.{IsGivenBack, cents_back, given_back, is_given_back, years_back}}
 
 -- ---- sums over bags
 
 module _ {A : Type 0} (f : A → ℕ) (le : A → A → Bool) where
-  add-placed : (b : Bool) (x y : A) (ys zs : List A) → sum_by f zs ≡ f x + sum_by f ys → sum_by f (cond b (x ∷ y ∷ ys) (y ∷ zs)) ≡ f x + sum_by f (y ∷ ys)
-  add-placed true x y ys zs e = sum_by-cons f x (y ∷ ys)
-  add-placed false x y ys zs e = sum_by-cons f y zs ∙ omega (arith, e, sum_by-cons f y ys)
-
   sum-add : (x : A) (ys : List A) → sum_by f (add le x ys) ≡ f x + sum_by f ys
   unfolding add
   sum-add x [] = sum_by-cons f x []
-  sum-add x (y ∷ ys) = add-placed (le x y) x y ys (add le x ys) (sum-add x ys)
+  sum-add x (y ∷ ys) = grind (arith, sum-add x ys, sum_by-cons f x (y ∷ ys), sum_by-cons f y ys, sum_by-cons f y (add le x ys))
 
   pub sum-bag_of : (xs : List A) → sum_by f (bag_of le xs) ≡ sum_by f xs
   unfolding bag_of
@@ -32,36 +27,12 @@ module _ {A : Type 0} (f : A → ℕ) (le : A → A → Bool) where
   sum-none g none (x ∷ xs) = sum_by-cons f (g x) (map g xs) ∙ omega (arith, none x, sum-none g none xs)
 
 module _ {A : Type 0} (f : A → ℕ) (part : A → Bool) (none : (x : A) → part x ≡ false → f x ≡ 0) where
-  sum-kept : (x : A) (xs rest : List A) (b : Bool) → (b ≡ false → f x ≡ 0) → sum_by f rest ≡ sum_by f xs → sum_by f (cond b (x ∷ rest) rest) ≡ sum_by f (x ∷ xs)
-  sum-kept x xs rest true out ih = sum_by-cons f x rest ∙ ap (λ n. f x + n) ih ∙ sym (sum_by-cons f x xs)
-  sum-kept x xs rest false out ih = omega (arith, ih, out refl, sum_by-cons f x xs)
-
   -- what is nothing for all others is added up over a part alone
   sum-filter : (xs : List A) → sum_by f (filter part xs) ≡ sum_by f xs
   sum-filter [] = refl
-  sum-filter (x ∷ xs) = sum-kept x xs (filter part xs) (part x) (none x) (sum-filter xs)
+  sum-filter (x ∷ xs) = grind (arith, none x, sum-filter xs, sum_by-cons f x xs, sum_by-cons f x (filter part xs))
 
 -- ---- one line
-
--- a deposit has no grace
-not-deposit : (p : PolicyRules) (t : ℕ) (since started : Option ℕ) (kind : LineKind) → runs_from p t since started (period_of kind) ≡ true → is_kind kind kinds.Deposit ≡ false
-not-deposit p t since None kind e = absurd cc
-not-deposit p t since (Some start) kinds.Deposit e = absurd cc
-not-deposit p t since (Some start) kinds.Create e = refl
-not-deposit p t since (Some start) kinds.Renew e = refl
-not-deposit p t since (Some start) kinds.AutoRenew e = refl
-not-deposit p t since (Some start) kinds.Transfer e = refl
-not-deposit p t since (Some start) kinds.Restore e = refl
-
-never : (b rest : Bool) → (b && (false && rest)) ≡ false
-never true rest = refl
-never false rest = refl
-
--- a charge that wasn't given back rises by its cents
-rises-charge : (deposit refunded : Bool) (cents : ℕ) → deposit ≡ false → refunded ≡ false → amount_of deposit true cents ≡ amount_of deposit refunded cents +ℤ pos cents
-rises-charge true refunded cents charge open_still = absurd cc
-rises-charge false true cents charge open_still = absurd cc
-rises-charge false false cents charge open_still = omega (arith, ints)
 
 module _ (p : PolicyRules) (r : RunningRefund) where
   abbrev back : Line → Line
@@ -71,17 +42,14 @@ module _ (p : PolicyRules) (r : RunningRefund) where
   amount-rises l = by (is_given_back p r l) refl
     where
       by : (b : Bool) → is_given_back p r l ≡ b → amount (cond b (record l { refunded = Some r.moment }) l) ≡ amount l +ℤ pos (cond b l.cents 0)
-      by true e =
-          let parts = and_parts (is_on r.roid l) (not (is_some l.refunded) && runs_from p r.moment r.transferred l.started (period_of l.kind)) e in
-          let rest = and_parts (not (is_some l.refunded)) (runs_from p r.moment r.transferred l.started (period_of l.kind)) parts.1 in
-          rises-charge (is_kind l.kind kinds.Deposit) (is_some l.refunded) l.cents (not-deposit p r.moment r.transferred l.started l.kind rest.1) (not-true (is_some l.refunded) rest.0)
+      by true e = grind (arith, ints, e)
       by false e = omega (arith, ints)
 
   not-again : (l : Line) → is_given_back p r (back l) ≡ false
   not-again l = by (is_given_back p r l) refl
     where
       by : (b : Bool) → is_given_back p r l ≡ b → is_given_back p r (cond b (record l { refunded = Some r.moment }) l) ≡ false
-      by true e = never (is_on r.roid l) (runs_from p r.moment r.transferred l.started (period_of l.kind))
+      by true e = grind arith
       by false e = e
 
   no-cents : (l : Line) → cents_back p r (back l) ≡ 0

@@ -4,6 +4,7 @@ use Rattle.std.specs.BTreeSet.{insert_key}
 use Rattle.std.specs.Cmp.Lexicographic.{slice_cmp}
 use Rattle.std.specs.Ordering.{nat_cmp, on, then_cmp}
 use Rattle.std.specs.declared.cmp.Ordering.{Ordering}
+use Rattle.accounts.specs.Lines.{object_rank}
 use Rattle.lifecycle.specs.Lapse.{completes_at, due_at}
 use Rattle.lifecycle.specs.Periods.{passed}
 use Rattle.lifecycle.specs.declared.due_object.Due.{Due}
@@ -16,15 +17,13 @@ use Rattle.policy.specs.Rules.{PolicyRules}
 -- ---- the order in which objects lapse: by moment, contacts first, by name
 
 abbrev pub kind_rank : ObjectKind → ℕ
-kind_rank kinds.Contact = 0
-kind_rank kinds.Domain = 1
-kind_rank kinds.Host = 2
+kind_rank kind = object_rank kind
 
 abbrev pub due_cmp : Due → Due → Ordering
 due_cmp =
     then_cmp (then_cmp
     (on (λ (d : Due). d.due) nat_cmp)
-    (on (λ (d : Due). kind_rank d.kind) nat_cmp))
+    (on (λ (d : Due). object_rank d.kind) nat_cmp))
     (on (λ (d : Due). d.name) (slice_cmp nat_cmp))
 
 -- ---- an object that is due by a moment

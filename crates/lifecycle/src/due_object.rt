@@ -1,7 +1,6 @@
 //! What is due.
-ghost use Rattle.std.specs.Prelude.{◌≡◌};
-ghost use Rattle.lifecycle.specs.DueObjects as spec;
 
+use accounts::object_rank;
 use basis::text::Text;
 use calendar::Moment;
 use objects::ObjectKind;
@@ -13,17 +12,6 @@ pub struct Due {
     pub due: Moment,
     pub kind: ObjectKind,
     pub name: Text,
-}
-
-/// Contacts lapse first.
-fn kind_rank(kind: ObjectKind) -> u8
-    ensures { result ≡ spec.kind_rank kind }
-{
-    match kind {
-        ObjectKind::Contact => 0,
-        ObjectKind::Domain => 1,
-        ObjectKind::Host => 2,
-    }
 }
 
 impl PartialEq for Due {
@@ -48,13 +36,13 @@ impl Eq for Due {
 }
 
 impl PartialOrd for Due {
-    ghost use Rattle.std.specs.Prelude.{Some};
+    ghost use Rattle.std.specs.{Prelude.{Some, refl}, Cmp.partial_order_from_agreeing_total};
     ghost use Rattle.lifecycle.specs.DueObjects.{due_cmp};
-    ghost use Rattle.lifecycle.specs.DueOrder.{due_order};
+    ghost use Rattle.lifecycle.specs.DueOrder.{due_cmp_total};
 
     ghost partial_cmp = { λ x y. Some (due_cmp x y) };
 
-    ghost laws = { due_order };
+    ghost laws = { partial_order_from_agreeing_total due_cmp due_cmp_total (λ x y. refl) (λ x y. refl) };
 
     fn partial_cmp(&self, other: &Self) -> Option<Ordering> {
         Some(self.cmp(other))
@@ -65,7 +53,7 @@ impl PartialOrd for Due {
 impl Ord for Due {
     ghost use Rattle.std.specs.Prelude.{refl};
     ghost use Rattle.lifecycle.specs.DueObjects.{due_cmp};
-    ghost use Rattle.lifecycle.specs.DueOrder.{due_cmp_total, due_ties};
+    ghost use Rattle.lifecycle.specs.DueOrder.{due_cmp_total};
 
     ghost cmp = { due_cmp };
 
@@ -73,12 +61,12 @@ impl Ord for Due {
 
     ghost matches_partial_cmp = { λ x y. refl };
 
-    ghost matches_eq = { due_ties };
+    ghost matches_eq = { λ x y. refl };
 
     fn cmp(&self, other: &Self) -> Ordering {
         self.due
             .cmp(&other.due)
-            .then(kind_rank(self.kind).cmp(&kind_rank(other.kind)))
+            .then(object_rank(self.kind).cmp(&object_rank(other.kind)))
             .then(self.name.cmp(&other.name))
     }
 }
