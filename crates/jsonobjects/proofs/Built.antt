@@ -1,15 +1,13 @@
 -- Members that are put before all others.
-use Rattle.std.proofs.Common.{Bor, map, append_assoc, ◌≡◌, ℕ, true, List, [], ◌∷◌, ◌++◌, Option, Some, None, refl, ap, ◌∙◌}
+use Rattle.std.proofs.Common.{Bor, map, append_assoc, ◌≡◌, ℕ, true, List, [], ◌∷◌, ◌++◌, Option, Some, None, refl, ap, ◌∙◌, arith}
 use Rattle.std.proofs.lemmas.{List.map-append, Bool.and_parts}
-use Rattle.std.specs.{List.list_all, Ordering.{nat_cmp, is_lt}, declared.cmp.Ordering.{Ordering, TheVariants.{Less, Equal, Greater}}}
+use Rattle.std.specs.{List.list_all, Ordering.{nat_cmp, is_lt}, declared.cmp.Ordering.{Ordering, TheVariants.{Less}}}
 use Rattle.std.specs.Cmp.Lexicographic.{slice_cmp}
 use Rattle.jsonobjects.specs.{declared.item.Item.Item, Item.item_value, Members.{members_with, are_in_order}}
 use Rattle.serde_json.specs.Data.{Data, Members, member, put}
 
 lt_less : (o : Ordering) → is_lt o ≡ true → o ≡ Less
-lt_less Less e = refl
-lt_less Equal e = absurd cc
-lt_less Greater e = absurd cc
+lt_less o e = grind (arith, e)
 
 -- a name below all others goes first
 pub put_first : (k : List ℕ) (d : Data) (ms : List (List ℕ × Option Data)) → list_all (λ later. is_lt (slice_cmp nat_cmp k later.0)) ms ≡ true

@@ -1,6 +1,6 @@
 -- The last labels of a canonical name are a canonical name.
-use Rattle.std.proofs.Common.{◌≡◌, ℕ, ◌<◌, Bool, true, false, not, ◌&&◌, ◌||◌, List, [], ◌∷◌, ◌++◌, cond, Option, Some, None, option_and_then, option_map, All, refl, sym, ap, subst, ◌∙◌, append_assoc, eqb-true}
-use Rattle.std.proofs.lemmas.{Option.same_Some, List.{Elements.{All-tail, All-weaker}, Folds.{list_any-append, list_all-append}}}
+use Rattle.std.proofs.Common.{◌≡◌, ℕ, ◌<◌, Bool, true, false, not, ◌&&◌, ◌||◌, List, [], ◌∷◌, ◌++◌, cond, Option, Some, None, option_and_then, option_map, All, refl, sym, ap, subst, ◌∙◌, append_assoc, eqb-true, arith}
+use Rattle.std.proofs.lemmas.{Option.{cond_some, same_Some}, List.{Elements.{All-tail, All-weaker}, Folds.{list_any-append, list_all-append}}}
 use Rattle.std.specs.{Char.is_ascii_uppercase, List.{list_all, onto_first}, Str.bytes_eq, Cmp.Lexicographic.bytes_decides}
 use Rattle.idna.specs.declared.{deny_list.TheConstants.AsciiDenyList.STD3, options.Hyphens.TheVariants.Allow}
 use Rattle.idna.specs.{declared.options.DnsLength.TheVariants.Ignore, BidiRule.{is_bidi_domain, passes_bidi_rule}, Display.IsLowercaseAscii}
@@ -23,11 +23,7 @@ labels_of-append (b ∷ before) name = by (is_full_stop b) refl (labels_of-appen
 
 filtered : {A : Type 0} (test : A → Bool) (o : Option A) (y : A) → option_and_then (if_passes test) o ≡ Some y → (o ≡ Some y) × (test y ≡ true)
 filtered test None y e = absurd cc
-filtered {A} test (Some x) y e = by (test x) refl e
-  where
-    by : (v : Bool) → test x ≡ v → cond v (Some x) None ≡ Some y → (Some x ≡ Some y) × (test y ≡ true)
-    by true passes same = (same, cc)
-    by false passes same = absurd cc
+filtered test (Some x) y e = let parts = cond_some (test x) x y e in (ap Some parts.1, rw parts.1 at parts.0)
 
 each-append : {A B : Type 0} (f : A → Option B) (xs ys : List A) (zs : List B) → each f (xs ++ ys) ≡ Some zs → (front : List B) × (back : List B) × (each f ys ≡ Some back) × (zs ≡ front ++ back)
 unfolding each
@@ -44,12 +40,7 @@ All-back P [] ys h = h
 All-back P (x ∷ xs) ys h = All-back P xs ys (All-tail P x (xs ++ ys) h)
 
 bidi_by : (a b p q : Bool) → (not (a || b) || (p && q)) ≡ true → (not b || q) ≡ true
-bidi_by a false p q e = refl
-bidi_by a true p true e = refl
-bidi_by true true true false e = absurd cc
-bidi_by true true false false e = absurd cc
-bidi_by false true true false e = absurd cc
-bidi_by false true false false e = absurd cc
+bidi_by a b p q e = grind (arith, e)
 
 passes_bidi-back : (front back : List (List ℕ)) → passes_bidi (front ++ back) ≡ true → passes_bidi back ≡ true
 unfolding is_bidi_domain

@@ -289,35 +289,24 @@ no_folder b path d e h n =
     let none : seek 0 (step b (step 47 routes)) path ≡ None = rw (d, e, h, n) (no_row 0 path) in
     subst (Routed (47 ∷ b ∷ path)) (sym none) (rw (domain, entity, help, nameserver) (refl {a = Refused NotFound}))
 
-behind_slash : (b : ℕ) (path : List ℕ) → IsUtf8 (47 ∷ b ∷ path) → Routed (47 ∷ b ∷ path) (seek 0 (step b (step 47 routes)) path)
-behind_slash b path text = domain (100 == b) refl
+-- a byte is this one or another
+either : (a b : ℕ) (at : ℕ → Type 0) → (b ≡ a → at a) → ((a == b) ≡ false → at b) → at b
+either a b at here there = by (a == b) refl
   where
-    at : ℕ → Type 0
-    at c = Routed (47 ∷ c ∷ path) (seek 0 (step c (step 47 routes)) path)
+    by : (v : Bool) → (a == b) ≡ v → at b
+    by true is =
+        let same : b ≡ a = grind (arith, nat_tests) in
+        subst at (sym same) (here same)
+    by false is = there is
 
-    nameserver : (v : Bool) → (110 == b) ≡ v → (100 == b) ≡ false → (101 == b) ≡ false → (104 == b) ≡ false → at b
-    nameserver true is d e h =
-        let same : b ≡ 110 = grind (arith, nat_tests) in
-        subst at (sym same) (nameserver_routed path (subst (λ (c : ℕ). IsUtf8 (47 ∷ c ∷ path)) same text))
-    nameserver false is d e h = no_folder b path d e h is
-
-    help : (v : Bool) → (104 == b) ≡ v → (100 == b) ≡ false → (101 == b) ≡ false → at b
-    help true is d e =
-        let same : b ≡ 104 = grind (arith, nat_tests) in
-        subst at (sym same) (help_routed path)
-    help false is d e = nameserver (110 == b) refl d e is
-
-    entity : (v : Bool) → (101 == b) ≡ v → (100 == b) ≡ false → at b
-    entity true is d =
-        let same : b ≡ 101 = grind (arith, nat_tests) in
-        subst at (sym same) (entity_routed path (subst (λ (c : ℕ). IsUtf8 (47 ∷ c ∷ path)) same text))
-    entity false is d = help (104 == b) refl d is
-
-    domain : (v : Bool) → (100 == b) ≡ v → at b
-    domain true is =
-        let same : b ≡ 100 = grind (arith, nat_tests) in
-        subst at (sym same) (domain_routed path (subst (λ (c : ℕ). IsUtf8 (47 ∷ c ∷ path)) same text))
-    domain false is = entity (101 == b) refl is
+behind_slash : (b : ℕ) (path : List ℕ) → IsUtf8 (47 ∷ b ∷ path) → Routed (47 ∷ b ∷ path) (seek 0 (step b (step 47 routes)) path)
+behind_slash b path text =
+    let at : ℕ → Type 0 = λ c. Routed (47 ∷ c ∷ path) (seek 0 (step c (step 47 routes)) path) in
+    let told : (c : ℕ) → b ≡ c → IsUtf8 (47 ∷ c ∷ path) = λ c same. subst (λ (c : ℕ). IsUtf8 (47 ∷ c ∷ path)) same text in
+    either 100 b at (λ same. domain_routed path (told 100 same))
+    (λ d. either 101 b at (λ same. entity_routed path (told 101 same))
+    (λ e. either 104 b at (λ same. help_routed path)
+    (λ h. either 110 b at (λ same. nameserver_routed path (told 110 same)) (no_folder b path d e h))))
 
 -- a path without a slash at its front
 no_slash : (b : ℕ) (path : List ℕ) → (47 == b) ≡ false → Routed (b ∷ path) (seek 0 (step b routes) path)
@@ -334,13 +323,9 @@ with_slash (b ∷ path) text = subst (Routed (47 ∷ b ∷ path)) (sym (next_byt
 pub routed : (path : List ℕ) → IsUtf8 path → Routed path (first routes path)
 unfolding seek
 routed [] text = refl
-routed (b ∷ path) text = subst (Routed (b ∷ path)) (sym (next_byte routes b path refl refl)) (by (47 == b) refl)
-  where
-    by : (v : Bool) → (47 == b) ≡ v → Routed (b ∷ path) (seek 0 (step b routes) path)
-    by true is =
-        let same : b ≡ 47 = grind (arith, nat_tests) in
-        subst (λ (c : ℕ). Routed (c ∷ path) (seek 0 (step c routes) path)) (sym same) (with_slash path (subst (λ (c : ℕ). IsUtf8 (c ∷ path)) same text))
-    by false is = no_slash b path is
+routed (b ∷ path) text =
+    subst (Routed (b ∷ path)) (sym (next_byte routes b path refl refl))
+    (either 47 b (λ (c : ℕ). Routed (c ∷ path) (seek 0 (step c routes) path)) (λ same. with_slash path (subst (λ (c : ℕ). IsUtf8 (c ∷ path)) same text)) (no_slash b path))
 
 get_token : IsToken (codes "GET")
 unfolding is_token_byte

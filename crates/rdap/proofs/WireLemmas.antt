@@ -1,14 +1,10 @@
 -- Status lines.
-use Rattle.std.proofs.Common.{◌≡◌, refl}
+use Rattle.std.proofs.Common.{◌≡◌, rules}
 use Rattle.std.specs.Fmt.{digits}
 use Rattle.http.specs.StatusCode.{status_text}
 use Rattle.rdap.specs.{Answers.{code_and_reason, status_code}, declared.wire.Outcome.Outcome}
-use Rattle.rdap.specs.declared.wire.Outcome.TheVariants.{Found, BadRequest, NotFound, MethodNotAllowed}
 
 -- what is written of a code is the code and its reason
 pub code_written : (outcome : Outcome) → status_text (status_code outcome) ≡ code_and_reason outcome
 unfolding digits
-code_written Found = refl
-code_written BadRequest = refl
-code_written NotFound = refl
-code_written MethodNotAllowed = refl
+code_written outcome = search rules

@@ -1,6 +1,6 @@
 -- What a sort leaves is the bag of the same items in its order.
 use Rattle.std.proofs.Common.{◌≡◌, ℕ, ◌+◌, ◌<◌, zero, suc, Bool, true, false, cond, List, [], ◌∷◌, length, slice_index_or, slice_set, refl, sym, ap, ◌∙◌, arith}
-use Rattle.std.proofs.lemmas.{Cmp.nat_list_cmp_total, List.Sorted.IsPermutation-keeps}
+use Rattle.std.proofs.lemmas.{Cmp.nat_list_cmp_total, Grind.get_or-set_at, List.{get_or-set_other, length-set, Sorted.IsPermutation-keeps}}
 use Rattle.std.specs.{Cmp.Lexicographic.slice_cmp, List.{swap, Sorted.{IsPermutation, IsSortedBy}}, Ordering.{nat_cmp, is_le, is_lt}}
 use Rattle.basis.specs.Bag.{IsLinear, add, bag_of, taken}
 use Rattle.basis.proofs.{BagLaws.{add-add, le-itself, taken-add}, OrderLaws.{le_unless, linear_by_numbers}}
@@ -38,16 +38,7 @@ module _ {A : Type 0} (le : A → A → Bool) (h : IsLinear le) where
       ∙ add-add le h y x (bag_of le ys)
 
   there : (l : List A) (i j : ℕ) (d : A) → i < length l → j < length l → slice_index_or (slice_set l i (slice_index_or l j d)) j d ≡ slice_index_or l j d
-  there [] i j d a b = absurd (omega arith)
-  there (y ∷ ys) zero zero d a b = refl
-  there (y ∷ ys) zero (suc j) d a b = refl
-  there (y ∷ ys) (suc i) zero d a b = refl
-  there (y ∷ ys) (suc i) (suc j) d a b = there ys i j d (omega (arith, a)) (omega (arith, b))
-
-  set-length : (l : List A) (i : ℕ) (x : A) → length (slice_set l i x) ≡ length l
-  set-length [] i x = refl
-  set-length (y ∷ ys) zero x = refl
-  set-length (y ∷ ys) (suc i) x = ap suc (set-length ys i x)
+  there l i j d a b = grind (arith, get_or-set_at l i j (slice_index_or l j d) d, get_or-set_other l i j (slice_index_or l j d) d, a)
 
   swap-bag : (l : List A) (i j : ℕ) → i < length l → j < length l → bag_of le (swap l i j) ≡ bag_of le l
   swap-bag [] i j a b = absurd (omega arith)
@@ -56,7 +47,7 @@ module _ {A : Type 0} (le : A → A → Bool) (h : IsLinear le) where
       let x = slice_index_or l i d in
       let y = slice_index_or l j d in
       let m = slice_set l i y in
-      let inside : j < length m = omega (arith, b, set-length l i y) in
+      let inside : j < length m = omega (arith, b, length-set l i y) in
       let one : add le x (bag_of le m) ≡ add le y (bag_of le l) = set-bag l i y d a in
       let two : add le (slice_index_or m j d) (bag_of le (slice_set m j x)) ≡ add le x (bag_of le m) = set-bag m j x d inside in
       let both : add le y (bag_of le (slice_set m j x)) ≡ add le y (bag_of le l) = ap (λ (z : A). add le z (bag_of le (slice_set m j x))) (sym (there l i j d a b)) ∙ two ∙ one in
