@@ -1,31 +1,25 @@
 -- A row that holds breaks the law of its cause.
 use Rattle.std.specs.List.{AllByRecursion}
-use Rattle.std.proofs.Common.{◌≡◌, ℕ, Bool, true, false, inl, inr, List, [], ◌∷◌, Option, Some, None, refl, ◌<◌, not, ◌&&◌, ◌||◌, nat_lt, ℤ, pos, int_lt, ◌≤ℤ◌, is_none, is_some, subst, ◌∙◌, arith, zero, suc}
-use Rattle.std.proofs.lemmas.{Bool.{and_right, false_from_ne_true, not_from_true}, Int.ints}
+use Rattle.std.proofs.Common.{◌≡◌, ℕ, Bool, true, false, inl, inr, List, [], ◌∷◌, Option, refl, ◌<◌, not, ◌&&◌, ◌||◌, nat_lt, ℤ, pos, int_lt, ◌≤ℤ◌, is_none, is_some, subst, arith}
+use Rattle.std.proofs.lemmas.Bool.{not_from_true}
 use Rattle.policy.specs.Rules.{PolicyRules}
 use Rattle.facts.specs.declared.facts.Facts.{Facts}
 use Rattle.protocol.specs.declared.command.Request.TheVariants.{InfoContact, InfoDomain, InfoHost, CreateContact, CreateDomain, CreateHost, DeleteContact, DeleteDomain, DeleteHost, UpdateContact, UpdateDomain, UpdateHost, RenewDomain, RequestRestore, ReportRestore, TransferContact, TransferDomain, PollAck}
 use Rattle.protocol.specs.declared.command.Request.{Request}
 use Rattle.protocol.specs.declared.transfer.TransferOp.TheVariants as ops
 use Rattle.rules.specs.{Causes.cause_of, Conditions.holds, Laws.KeepsLaw, Rules.table_of, declared.rules.Condition.Condition}
-use Rattle.rules.proofs.RowLemmas.{StandsIn, not-none, stranger}
+use Rattle.rules.proofs.RowLemmas.{StandsIn, not-none}
 
 -- a charge that isn't beyond the balance
 payable : (charge : ℕ) (balance : ℤ) → (0 < charge → pos charge ≤ℤ balance) → (nat_lt 0 charge && int_lt balance (pos charge)) ≡ false
-payable zero balance enough = refl
-payable (suc less) balance enough =
-    let paid : pos (suc less) ≤ℤ balance = enough (omega arith) in and_right (nat_lt 0 (suc less)) (int_lt balance (pos (suc less))) (false_from_ne_true (int_lt balance (pos (suc less))) (λ e. omega (arith, ints)))
+payable charge balance enough = grind arith
 
 -- who has a part in an object, or presents a secret, is no stranger
 no-stranger : (involved : Bool) (secret : Option (List ℕ)) → (involved || is_some secret) ≡ true → (not involved && is_none secret) ≡ false
-no-stranger involved secret e = stranger involved secret ∙ not_from_true _ e
+no-stranger involved secret e = grind arith
 
 pub not-wrong : (involved right : Bool) (secret : Option (List ℕ)) → (is_some secret ≡ true → (involved || right) ≡ true) → (not involved && (is_some secret && not right)) ≡ false
-not-wrong true right secret entitled = refl
-not-wrong false true None entitled = refl
-not-wrong false true (Some presented) entitled = refl
-not-wrong false false None entitled = refl
-not-wrong false false (Some presented) entitled = absurd (let right : false ≡ true = entitled refl in cc)
+not-wrong involved right secret entitled = grind arith
 
 row-at : {C : Type 0} (Passes : C → Type 0) (table : List C) → AllByRecursion Passes table → (condition : C) → StandsIn table condition → Passes condition
 row-at Passes [] each condition stands = absurd stands

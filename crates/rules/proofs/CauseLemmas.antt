@@ -1,6 +1,6 @@
 -- The law of each cause, from the rows that stand for it in the tables.
-use Rattle.std.proofs.Common.{◌≡◌, ℕ, Bool, true, false, ◌⊎◌, inl, inr, List, Option, Some, None, refl, sym, ◌∙◌, ◌<◌, not, ◌&&◌, ◌||◌, is_none, is_some, ◌≢◌, nat_lt, ℤ, pos, int_lt, ◌≤ℤ◌, subst, arith}
-use Rattle.std.proofs.lemmas.{Bool.{and_cases, lt-ltb}, Int.ints}
+use Rattle.std.proofs.Common.{◌≡◌, ℕ, Bool, true, false, ◌⊎◌, inl, inr, List, Option, refl, sym, ◌<◌, not, ◌&&◌, ◌||◌, is_none, is_some, ◌≢◌, nat_lt, ℤ, pos, int_lt, ◌≤ℤ◌, subst, arith}
+use Rattle.std.proofs.lemmas.Bool.{not-false}
 use Rattle.policy.specs.Rules.{PolicyRules}
 use Rattle.facts.specs.declared.facts.Facts.{Facts}
 use Rattle.objects.specs.declared.grace.Phase.TheVariants.{Redemption, Restoring}
@@ -17,30 +17,19 @@ use Rattle.rules.specs.declared.refusal.Cause.{Cause}
 use Rattle.rules.specs.declared.refusal.Cause.TheVariants.{NamesRefused, Exists, Missing, NotSponsor, WrongSecret, TransferPends, NoTransferPends, StatusProhibits, AssociationProhibits, NotRenewable, NotTransferable, ParametersRefused, LimitReached, BillingFailure}
 use Rattle.rules.specs.declared.rules.Condition.{Condition}
 use Rattle.rules.specs.declared.rules.Condition.TheVariants.{NameIsRefused, ListRepeats, IsThere, IsMissing, ReferenceIsMissing, NewNameIsTaken, SuperordinateIsMissing, IsAnothers, SuperordinateIsAnothers, SecretIsWrong, Shows, StillShows, SuperordinateIsDeleted, IsLinked, HasSubordinates, AddsWhatIsThere, RemovesWhatIsNot, LeavesTooMany, LeavesAddressesOutside, IsAtHoldingLimit, PassesTenYears, ExpiresOtherwise, IsNotIn, ReportDiffers, IsNotOldest, LacksMoney, SecretIsNotRight, IsStranger, StrangersSecretIsWrong, IsNotRequester, HasNoTransfer, IsPending, IsNotPending, IsOwn, IsLocked}
-use Rattle.rules.proofs.{ActionLemmas.{OfEach, of-action, of-each}, RowLemmas.{Clear, StandsIn, some-is, stranger}}
-
-there-is : (b : Bool) → not b ≡ false → b ≡ true
-there-is true e = refl
-there-is false e = absurd cc
+use Rattle.rules.proofs.{ActionLemmas.{OfEach, of-action, of-each}, RowLemmas.{Clear, StandsIn, some-is}}
 
 -- who isn't a stranger has a part in the object, or presents a secret
 no-stranger : (involved : Bool) (secret : Option (List ℕ)) → (not involved && is_none secret) ≡ false → (involved || is_some secret) ≡ true
-no-stranger involved secret e = there-is _ (sym (stranger involved secret) ∙ e)
+no-stranger involved secret e = grind arith
 
 -- a secret that isn't a stranger's wrong one is right, or presented by who has a part in the object
 rightly : (involved right : Bool) (secret : Option (List ℕ)) → is_some secret ≡ true → (not involved && (is_some secret && not right)) ≡ false → (involved || right) ≡ true
-rightly true right secret some e = refl
-rightly false true secret some e = refl
-rightly false false None some e = absurd cc
-rightly false false (Some presented) some e = absurd cc
+rightly involved right secret some e = grind arith
 
 -- what is charged and isn't more than the balance can be paid
 affordable : (charge : ℕ) (balance : ℤ) → 0 < charge → (nat_lt 0 charge && int_lt balance (pos charge)) ≡ false → pos charge ≤ℤ balance
-affordable charge balance some enough =
-    elim (and_cases (nat_lt 0 charge) (int_lt balance (pos charge)) enough) [
-      | inl none ↦ absurd (let is : nat_lt 0 charge ≡ true = lt-ltb 0 charge some in let no : true ≡ false = sym is ∙ none in cc)
-      | inr less ↦ omega (arith, ints)
-    ]
+affordable charge balance some enough = grind arith
 
 module _ (p : PolicyRules) (r t : ℕ) (f : Facts) where
   -- the request's table has the row, or nothing of what is asked can meet the condition
@@ -72,23 +61,14 @@ module _ (p : PolicyRules) (r t : ℕ) (f : Facts) where
 
   acting : (a : Action) → ActsOnObject a → OfEach (IsAnswered IsMissing) a
   acting actions.Logout is = absurd is
-  acting actions.Balance is = absurd is
-  acting actions.Check is = absurd is
-  acting actions.PollRequest is = absurd is
   acting _ is = search (inl, inr) depth 20
 
   altering : (a : Action) → AltersObject a → OfEach (IsAnswered IsAnothers) a
   altering actions.Logout is = absurd is
-  altering actions.Balance is = absurd is
-  altering actions.Check is = absurd is
-  altering actions.PollRequest is = absurd is
   altering _ is = search (inl, inr) depth 20
 
   ending : (a : Action) → EndsTransfer a → OfEach (IsAnswered IsNotPending) a
   ending actions.Logout is = absurd is
-  ending actions.Balance is = absurd is
-  ending actions.Check is = absurd is
-  ending actions.PollRequest is = absurd is
   ending _ is = search (inl, inr) depth 20
 
   charged : (q : Request) → 0 < charge_of p t q f → StandsIn (table_of q) LacksMoney
@@ -110,29 +90,29 @@ module _ (p : PolicyRules) (r t : ℕ) (f : Facts) where
     untaken = λ u is. in-form NewNameIsTaken (UpdateHost u) (search (inl, inr) depth 20) q clear is;
   }
   keeps q Missing clear = record {
-    there = λ acts. there-is _ (by-row IsMissing q clear (of-each (IsAnswered IsMissing) q (acting (asks_of q).action acts)));
+    there = λ acts. not-false _ (by-row IsMissing q clear (of-each (IsAnswered IsMissing) q (acting (asks_of q).action acts)));
     creates_linked = λ new is. in-form ReferenceIsMissing (CreateDomain new) (search (inl, inr) depth 20) q clear is;
     updates_linked = λ u is. in-form ReferenceIsMissing (UpdateDomain u) (search (inl, inr) depth 20) q clear is;
     creates_based = λ new is. in-form SuperordinateIsMissing (CreateHost new) (search (inl, inr) depth 20) q clear is;
     updates_based = λ u is. in-form SuperordinateIsMissing (UpdateHost u) (search (inl, inr) depth 20) q clear is;
-    oldest = λ is. there-is _ (in-each IsNotOldest actions.PollAck (search (inl, inr) depth 20) q clear is);
+    oldest = λ is. not-false _ (in-each IsNotOldest actions.PollAck (search (inl, inr) depth 20) q clear is);
   }
   keeps q NotSponsor clear = record {
     sponsor = λ alters. by-row IsAnothers q clear (of-each (IsAnswered IsAnothers) q (altering (asks_of q).action alters));
     creates_below_own = λ new is. in-form SuperordinateIsAnothers (CreateHost new) (search (inl, inr) depth 20) q clear is;
     updates_below_own = λ u is. in-form SuperordinateIsAnothers (UpdateHost u) (search (inl, inr) depth 20) q clear is;
     involved = λ is. no-stranger (is_involved r q f) (asks_of q).secret (in-each IsStranger actions.QueryTransfer (search (inl, inr) depth 20) q clear is);
-    requester = λ is. there-is _ (in-each IsNotRequester actions.CancelTransfer (search (inl, inr) depth 20) q clear is);
+    requester = λ is. not-false _ (in-each IsNotRequester actions.CancelTransfer (search (inl, inr) depth 20) q clear is);
   }
   keeps q WrongSecret clear = record {
     shows = in-each SecretIsWrong actions.Info (search (inl, inr) depth 20) q clear;
-    authorized = λ is. there-is _ (in-each SecretIsNotRight actions.RequestTransfer (search (inl, inr) depth 20) q clear is);
+    authorized = λ is. not-false _ (in-each SecretIsNotRight actions.RequestTransfer (search (inl, inr) depth 20) q clear is);
     queries = λ is some. rightly (is_involved r q f) (presents_secret q f) (asks_of q).secret some (in-each StrangersSecretIsWrong actions.QueryTransfer (search (inl, inr) depth 20) q clear is);
   }
   keeps q TransferPends clear = record { not_twice = in-each IsPending actions.RequestTransfer (search (inl, inr) depth 20) q clear }
   keeps q NoTransferPends clear = record {
     known = λ is. some-is _ (in-each HasNoTransfer actions.QueryTransfer (search (inl, inr) depth 20) q clear is);
-    pending = λ ends. there-is _ (by-row IsNotPending q clear (of-each (IsAnswered IsNotPending) q (ending (asks_of q).action ends)));
+    pending = λ ends. not-false _ (by-row IsNotPending q clear (of-each (IsAnswered IsNotPending) q (ending (asks_of q).action ends)));
   }
   keeps q StatusProhibits clear = record {
     client_delete = in-each (Shows ClientDeleteProhibited) actions.Delete (search (inl, inr) depth 20) q clear;
@@ -160,8 +140,8 @@ module _ (p : PolicyRules) (r t : ℕ) (f : Facts) where
     not_deleted = λ name secret is. in-form (Shows PendingDelete) (TransferDomain name ops.Request secret) (search (inl, inr) depth 20) q clear is;
     creates_below = λ new is. in-form SuperordinateIsDeleted (CreateHost new) (search (inl, inr) depth 20) q clear is;
     updates_below = λ u is. in-form SuperordinateIsDeleted (UpdateHost u) (search (inl, inr) depth 20) q clear is;
-    redeemable = λ is. there-is _ (in-each (IsNotIn Redemption) actions.RequestRestore (search (inl, inr) depth 20) q clear is);
-    restoring = λ is. there-is _ (in-each (IsNotIn Restoring) actions.ReportRestore (search (inl, inr) depth 20) q clear is);
+    redeemable = λ is. not-false _ (in-each (IsNotIn Redemption) actions.RequestRestore (search (inl, inr) depth 20) q clear is);
+    restoring = λ is. not-false _ (in-each (IsNotIn Restoring) actions.ReportRestore (search (inl, inr) depth 20) q clear is);
   }
   keeps q AssociationProhibits clear = record {
     linked = in-each IsLinked actions.Delete (search (inl, inr) depth 20) q clear;

@@ -48,8 +48,4 @@ cause_of LacksMoney = BillingFailure
 abbrev pub cause_of_order : OrderCondition → Cause
 cause_of_order orders.IsMissing = Missing
 cause_of_order orders.ContradictsPendingState = StatusProhibits
-cause_of_order orders.HasUnknownStatus = ParametersRefused
-cause_of_order orders.HasAnothersStatus = ParametersRefused
-cause_of_order orders.ListRepeats = ParametersRefused
-cause_of_order orders.AddsWhatIsSet = ParametersRefused
-cause_of_order orders.RemovesWhatIsUnset = ParametersRefused
+cause_of_order _ = ParametersRefused

@@ -1,6 +1,6 @@
 -- What commands cost (RFC 5731, 3.2.1, 3.2.3 and 3.2.4: a domain is registered, renewed and transferred by
 -- the year).
-use Rattle.std.specs.Prelude.{ℕ, ◌*◌, Option, Some, None, option_and_then}
+use Rattle.std.specs.Prelude.{ℕ, ◌*◌, Option, Some, option_and_then}
 use Rattle.std.specs.List.{slice_get}
 use Rattle.facts.specs.declared.facts.Facts.{Facts}
 use Rattle.facts.specs.Facts.{domain_seen}
@@ -9,7 +9,7 @@ use Rattle.names.specs.RequestedName.{name_of}
 use Rattle.objects.specs.declared.domain.DomainFace.{DomainFace}
 use Rattle.objects.specs.declared.domain.FullDomain.{FullDomain}
 use Rattle.objects.specs.declared.sight.Seen.{Seen}
-use Rattle.objects.specs.declared.sight.Seen.TheVariants.{Full, TransferParty, Public}
+use Rattle.objects.specs.declared.sight.Seen.TheVariants.{Full}
 use Rattle.policy.specs.Rules.{PolicyRules}
 use Rattle.protocol.specs.declared.command.Action.{Action}
 use Rattle.protocol.specs.declared.command.Action.TheVariants.{Balance, Check, Info, Create, Delete, Update, Renew, RequestRestore, ReportRestore, RequestTransfer, QueryTransfer, ApproveTransfer, RejectTransfer, CancelTransfer, PollRequest, PollAck, Logout}
@@ -38,10 +38,8 @@ price_of p PollAck = 0
 
 -- the least number of years more with which a domain that is seen in full expires after a moment
 abbrev pub years_needed : ℕ → Option (Seen FullDomain DomainFace) → ℕ
-years_needed t None = 0
 years_needed t (Some (Full known)) = turns known.domain t
-years_needed t (Some (TransferParty face transfer)) = 0
-years_needed t (Some (Public face)) = 0
+years_needed t _ = 0
 
 -- A request charges for the years that it names. The report on a restoration names none: it charges
 -- for those that its domain needs (RFC 3915, 4.2.5).

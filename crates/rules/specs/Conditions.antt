@@ -64,8 +64,7 @@ is_there q f = is_some (the_contact q f) || (is_some (the_domain q f) || is_some
 -- the object, where it is seen in full
 abbrev pub full : {O F : Type 0} → Seen O F → Option O
 full (Full o) = Some o
-full (TransferParty face t) = None
-full (Public face) = None
+full _ = None
 
 abbrev pub full_contact : Request → Facts → Option Contact
 full_contact q f = option_and_then full (the_contact q f)
@@ -118,8 +117,7 @@ domain_secret known = known.domain.secret
 -- the registrar sponsors what it sees
 abbrev pub is_own : {O F : Type 0} → (O → ℕ) → ℕ → Seen O F → Bool
 is_own sponsor r (Full o) = sponsor o == r
-is_own sponsor r (TransferParty face t) = false
-is_own sponsor r (Public face) = false
+is_own sponsor r _ = false
 
 -- another sponsors it
 abbrev pub is_anothers : {O F : Type 0} → (O → ℕ) → ℕ → Option (Seen O F) → Bool
@@ -136,8 +134,7 @@ host_is_anothers zone r known =
 -- what is seen opens with the secret: who presents the right one sees all
 abbrev pub is_authorized : {O F : Type 0} → (O → List ℕ) → Option (List ℕ) → Seen O F → Bool
 is_authorized secret_of secret (Full o) = authorizes secret (secret_of o)
-is_authorized secret_of secret (TransferParty face t) = false
-is_authorized secret_of secret (Public face) = false
+is_authorized secret_of secret _ = false
 
 -- a secret is presented by another than the sponsor, and isn't right
 abbrev pub presents_wrong : {O F : Type 0} → (O → ℕ) → (O → List ℕ) → ℕ → Option (List ℕ)

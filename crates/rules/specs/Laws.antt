@@ -7,7 +7,6 @@ use Rattle.objects.specs.declared.domain.Domain.{Domain}
 use Rattle.objects.specs.declared.grace.Phase.TheVariants.{Redemption, Restoring}
 use Rattle.objects.specs.declared.status.Status.TheVariants.{ClientDeleteProhibited, ClientRenewProhibited, ClientTransferProhibited, ClientUpdateProhibited, PendingDelete, PendingTransfer, ServerDeleteProhibited, ServerRenewProhibited, ServerTransferProhibited, ServerUpdateProhibited}
 use Rattle.policy.specs.Rules.{PolicyRules}
-use Rattle.protocol.specs.declared.code.Code.{Code}
 use Rattle.protocol.specs.declared.command.Action.{Action}
 use Rattle.protocol.specs.declared.command.Action.TheVariants.{Balance, Check, Info, Create, Delete, Update, Renew, RequestRestore, ReportRestore, RequestTransfer, QueryTransfer, ApproveTransfer, RejectTransfer, CancelTransfer, PollRequest, PollAck, Logout}
 use Rattle.protocol.specs.declared.command.Command.{Command}
@@ -20,14 +19,13 @@ use Rattle.protocol.specs.declared.command.NewHost.{NewHost}
 use Rattle.protocol.specs.declared.command.Request.{Request}
 use Rattle.protocol.specs.declared.command.Request.TheVariants.{CreateDomain, CreateHost, DeleteDomain, TransferDomain, UpdateContact, UpdateDomain, UpdateHost}
 use Rattle.protocol.specs.declared.transfer.TransferOp.TheVariants as ops
-use Rattle.protocol.specs.Codes.{is_accepted}
 use Rattle.protocol.specs.Requests.{asks_of, holds_of}
 use Rattle.rules.specs.declared.refusal.Cause.{Cause}
 use Rattle.rules.specs.declared.refusal.Cause.TheVariants.{NamesRefused, Exists, Missing, NotSponsor, WrongSecret, TransferPends, NoTransferPends, StatusProhibits, AssociationProhibits, NotRenewable, NotTransferable, ParametersRefused, LimitReached, BillingFailure}
 use Rattle.rules.specs.declared.verdict.Verdict.{Verdict}
 use Rattle.rules.specs.Charges.{charge_of, years_charged}
 use Rattle.rules.specs.Conditions.{adds_known, domain_is_locked, expires_otherwise, full_domain, has_no_superordinate, has_subordinates, host_to_be, is_in, is_involved, is_linked, is_of_another, is_oldest, is_requester, is_there, leaves_addresses_outside, leaves_too_many, list_repeats, name_is_refused, passes_ten_years, presents_secret, removes_unknown, renewed_expiry, report_differs, secret_is_wrong, shows_status, sponsors, still_shows, strangers_secret_is_wrong, superordinate_is_anothers, superordinate_is_deleted, the_transfer, transfer_is_pending}
-use Rattle.rules.specs.Refusals.{code_of, place_of}
+use Rattle.rules.specs.Refusals.{AnswersByLaws}
 
 -- it changes, renews, deletes or restores an object, or answers who asks for one
 abbrev pub AltersObject : Action → Type 0
@@ -242,26 +240,12 @@ KeepsLaw p r t q f ParametersRefused = ParametersFit p q f
 KeepsLaw p r t q f LimitReached = HoldsNoMore q f
 KeepsLaw p r t q f BillingFailure = IsPaid p t q f
 
--- a lawful request keeps the law of each cause
-abbrev pub IsLawful : PolicyRules → ℕ → ℕ → Request → Facts → Type 0
-IsLawful p r t q f = (cause : Cause) → KeepsLaw p r t q f cause
-
--- A request is refused with the code of the first cause whose law it breaks.
-pub record IsRefused (p : PolicyRules) (r t : ℕ) (q : Request) (f : Facts) (code : Code) : Type 0 where
-  pub cause : Cause
-  pub answer_is : code ≡ code_of cause
-  pub broken : KeepsLaw p r t q f cause → ⊥
-  pub first : (other : Cause) → place_of other < place_of cause → KeepsLaw p r t q f other
-
--- A verdict on a request: what is carried out is lawful, what is lawful is carried out, and what is
--- refused breaks the law that its code names. The years for which a report on a restoration charges
+-- A verdict on a request is by the laws. The years for which a report on a restoration charges
 -- put the expiry after the moment, and fewer don't. A wrong secret is never answered with data (RFC
 -- 5731, 2.6; RFC 5733, 2.8), whoever presents it with the request of a transfer, and unless the sponsor
 -- does so with another command, or whom the last transfer names with a query of it.
 pub record KeepsLaws (p : PolicyRules) (r t : ℕ) (q : Request) (f : Facts) (v : Verdict) : Type 0 where
-  pub carried_out : is_accepted v.code ≡ true → IsLawful p r t q f
-  pub accepted : IsLawful p r t q f → is_accepted v.code ≡ true
-  pub refused : is_accepted v.code ≡ false → IsRefused p r t q f v.code
+  pub lawful : AnswersByLaws (KeepsLaw p r t q f) v.code
   pub outlasts : (asks_of q).action ≡ ReportRestore → (d : Domain) → full_domain q f ≡ Some d
       → t < renewed_expiry (years_charged t q f) d
   pub no_more : (asks_of q).action ≡ ReportRestore → (d : Domain) → full_domain q f ≡ Some d

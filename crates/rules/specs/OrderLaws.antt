@@ -1,5 +1,5 @@
 -- What the operator's orders keep, in the words of the standards (RFC 5731 to 5733), without their table.
-use Rattle.std.specs.Prelude.{◌≡◌, ◌<◌, ◌||◌, true, false, Option, Some, is_some}
+use Rattle.std.specs.Prelude.{◌≡◌, ◌||◌, true, false, Option, Some, is_some}
 use Rattle.facts.specs.Lists.{has_twice}
 use Rattle.model.specs.declared.object.Object.{Object}
 use Rattle.model.specs.declared.object.Object.TheVariants as objects
@@ -12,12 +12,11 @@ use Rattle.objects.specs.StatusTexts.{status_text}
 use Rattle.objects.specs.Transfers.{is_pending}
 use Rattle.protocol.specs.declared.code.Code.{Code}
 use Rattle.protocol.specs.declared.order.StatusOrder.{StatusOrder}
-use Rattle.protocol.specs.Codes.{is_accepted}
 use Rattle.rules.specs.declared.refusal.Cause.{Cause}
-use Rattle.rules.specs.declared.refusal.Cause.TheVariants.{NamesRefused, Exists, Missing, NotSponsor, WrongSecret, TransferPends, NoTransferPends, StatusProhibits, AssociationProhibits, NotRenewable, NotTransferable, ParametersRefused, LimitReached, BillingFailure}
+use Rattle.rules.specs.declared.refusal.Cause.TheVariants.{Missing, StatusProhibits, ParametersRefused}
 use Rattle.rules.specs.Conditions.{any_set, any_unset}
 use Rattle.rules.specs.Orders.{any_foreign}
-use Rattle.rules.specs.Refusals.{code_of, place_of}
+use Rattle.rules.specs.Refusals.{AnswersByLaws}
 
 -- the object is there whose statuses are set (RFC 5730, 3, code 2303)
 pub record ObjectIsThere (object : Option Object) : Type 0 where
@@ -44,38 +43,10 @@ pub record StatusesFit (o : StatusOrder) (object : Option Object) : Type 0 where
 
 -- the law whose breach is the cause; an order has no others to break
 abbrev pub KeepsOrder : StatusOrder → Option Object → Cause → Type 0
-KeepsOrder o object NamesRefused = Unit {0}
-KeepsOrder o object Exists = Unit {0}
 KeepsOrder o object Missing = ObjectIsThere object
-KeepsOrder o object NotSponsor = Unit {0}
-KeepsOrder o object WrongSecret = Unit {0}
-KeepsOrder o object TransferPends = Unit {0}
-KeepsOrder o object NoTransferPends = Unit {0}
 KeepsOrder o object StatusProhibits = FitsWhatPends o object
-KeepsOrder o object AssociationProhibits = Unit {0}
-KeepsOrder o object NotRenewable = Unit {0}
-KeepsOrder o object NotTransferable = Unit {0}
 KeepsOrder o object ParametersRefused = StatusesFit o object
-KeepsOrder o object LimitReached = Unit {0}
-KeepsOrder o object BillingFailure = Unit {0}
-
--- a lawful order keeps the law of each cause
-abbrev pub IsLawfulOrder : StatusOrder → Option Object → Type 0
-IsLawfulOrder o object = (cause : Cause) → KeepsOrder o object cause
-
--- An order is refused with the code of the first cause whose law it breaks.
-pub record IsRefusedOrder (o : StatusOrder) (object : Option Object) (code : Code) : Type 0 where
-  pub cause : Cause
-  pub answer_is : code ≡ code_of cause
-  pub broken : KeepsOrder o object cause → ⊥
-  pub first : (other : Cause) → place_of other < place_of cause → KeepsOrder o object other
-
--- What is carried out is lawful, what is lawful is carried out, and what is refused breaks the law that
--- its code names.
-pub record KeepsOrderLaws (o : StatusOrder) (object : Option Object) (code : Code) : Type 0 where
-  pub carried_out : is_accepted code ≡ true → IsLawfulOrder o object
-  pub accepted : IsLawfulOrder o object → is_accepted code ≡ true
-  pub refused : is_accepted code ≡ false → IsRefusedOrder o object code
+KeepsOrder o object _ = Unit {0}
 
 unfoldable pub AnswersOrderLawfully : StatusOrder → Option Object → Code → Type 0
-AnswersOrderLawfully o object code = KeepsOrderLaws o object code
+AnswersOrderLawfully o object code = AnswersByLaws (KeepsOrder o object) code

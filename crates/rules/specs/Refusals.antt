@@ -1,7 +1,8 @@
 -- Which of the causes against a command is answered.
-use Rattle.std.specs.Prelude.{ℕ, Bool, true, nat_le, ◌&&◌, List, [], ◌∷◌, Option, option_map, find}
+use Rattle.std.specs.Prelude.{◌≡◌, ℕ, ◌<◌, Bool, true, false, nat_le, ◌&&◌, List, [], ◌∷◌, Option, option_map, find}
 use Rattle.protocol.specs.declared.code.Code.{Code}
 use Rattle.protocol.specs.declared.code.Code.TheVariants as codes
+use Rattle.protocol.specs.Codes.{is_accepted}
 use Rattle.rules.specs.declared.refusal.Cause.{Cause}
 use Rattle.rules.specs.declared.refusal.Cause.TheVariants.{NamesRefused, Exists, Missing, NotSponsor, WrongSecret, TransferPends, NoTransferPends, StatusProhibits, AssociationProhibits, NotRenewable, NotTransferable, ParametersRefused, LimitReached, BillingFailure}
 
@@ -53,3 +54,19 @@ in_order cause conditions = in_order_from cause 0 conditions
 unfoldable pub first_refusal : {C : Type 0} → (C → Cause) → (C → Bool) → List C → Option Code
 first_refusal cause holds conditions =
     option_map (λ condition. code_of (cause condition)) (find holds conditions)
+
+-- ---- what an answer keeps, where each cause has its law
+
+-- It refuses with the code of the first cause whose law is broken.
+pub record IsRefused (Keeps : Cause → Type 0) (code : Code) : Type 0 where
+  pub cause : Cause
+  pub answer_is : code ≡ code_of cause
+  pub broken : Keeps cause → ⊥
+  pub first : (other : Cause) → place_of other < place_of cause → Keeps other
+
+-- What is carried out is lawful, what is lawful is carried out, and what is refused breaks the law that
+-- its code names.
+pub record AnswersByLaws (Keeps : Cause → Type 0) (code : Code) : Type 0 where
+  pub carried_out : is_accepted code ≡ true → (cause : Cause) → Keeps cause
+  pub accepted : ((cause : Cause) → Keeps cause) → is_accepted code ≡ true
+  pub refused : is_accepted code ≡ false → IsRefused Keeps code

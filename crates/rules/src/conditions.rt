@@ -195,10 +195,9 @@ pub(crate) fn host_is_anothers(zone: &Zone, caller: RegistrarNo, known: Option<&
 pub(crate) fn has_no_superordinate(zone: &Zone, known: Option<&HostFacts>) -> bool
     ensures { result ≡ is_met (spec.has_no_superordinate zone.now) known.entry }
 {
-    let Some(known) = known else {
-        return false;
-    };
-    zone.has_superordinate(&known.name) && known.superordinate.is_none()
+    known.is_some_and(|known| {
+        zone.has_superordinate(&known.name) && known.superordinate.is_none()
+    })
 }
 
 /// Whether the name lies in the zone, below a domain that another sponsors.
@@ -209,26 +208,22 @@ pub(crate) fn superordinate_is_anothers(
 ) -> bool
     ensures { result ≡ is_met (spec.superordinate_is_anothers zone.now caller) known.entry }
 {
-    match known {
-        None => false,
-        Some(known) => match &known.superordinate {
-            None => false,
-            Some(above) => zone.has_superordinate(&known.name) && above.sponsor != caller,
-        },
-    }
+    known.is_some_and(|known| {
+        zone.has_superordinate(&known.name)
+            && known
+                .superordinate
+                .is_some_and(|above| above.sponsor != caller)
+    })
 }
 
 /// Whether the name lies in the zone, below a domain that is deleted.
 pub(crate) fn superordinate_is_deleted(zone: &Zone, known: Option<&HostFacts>) -> bool
     ensures { result ≡ is_met (spec.superordinate_is_deleted zone.now) known.entry }
 {
-    match known {
-        None => false,
-        Some(known) => match &known.superordinate {
-            None => false,
-            Some(above) => zone.has_superordinate(&known.name) && above.is_deleted,
-        },
-    }
+    known.is_some_and(|known| {
+        zone.has_superordinate(&known.name)
+            && known.superordinate.is_some_and(|above| above.is_deleted)
+    })
 }
 
 // ---- statuses that are shown

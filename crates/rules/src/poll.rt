@@ -47,25 +47,19 @@ pub(crate) fn code_of_poll(oldest: &Option<OldestMessage>) -> Code
 pub(crate) fn polled_data(queue: &QueueFacts) -> Result<Option<Data>, AllocError>
     ensures { IfOk result (λ content. content ≡ known_data.polled_data queue.now) }
 {
-    match &queue.oldest {
-        None => Ok(None),
-        Some(oldest) => Ok(Some(Data::Polled(polled(queue.waiting, oldest)?))),
-    }
-}
-
-fn polled(waiting: u64, oldest: &OldestMessage) -> Result<Polled, AllocError>
-    ensures { IfOk result (λ polled. polled ≡ spec.polled waiting oldest.now) }
-{
+    let Some(oldest) = &queue.oldest else {
+        return Ok(None);
+    };
     let message = &oldest.message;
     let id = oldest.id.clone()?;
-    Ok(Polled {
+    Ok(Some(Data::Polled(Polled {
         id,
         notice: notice_of(message.origin),
         kind: kind_of(message.subject),
         name: message.name.clone()?,
         queued: message.moment,
-        count: waiting,
-    })
+        count: queue.waiting,
+    })))
 }
 
 /// How many messages wait once the oldest is taken out.

@@ -23,9 +23,7 @@ use basis::text::{Text, copied};
 use calendar::Moment;
 use facts::{ContactFacts, DomainFacts, Facts, HostFacts};
 use names::{RequestedName, Zone};
-use objects::{
-    Contact, ContactFace, Domain, DomainFace, FullDomain, Host, Seen, Transfer, with_linked,
-};
+use objects::{Contact, ContactFace, DomainFace, FullDomain, Seen, Transfer, with_linked};
 use policy::Policy;
 use protocol::{
     CheckResult, ContactHidden, ContactInfo, Created, Data, DomainHidden, DomainInfo, HostInfo,
@@ -211,25 +209,14 @@ fn renewed_data(
 ) -> Result<Option<Data>, AllocError>
     ensures { IfOk result (λ it. it ≡ renewed_data charge name.now years seen.entry) }
 {
-    match full_domain(seen) {
-        None => Ok(None),
-        Some(domain) => Ok(Some(Data::Renewed(renewed(charge, name, years, domain)?))),
-    }
-}
-
-fn renewed(
-    charge: u64,
-    name: &RequestedName,
-    years: u32,
-    domain: &Domain,
-) -> Result<Renewed, AllocError>
-    ensures { IfOk result (λ renewed. renewed ≡ spec.renewed charge name.now years domain.now) }
-{
-    Ok(Renewed {
+    let Some(domain) = full_domain(seen) else {
+        return Ok(None);
+    };
+    Ok(Some(Data::Renewed(Renewed {
         name: name.text().clone()?,
         expires: renewed_expiry(domain, years),
         charge,
-    })
+    })))
 }
 
 // ---- info of contacts
@@ -246,13 +233,11 @@ fn contact_data(
     let Some(known) = known else {
         return Ok(None);
     };
-    match &known.seen {
-        None => Ok(None),
-        Some(seen) => {
-            let info = contact_info(alloc, case.policy, case.caller, secret, known.linked, seen)?;
-            Ok(Some(Data::Contact(info)))
-        }
-    }
+    let Some(seen) = &known.seen else {
+        return Ok(None);
+    };
+    let info = contact_info(alloc, case.policy, case.caller, secret, known.linked, seen)?;
+    Ok(Some(Data::Contact(info)))
 }
 
 fn contact_info(
@@ -360,14 +345,12 @@ fn domain_data(
     let Some(known) = known else {
         return Ok(None);
     };
-    match &known.seen {
-        None => Ok(None),
-        Some(seen) => {
-            let below = &known.subordinate;
-            let info = domain_info(alloc, case.policy, case.caller, secret, below, seen)?;
-            Ok(Some(Data::Domain(info)))
-        }
-    }
+    let Some(seen) = &known.seen else {
+        return Ok(None);
+    };
+    let below = &known.subordinate;
+    let info = domain_info(alloc, case.policy, case.caller, secret, below, seen)?;
+    Ok(Some(Data::Domain(info)))
 }
 
 fn domain_info(
@@ -477,25 +460,14 @@ fn host_data(
     let Some(known) = known else {
         return Ok(None);
     };
-    match &known.host {
-        None => Ok(None),
-        Some(host) => Ok(Some(Data::Host(host_info(alloc, policy, known, host)?))),
-    }
-}
-
-fn host_info(
-    alloc: Global,
-    policy: &Policy,
-    known: &HostFacts,
-    host: &Host,
-) -> Result<HostInfo, AllocError>
-    ensures { IfOk result (λ info. info ≡ spec.host_info policy.now known.now host.now) }
-{
+    let Some(host) = &known.host else {
+        return Ok(None);
+    };
     let sponsor = sponsor_or_none(known.sponsor(policy.zone(), host));
-    Ok(HostInfo {
+    Ok(Some(Data::Host(HostInfo {
         face: host.face(alloc, sponsor, known.linked)?,
         sponsor: id_of(alloc, policy, sponsor)?,
-    })
+    })))
 }
 
 /// A host without a superordinate domain would have no sponsor.

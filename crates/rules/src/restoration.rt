@@ -12,8 +12,7 @@ fn phase_seen(seen: &Seen<FullDomain, DomainFace>) -> Phase
 {
     match seen {
         Seen::Full(known) => known.standing.phase,
-        Seen::TransferParty(face, _) => face.standing.phase,
-        Seen::Public(face) => face.standing.phase,
+        Seen::TransferParty(face, _) | Seen::Public(face) => face.standing.phase,
     }
 }
 

@@ -366,12 +366,6 @@ pub fn table(request: &Request) -> &'static [Condition]
     ensures ordered { IsTrue (in_order cause_of result.now) }
 {
     match request {
-        Request::Logout
-        | Request::Balance
-        | Request::CheckContact { .. }
-        | Request::CheckDomain { .. }
-        | Request::CheckHost { .. }
-        | Request::PollRequest => &[],
         Request::InfoContact { .. } => CONTACT_INFO,
         Request::InfoDomain { .. } => DOMAIN_INFO,
         Request::InfoHost { .. } => HOST_INFO,
@@ -400,5 +394,6 @@ pub fn table(request: &Request) -> &'static [Condition]
             TransferOp::Cancel => DOMAIN_TRANSFER_CANCEL,
         },
         Request::PollAck { .. } => MESSAGE_ACKNOWLEDGEMENT,
+        _ => &[],
     }
 }

@@ -68,8 +68,7 @@ fn sponsor_seen<O: Sponsored, F: Faced>(seen: &Seen<O, F>) -> RegistrarNo
 {
     match seen {
         Seen::Full(object) => object.sponsored_by(),
-        Seen::TransferParty(face, _) => face.sponsored_by(),
-        Seen::Public(face) => face.sponsored_by(),
+        Seen::TransferParty(face, _) | Seen::Public(face) => face.sponsored_by(),
     }
 }
 

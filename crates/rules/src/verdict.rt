@@ -22,6 +22,7 @@ pub struct Verdict {
 
 /// What a registrar's command at a moment is answered, by the facts that bear on it: the first
 /// refusal of its table, or its data.
+#[tactic(auto, unfolding(crate::specs::Verdicts::judged, crate::specs::Laws::AnswersLawfully))]
 pub fn judge(
     alloc: Global,
     facts: &Facts,
@@ -34,24 +35,6 @@ pub fn judge(
         facts.now) }
     ensures laws { IfOk result (λ verdict. AnswersLawfully policy.now caller moment command.now
         facts.now verdict) }
-{
-    match verdict_on(alloc, facts, caller, command, moment, policy) {
-        Ok(verdict) => Ok(verdict),
-        Err(error) => Err(error),
-    }
-}
-
-#[tactic(auto, unfolding(crate::specs::Verdicts::judged))]
-fn verdict_on(
-    alloc: Global,
-    facts: &Facts,
-    caller: RegistrarNo,
-    command: &Command,
-    moment: Moment,
-    policy: &Policy,
-) -> Result<Verdict, AllocError>
-    ensures { IfOk result (λ verdict. verdict ≡ judged policy.now caller moment command.now
-        facts.now) }
 {
     match command {
         Command::Bad { fault, .. } => Ok(refused(fault.code())),
