@@ -29,7 +29,7 @@ use Rattle.model.specs.{Lapse.{Choice, accounts_at, at, lapse as lapse_registry,
 use Rattle.model.specs.Registry.{Registry}
 use Rattle.model.proofs.{LapseLaws.{all-due-lapse-as-all, lapses-on-from-some}, SweepLemmas.{gives, left, registry}}
 use Rattle.decisions.specs.declared.change.Change.{Change}
-use Rattle.decisions.specs.declared.change.Change.TheVariants.{MoveClock, OpenAccount, PutContact, DropContact, PutDomain, DropDomain, PutHost, DropHost, RenameHost, LapseContact, LapseDomain, Post}
+use Rattle.decisions.specs.declared.change.Change.TheVariants.{PutContact, DropContact, PutDomain, DropDomain, PutHost, DropHost, RenameHost, Post}
 use Rattle.decisions.specs.Changes.{changed, changed_all, host_renamed, may_rename, with_host_renamed}
 use Rattle.concerns.specs.{declared.given.Names.Names, Concerns.{IsSettledIn, concerned, is_about, without}}
 use Rattle.concerns.proofs.{PostedLemmas.{IsElsewhere, contact-elsewhere, domain-elsewhere, post-weaker}, ConcernLemmas.is_in}
@@ -52,8 +52,7 @@ module _ {X : Type 0} (f : List ℕ → X → Lapsed X) (m : FinMap (slice_cmp n
       ∙ sym (get-insert nat_list_cmp_total (kept (left f) m) k v q ∙ ap (cond (eq_by_cmp (slice_cmp nat_cmp) q k) (Some v)) (get-kept (slice_cmp nat_cmp) nat_list_cmp_total names_apart (left f) m q)))
 
   at-none : (q : List ℕ) (b : Bool) (o : Option X) → option_map_or (left f q) (cond b None o) None ≡ cond b None (option_map_or (left f q) o None)
-  at-none q true o = refl
-  at-none q false o = refl
+  at-none q b o = grind arith
 
   kept-remove : kept (left f) (remove m k) ≡ remove (kept (left f) m) k
   kept-remove = same_map nat_list_cmp_total names_apart _ _ (λ q.
@@ -104,8 +103,7 @@ module _ (p : PolicyRules) (t : ℕ) (old new : List ℕ) where
   lived-renamed d (Some x) = refl
 
   purged-renamed : (d : Domain) (x : Deletion) (b : Bool) → (let l : Lapsed Domain = cond b (leaves (ren d) []) (purged p x (ren d)) in l) ≡ mapped (cond b (leaves d []) (purged p x d))
-  purged-renamed d x true = refl
-  purged-renamed d x false = refl
+  purged-renamed d x b = grind arith
 
   by-renamed : (d : Domain) (o : Option Deletion) → lapse_by p t o (ren d) ≡ mapped (lapse_by p t o d)
   by-renamed d None = lived-renamed d (due_by t d.transfer)
@@ -180,8 +178,7 @@ module _ (p : PolicyRules) where
 
   plain-swaps : (w : LapseEntry) → Swaps CountCommand p w × Swaps TakeSerial p w
   plain-swaps (Renewal r) = ((λ a. refl), (λ a. refl))
-  plain-swaps (Start x) = ((λ a. refl), (λ a. refl))
-  plain-swaps (Notice m) = ((λ a. refl), (λ a. refl))
+  plain-swaps _ = ((λ a. refl), (λ a. refl))
 
 -- ---- what is asked of a change
 
@@ -198,17 +195,12 @@ module _ (p : PolicyRules) (r : Option ℕ) (g : Names) (u : Registry) where
   SuitsAny (Charge l) = is_kind l.kind lines.Transfer ≡ false
   SuitsAny (RefundRunning x) = ⊥
   SuitsAny (RefundTransfer x) = IsNamedRoid x.roid
-  SuitsAny (Lapse what) = Unit {0}
-  SuitsAny (Notify n) = Unit {0}
   SuitsAny (Ack id) = ⊥
-  SuitsAny CountCommand = Unit {0}
-  SuitsAny TakeSerial = Unit {0}
+  SuitsAny _ = Unit {0}
 
   -- It puts what is concerned in the place of what is, and changes the caller's account, or another so that it makes no
   -- difference to what time enters into it.
   abbrev pub Suits : Change → Type 0
-  Suits (MoveClock t) = ⊥
-  Suits (OpenAccount q) = ⊥
   Suits (PutContact x) = chosen.contacts x.name ≡ true
   Suits (DropContact name) = chosen.contacts name ≡ true
   Suits (PutDomain d) = chosen.domains d.name ≡ true
@@ -216,9 +208,8 @@ module _ (p : PolicyRules) (r : Option ℕ) (g : Names) (u : Registry) where
   Suits (PutHost h) = Unit {0}
   Suits (DropHost name) = Unit {0}
   Suits (RenameHost old h) = Unit {0}
-  Suits (LapseContact name left) = ⊥
-  Suits (LapseDomain name left) = ⊥
   Suits (Post q what) = (r ≡ Some q) ⊎ SuitsAny what
+  Suits _ = ⊥
 
   abbrev pub AllSuit : List Change → Type 0
   AllSuit [] = Unit {0}
@@ -240,8 +231,6 @@ module _ (p : PolicyRules) (r : Option ℕ) (g : Names) (u : Registry) where
   IsRest v = AllOthers chosen.contacts IsAsideContact v.contacts × AllOthers chosen.domains IsAsideDomain v.domains × (v.clock ≡ u.clock)
 
   rest-changed : (change : Change) → Suits change → (v : Registry) → IsRest v → IsRest (changed p change v)
-  rest-changed (MoveClock t) suits v is = absurd suits
-  rest-changed (OpenAccount q) suits v is = absurd suits
   rest-changed (PutContact x) suits v is = (others-put chosen.contacts IsAsideContact v.contacts x.name x suits is.0, is.1, is.2)
   rest-changed (DropContact name) suits v is = (others-drop chosen.contacts IsAsideContact v.contacts name is.0, is.1, is.2)
   rest-changed (PutDomain d) suits v is = (is.0, others-put chosen.domains IsAsideDomain v.domains d.name d suits is.1, is.2)
@@ -251,9 +240,8 @@ module _ (p : PolicyRules) (r : Option ℕ) (g : Names) (u : Registry) where
   rest-changed (RenameHost old h) suits v is = cond_both (may_rename v.hosts old h.name) (host_renamed old h v) v IsRest
       (λ may. (is.0, (λ name e at none. let was = remade-cases (with_host_renamed old h.name) v.domains name e at in subst IsAsideDomain was.2 (is.1 name was.0 was.1 none)), is.2))
       (λ else. is)
-  rest-changed (LapseContact name left) suits v is = absurd suits
-  rest-changed (LapseDomain name left) suits v is = absurd suits
   rest-changed (Post q what) suits v is = is
+  rest-changed _ suits v is = absurd suits
 
   rest-all : (changes : List Change) → AllSuit changes → (v : Registry) → IsRest v → IsRest (changed_all p changes v)
   rest-all [] suit v is = is
@@ -283,13 +271,12 @@ module _ (p : PolicyRules) (r : Option ℕ) (g : Names) (u : Registry) where
 
   swaps-any : (what : AccountChange) → SuitsAny p r g u what → (e : Posting) → IsAside e → Swaps what p e.what
   swaps-any (Charge l) suits e aside = charge-swaps p l suits e.what
-  swaps-any (RefundRunning x) suits e aside = absurd suits
   swaps-any (RefundTransfer x) suits e aside = refund-swaps p x e.what (aside x.roid suits)
   swaps-any (Lapse v) suits e aside = λ a. entries-swap e.what v a
   swaps-any (Notify n) suits e aside = tell-swaps p n e.what
-  swaps-any (Ack id) suits e aside = absurd suits
   swaps-any CountCommand suits e aside = (plain-swaps p e.what).0
   swaps-any TakeSerial suits e aside = (plain-swaps p e.what).1
+  swaps-any _ suits e aside = absurd suits
 
   module _ (t : ℕ) where
     abbrev fc : List ℕ → Contact → Lapsed Contact
@@ -363,8 +350,6 @@ module _ (p : PolicyRules) (r : Option ℕ) (g : Names) (u : Registry) where
     renamed-rest old h v false = refl
 
     commutes : (change : Change) → Suits p r g u change → (v : Registry) → IsRest p r g u v → lapsed_rest (changed p change v) ≡ changed p change (lapsed_rest v)
-    commutes (MoveClock m) suits v is = absurd suits
-    commutes (OpenAccount q) suits v is = absurd suits
     commutes (PutContact x) suits v is = with-contacts v (insert v.contacts x.name x) (insert (kept (left fc) v.contacts) x.name x)
         (kept-insert fc v.contacts x.name (contact-alone x.name suits) x) (given-inserted fc v.contacts x.name (contact-alone x.name suits) x)
     commutes (DropContact name) suits v is = with-contacts v (remove v.contacts name) (remove (kept (left fc) v.contacts) name)
@@ -376,9 +361,8 @@ module _ (p : PolicyRules) (r : Option ℕ) (g : Names) (u : Registry) where
     commutes (PutHost h) suits v is = refl
     commutes (DropHost name) suits v is = refl
     commutes (RenameHost old h) suits v is = renamed-rest old h v (may_rename v.hosts old h.name)
-    commutes (LapseContact name left) suits v is = absurd suits
-    commutes (LapseDomain name left) suits v is = absurd suits
     commutes (Post q what) suits v is = ap (λ (m : FinMap nat_cmp Account). record (lapsed_rest v) { accounts = m }) (give-posted q what (rest_postings v) (fits v is q what suits) v.accounts)
+    commutes _ suits v is = absurd suits
 
     commute-all : (changes : List Change) → AllSuit p r g u changes → (v : Registry) → IsRest p r g u v → lapsed_rest (changed_all p changes v) ≡ changed_all p changes (lapsed_rest v)
     commute-all [] suit v is = refl

@@ -63,11 +63,8 @@ module _ (p : PolicyRules) (r : ℕ) (cl_trid : Option (List ℕ)) (u : Registry
 
   contact-transferred : (q : Request) (o : TransferOp) (last : Option Transfer) (c : Contact) → (chosen q).contacts c.name ≡ true → Fit q (contact_transferred_if t o last c)
   contact-transferred q o None c put = tt
-  contact-transferred q ops.Request (Some x) c put = (put, (inr tt, tt))
   contact-transferred q ops.Query (Some x) c put = tt
-  contact-transferred q ops.Approve (Some x) c put = (put, (inr tt, tt))
-  contact-transferred q ops.Reject (Some x) c put = (put, (inr tt, tt))
-  contact-transferred q ops.Cancel (Some x) c put = (put, (inr tt, tt))
+  contact-transferred q _ (Some x) c put = (put, (inr tt, tt))
 
   -- what is seen of the contact that a request acts on alone
   contact-seen-at : (q : Request) (name : List ℕ)
@@ -102,8 +99,7 @@ module _ (p : PolicyRules) (r : ℕ) (cl_trid : Option (List ℕ)) (u : Registry
   domain-transferred q f ops.Request (Some x) d put named = (put, (inl refl, (inr tt, tt)))
   domain-transferred q f ops.Query (Some x) d put named = tt
   domain-transferred q f ops.Approve (Some x) d put named = (inr tt, (put, (inr tt, tt)))
-  domain-transferred q f ops.Reject (Some x) d put named = (put, (inr named, (inr tt, tt)))
-  domain-transferred q f ops.Cancel (Some x) d put named = (put, (inr named, (inr tt, tt)))
+  domain-transferred q f _ (Some x) d put named = (put, (inr named, (inr tt, tt)))
 
   -- what is seen of the domain that a request acts on alone
   seen-at : (q : Request) (name : List ℕ)
@@ -130,8 +126,6 @@ module _ (p : PolicyRules) (r : ℕ) (cl_trid : Option (List ℕ)) (u : Registry
 
   request-suits : (q : Request) → Fit q (changes_of p r t q (facts p r (comm q) u))
   unfolding changes_of
-  request-suits requests.Logout = tt
-  request-suits requests.Balance = tt
   request-suits (requests.CreateContact new) = (contact-named (requests.CreateContact new) new.name (in-itself new.name []), (inl refl, tt))
   request-suits (requests.CreateDomain new) = (domain-named (requests.CreateDomain new) (name_of new.name) (in-itself (name_of new.name) []), (inl refl, (inl refl, tt)))
   request-suits (requests.CreateHost new) = (tt, (inl refl, tt))
@@ -167,14 +161,8 @@ module _ (p : PolicyRules) (r : ℕ) (cl_trid : Option (List ℕ)) (u : Registry
       let q : Request = requests.TransferDomain name op secret in
       on-domain q (name_of name) (in-itself (name_of name) []) (domain_transfer_changes p r t op q (facts p r (comm q) u)) _ (seen-at q (name_of name)) tt (λ face transfer. tt) (λ face. tt)
       (λ known put roid. domain-transferred q (facts p r (comm q) u) op (transfer_after p r t op known.domain.sponsor known.domain.transfer) known.domain put roid)
-  request-suits requests.PollRequest = tt
   request-suits (requests.PollAck id) = (inl refl, tt)
-  request-suits (requests.CheckContact names) = tt
-  request-suits (requests.CheckDomain names) = tt
-  request-suits (requests.CheckHost names) = tt
-  request-suits (requests.InfoContact name secret) = tt
-  request-suits (requests.InfoDomain name secret) = tt
-  request-suits (requests.InfoHost name) = tt
+  request-suits _ = tt
 
 -- ---- the laws of a command
 

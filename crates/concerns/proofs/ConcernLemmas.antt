@@ -1,5 +1,5 @@
 -- Once what a command concerns has lapsed, nothing is due that it concerns.
-use Rattle.std.proofs.Common.{◌≡◌, ⊎_elim, ◌<◌, ℕ, Bool, true, false, ◌||◌, List, [], ◌∷◌, ◌++◌, Option, Some, None, option_map, refl, sym, ap, ◌∙◌}
+use Rattle.std.proofs.Common.{◌≡◌, ⊎_elim, ◌<◌, ℕ, Bool, true, false, ◌||◌, List, [], ◌∷◌, ◌++◌, Option, Some, None, option_map, refl, sym, ap, ◌∙◌, arith}
 use Rattle.std.proofs.lemmas.{Bool.{or_cases, or_from, or_left, or_parts, or_right, true_from_ne_false, true≢false}, Option.same_Some}
 use Rattle.std.proofs.lemmas.List.Folds.{list_any-append}
 use Rattle.std.specs.{Cmp.Lexicographic.{bytes_decides, slice_cmp, nat_list_cmp_total}, FinMap.{FinMap, get}, List.cons_option}
@@ -45,8 +45,7 @@ pub in-itself : (name : List ℕ) (names : List (List ℕ)) → is_in name (name
 in-itself name names = or_left (bytes_eq name name) (is_in name names) (bytes-itself name)
 
 any-cons : {A : Type 0} (test : A → Bool) (o : Option A) (rest : List A) → list_any test (cons_option o rest) ≡ (option_map_or test o false || list_any test rest)
-any-cons test None rest = refl
-any-cons test (Some x) rest = refl
+any-cons test o rest = grind arith
 
 any-filter_map : {A : Type 0} (f : List ℕ → Option A) (test : A → Bool) (y : A) → test y ≡ true → (x : List ℕ) (xs : List (List ℕ)) → is_in x xs ≡ true
     → f x ≡ Some y → list_any test (filter_map f xs) ≡ true

@@ -1,5 +1,5 @@
 -- What a command is judged by is the same whether all that is due has lapsed, or what it concerns.
-use Rattle.std.proofs.Common.{◌≡◌, ⊎_elim, ℕ, Bool, true, false, not, ◌&&◌, ◌||◌, List, [], ◌∷◌, map, Option, Some, None, is_some, option_and_then, option_map, refl, sym, ap, subst, ◌∙◌}
+use Rattle.std.proofs.Common.{◌≡◌, ⊎_elim, ℕ, Bool, true, false, not, ◌&&◌, ◌||◌, List, [], ◌∷◌, map, Option, Some, None, is_some, option_and_then, option_map, refl, sym, ap, subst, ◌∙◌, arith}
 use Rattle.std.proofs.lemmas.Bool.{cases_Bool, false_from_ne_true, or_parts, or_right}
 use Rattle.std.specs.{Cmp.Lexicographic.{slice_cmp, nat_list_cmp_total}, FinMap.{entries, get, values}, List.list_any, Str.bytes_eq}
 use Rattle.std.specs.{Option.option_map_or, Ordering.nat_cmp}
@@ -204,8 +204,7 @@ module _ (p : PolicyRules) (r : Option ℕ) (g : Names) (u : Registry) (is : IsS
   contact-there name = ap is_some (get-kept (slice_cmp nat_cmp) nat_list_cmp_total names_apart (left (λ name. lapse_contact t)) u.contacts name) ∙ by (get u.contacts name)
     where
       completed : (x : Contact) (o : Option Transfer) → is_some (contact_completed o x).object ≡ true
-      completed x None = refl
-      completed x (Some y) = refl
+      completed x o = grind arith
 
       by : (o : Option Contact) → is_some (option_map_or (λ x. (lapse_contact t x).object) o None) ≡ is_some o
       by None = refl

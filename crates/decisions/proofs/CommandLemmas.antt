@@ -3,7 +3,7 @@ use Rattle.std.proofs.Common.{◌≡◌, ℕ, nat_lt, ◌==◌, Bool, true, fals
 use Rattle.decisions.proofs.Words.{bytes_decides, contact_face_of, ContactFacts, domain_sight, domain_sponsor, RequestedName, seen_by_outsider}
 use Rattle.decisions.proofs.Words.{account_of, authorizes, contact_as, ContactFace, domain_seen, DomainFacts, is_anothers, PolicyRules, standing_of}
 use Rattle.decisions.proofs.Words.{bytes_eq, DomainFace, Full, FullDomain, is_party, not-false, or_parts, presented, refusal_of, Registry, Transfer}
-use Rattle.decisions.proofs.Words.{Asked, balance, Change, Command, Contact, Domain, face_of, Facts, facts, get, lookups, name_of, names, Request, Seen}
+use Rattle.decisions.proofs.Words.{Asked, balance, Change, Command, Contact, Domain, face_of, Facts, facts, get, lookups, name_of, Request, Seen}
 use Rattle.decisions.proofs.SightLemmas.{full_as, outside}
 use Rattle.facts.specs.Facts.{contact_at, contact_facts, contact_seen, domain_at, domain_facts, host_at, host_facts}
 use Rattle.protocol.specs.Requests.{contacts_asked, domains_asked, hosts_asked, presented_contact}

@@ -43,8 +43,7 @@ domain-left p t d P deleted aged transferred = domain-lapsed p t d P deleted (λ
 
 -- one that isn't deleted stays
 lived-stays : (p : PolicyRules) (t : ℕ) (d : Domain) (o : Option Transfer) → IsSome (lived p t o d).object
-lived-stays p t d None = refl
-lived-stays p t d (Some x) = refl
+lived-stays p t d o = grind arith
 
 -- ---- what is left of a contact
 
@@ -57,8 +56,7 @@ module _ (t : ℕ) (c : Contact) (P : Contact → Type 0) (same : P c) (transfer
   contact-left e found = by-completion (due_by t c.transfer) e refl found
 
 completed-stays : (c : Contact) (o : Option Transfer) → IsSome (contact_completed o c).object
-completed-stays c None = refl
-completed-stays c (Some x) = refl
+completed-stays c o = grind arith
 
 -- ---- what stands at a name
 

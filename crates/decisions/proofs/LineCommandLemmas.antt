@@ -8,7 +8,7 @@ use Rattle.decisions.proofs.Words.{false_from_ne_true, gained, get, HasBeen, Has
 use Rattle.decisions.proofs.Words.{is_pending_state, is_same_roid, IsDeletion, IsLineOf, IsRegistrar, IsRegistry, IsSettled, IsSound, last_clock, Line}
 use Rattle.decisions.proofs.Words.{list_any, name_of, new_domain, NewDomain, none-by, Order, order_decision, order_effect, PolicyRules, Post, Status}
 use Rattle.decisions.proofs.Words.{PutDomain, recursion_from_All, Registry, renewed_domain, Request, restored_domain, restoring_domain, Roid, same-roids}
-use Rattle.decisions.proofs.Words.{TakeSerial, Transfer, updated_domain, waits, WasGiven, with_account, with_command}
+use Rattle.decisions.proofs.Words.{TakeSerial, Transfer, updated_domain, WasGiven, with_account, with_command}
 use Rattle.decisions.proofs.WellFormedLemmas.{has-given, kept-counted, ungiven}
 use Rattle.decisions.proofs.LineKeepingLemmas.{AllFitLines, in_place, IsChargeIn, IsCharged, begun-by, lines-changed_all, lines-counted, lines-stay, on-again, on-same, rises}
 use Rattle.decisions.proofs.LineTransferLemmas.{asked-kept, lines-ended, lines-handed-over, post}

@@ -18,8 +18,7 @@ entered_lines (Notice m) ls = ls
 
 lines-entered : (what : LapseEntry) (a : Account) → (entered what a).lines ≡ entered_lines what a.lines
 lines-entered (Renewal r) a = refl
-lines-entered (Start x) a = refl
-lines-entered (Notice m) a = refl
+lines-entered _ a = refl
 
 -- what is posted into this registrar's account keeps the property of lines
 abbrev pub Keeps : (List Line → Type 0) → ℕ → Posting → Type 0

@@ -139,8 +139,7 @@ module _ (p : PolicyRules) (s : Registry) (r : ℕ) (line : Line) where
 -- begins when it did
 pub refund-begins : (b : Bool) (moment : ℕ) (roid : Roid) (last : Option ℕ) (l : Line)
     → begins_after roid last (cond b (record l { refunded = Some moment }) l) ≡ begins_after roid last l
-refund-begins true moment roid last l = refl
-refund-begins false moment roid last l = refl
+refund-begins b moment roid last l = grind arith
 
 pub refund-line : (b : Bool) (p : PolicyRules) (s : Registry) (moment : ℕ) → moment ≤ s.clock → (l : Line)
     → IsLineOf p s l → IsLineOf p s (cond b (record l { refunded = Some moment }) l)

@@ -223,8 +223,7 @@ module _ (p : PolicyRules) (t : ℕ) (name : List ℕ) (s : Registry) where
   others = record { contacts = λ n. true; domains = λ n. not (is_named name n) }
 
   chosen : {X : Type 0} (b : Bool) (l : Lapsed X) (x : X) → lapse_if (b || not b) l x ≡ l
-  chosen true l x = refl
-  chosen false l x = refl
+  chosen b l x = grind arith
 
   one-then-others : (lapse_some p others t (lapse_one p t subjects.Domain name s)).accounts ≡ (lapse_registry p t s).accounts
   unfolding accounts_at

@@ -4,7 +4,7 @@ use Rattle.decisions.proofs.Words.{contact_completed, contact_completion, domain
 use Rattle.decisions.proofs.Words.{account_of, completion, given_list, HasObjects, IsRegistrar, IsTransfer, LapseEntry, names_apart, PolicyRules, with_account}
 use Rattle.decisions.proofs.Words.{and_parts, cond_both, cond_some, Deletion, given, lapse_by, nat_tests, plus_years, postings, purge_at, slice_cmp, turns-are}
 use Rattle.decisions.proofs.Words.{Account, Contact, Domain, due_by, entered, entries, FinMap, gained, nat_cmp, Posting, Registry, Renewal, renewals, Transfer}
-use Rattle.decisions.proofs.Words.{fold, get, lapse, Lapsed, leaves, lived, moved, nat_le, Notice, posted, Purged, purged, raised, Start, turn, turns, ◌&&◌}
+use Rattle.decisions.proofs.Words.{fold, get, lapse, Lapsed, leaves, lived, moved, nat_le, posted, Purged, purged, raised, turn, turns, ◌&&◌}
 use Rattle.basis.proofs.EntryLaws.{Each, each_entry}
 use Rattle.decisions.proofs.{KeepingLemmas.kept-account, ViewLemmas.account-keep}
 
@@ -123,8 +123,7 @@ postings-to p s t is = postings-posted p t (IsToRegistrar p) s
 
 same-serial : (what : LapseEntry) (a : Account) → (entered what a).serial ≡ a.serial
 same-serial (Renewal r) a = refl
-same-serial (Start x) a = refl
-same-serial (Notice m) a = refl
+same-serial _ a = refl
 
 serial-entered : (r other : ℕ) (what : LapseEntry) (s : Registry) → (account_of r (with_account other (entered what) s)).serial ≡ (account_of r s).serial
 serial-entered r other what s = account-keep (λ (a : Account). a.serial ≡ (account_of r s).serial) s other (entered what) r (λ own same. same-serial what (account_of r s)) refl

@@ -19,8 +19,7 @@ use Rattle.model.specs.View.{View, Secrets, view_for, view_with, secrets_of}
 -- ---- the facts lie in the view
 
 some-map : {A B : Type 0} (f : A → B) (o : Option A) → is_some (option_map f o) ≡ is_some o
-some-map f None = refl
-some-map f (Some x) = refl
+some-map f o = grind arith
 
 -- what is found in a view
 finds_in : PolicyRules → ℕ → View → Lookups

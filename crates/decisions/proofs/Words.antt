@@ -58,7 +58,7 @@ pub use Rattle.protocol.specs.declared.command.Command.TheVariants.{Asked, Bad}
 pub use Rattle.protocol.specs.declared.{command.Command.Command, command.ContactUpdate.ContactUpdate, command.DomainUpdate.DomainUpdate}
 pub use Rattle.protocol.specs.declared.{command.HostUpdate.HostUpdate, command.NewContact.NewContact, command.NewDomain.NewDomain, command.NewHost.NewHost}
 pub use Rattle.protocol.specs.declared.{command.Request.Request, order.Order.Order, transfer.TransferOp.TransferOp}
-pub use Rattle.protocol.specs.declared.command.Request.TheVariants.{DeleteDomain, PollRequest, TransferContact, TransferDomain, CreateDomain, UpdateDomain}
+pub use Rattle.protocol.specs.declared.command.Request.TheVariants.{DeleteDomain, TransferContact, TransferDomain, CreateDomain, UpdateDomain}
 pub use Rattle.decisions.specs.{Askable.CanBeAsked, Askable.IsAskable, Transfers.domain_with_transfer, Transfers.transfer_line}
 pub use Rattle.decisions.specs.Changes.{changed, changed_all, host_renamed, may_rename, renamed, with_account, with_host_renamed, links_with_host_renamed}
 pub use Rattle.decisions.specs.Decisions.{charge, charge_line, deleted_domain, new_domain, renewed_domain, restored_domain, restoring_domain, updated_domain, decided, more_years, updated_contact}
@@ -79,5 +79,5 @@ pub use Rattle.std.specs.Ordering.{eq_by_cmp, nat_cmp, is_le, ordering_reverse}
 pub use Rattle.std.specs.Prelude.{IfSome, fold, ◌&&◌, nat_le, ◌||◌, is_some, option_map, unwrap_or}
 pub use Rattle.rules.proofs.RowLemmas.{refusing, StandsIn, unrefused}
 pub use Rattle.rules.specs.{Charges.charge_of, Conditions.domain_sponsor, Conditions.is_anothers, Deletion.goes_at_once, Rules.refusal_of, Rules.table_of}
-pub use Rattle.rules.specs.{Transfers.code_of_transfer, Transfers.transfer_after, Verdicts.code_granted, Verdicts.granted, Verdicts.unless_refused}
+pub use Rattle.rules.specs.{Transfers.transfer_after, Verdicts.granted, Verdicts.unless_refused}
 unfoldable pub use Rattle.rules.specs.Verdicts.{judged}

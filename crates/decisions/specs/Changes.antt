@@ -1,5 +1,5 @@
 -- The changes of a registry.
-use Rattle.std.specs.Prelude.{◌&&◌, ℕ, Bool, List, [], Option, Some, None, filter, not, fold, is_some, max, if◌then◌else◌}
+use Rattle.std.specs.Prelude.{◌&&◌, ℕ, Bool, List, [], Option, Some, filter, not, fold, is_some, max, if◌then◌else◌}
 use Rattle.std.specs.FinMap.{FinMap, get, insert, remove}
 use Rattle.std.specs.Ordering.{nat_cmp}
 use Rattle.std.specs.Cmp.Lexicographic.{slice_cmp}
@@ -15,7 +15,7 @@ use Rattle.objects.specs.declared.domain.Domain.{Domain}
 use Rattle.objects.specs.declared.domain.Links.{Links}
 use Rattle.objects.specs.declared.host.Host.{Host}
 use Rattle.objects.specs.declared.sight.Seen.{Seen}
-use Rattle.objects.specs.declared.sight.Seen.TheVariants.{Full, TransferParty, Public}
+use Rattle.objects.specs.declared.sight.Seen.TheVariants.{Full}
 use Rattle.objects.specs.Links.{has_name}
 use Rattle.decisions.specs.declared.change.Change.{Change}
 use Rattle.decisions.specs.declared.change.Change.TheVariants.{MoveClock, OpenAccount, PutContact, DropContact, PutDomain, DropDomain, PutHost, DropHost, RenameHost, LapseContact, LapseDomain, Post}
@@ -76,7 +76,5 @@ changed_all p changes s = fold (λ s change. changed p change s) s changes
 
 -- what an object makes change that is seen in full; else nothing changes
 abbrev pub in_full : {O F : Type 0} → (O → List Change) → Option (Seen O F) → List Change
-in_full changes None = []
 in_full changes (Some (Full o)) = changes o
-in_full changes (Some (TransferParty face transfer)) = []
-in_full changes (Some (Public face)) = []
+in_full changes _ = []

@@ -62,11 +62,8 @@ contact_with_transfer x c = record c { transfer = Some x }
 
 -- the contact after the operation that leaves its transfer so
 abbrev pub contact_after : TransferOp → Transfer → Contact → Contact
-contact_after ops.Request x c = contact_with_transfer x c
-contact_after ops.Query x c = contact_with_transfer x c
 contact_after ops.Approve x c = contact_handed_over x c
-contact_after ops.Reject x c = contact_with_transfer x c
-contact_after ops.Cancel x c = contact_with_transfer x c
+contact_after _ x c = contact_with_transfer x c
 
 abbrev pub contact_transferred : ℕ → TransferOp → Transfer → Contact → List Change
 contact_transferred t ops.Request x c = PutContact (contact_after ops.Request x c) ∷ tell x.losing_registrar t notices.TransferRequested c.name subjects.Contact ∷ []

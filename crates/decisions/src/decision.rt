@@ -212,15 +212,13 @@ impl<'a> Case<'a> {
         let Some(known) = known else {
             return Ok(Vec::new(self.alloc));
         };
-        match &known.seen {
-            Some(Seen::Full(full)) => {
-                let ending = ending(known, &full.domain, self.moment)?;
-                let refund = RunningRefund::of(&full.domain, self.moment);
-                let given = Change::Post(self.caller, AccountChange::RefundRunning(refund));
-                two(self.alloc, ending, given)
-            }
-            _ => Ok(Vec::new(self.alloc)),
-        }
+        let Some(Seen::Full(full)) = &known.seen else {
+            return Ok(Vec::new(self.alloc));
+        };
+        let ending = ending(known, &full.domain, self.moment)?;
+        let refund = RunningRefund::of(&full.domain, self.moment);
+        let given = Change::Post(self.caller, AccountChange::RefundRunning(refund));
+        two(self.alloc, ending, given)
     }
 
     /// A domain is registered for longer, and that is charged for.
@@ -232,14 +230,12 @@ impl<'a> Case<'a> {
             self.now.caller self.now.moment self.now.request.now self.now.facts.now (option_copied
             seen.entry)) }
     {
-        match seen {
-            Some(Seen::Full(known)) => {
-                let renewed = renewed_domain(&known.domain, self.request.years(), self.moment)?;
-                let line = self.charge(LineKind::Renew, known.domain.roid);
-                two(self.alloc, Change::PutDomain(renewed), line)
-            }
-            _ => Ok(Vec::new(self.alloc)),
-        }
+        let Some(Seen::Full(known)) = seen else {
+            return Ok(Vec::new(self.alloc));
+        };
+        let renewed = renewed_domain(&known.domain, self.request.years(), self.moment)?;
+        let line = self.charge(LineKind::Renew, known.domain.roid);
+        two(self.alloc, Change::PutDomain(renewed), line)
     }
 
     /// The restoration of a deleted domain is asked for.
@@ -250,13 +246,11 @@ impl<'a> Case<'a> {
         ensures { IfOk result (λ changes. changes.items
             ≡ spec.restore_changes self.now.moment (option_copied seen.entry)) }
     {
-        match seen {
-            Some(Seen::Full(known)) => {
-                let restoring = restoring_domain(&known.domain, self.moment)?;
-                only(self.alloc, Change::PutDomain(restoring))
-            }
-            _ => Ok(Vec::new(self.alloc)),
-        }
+        let Some(Seen::Full(known)) = seen else {
+            return Ok(Vec::new(self.alloc));
+        };
+        let restoring = restoring_domain(&known.domain, self.moment)?;
+        only(self.alloc, Change::PutDomain(restoring))
     }
 
     /// A deleted domain is restored, and charged for the years that it needs.
@@ -268,14 +262,12 @@ impl<'a> Case<'a> {
             self.now.caller self.now.moment self.now.request.now self.now.facts.now (option_copied
             seen.entry)) }
     {
-        match seen {
-            Some(Seen::Full(known)) => {
-                let restored = restored_domain(&known.domain, self.moment)?;
-                let line = self.charge(LineKind::Restore, known.domain.roid);
-                two(self.alloc, Change::PutDomain(restored), line)
-            }
-            _ => Ok(Vec::new(self.alloc)),
-        }
+        let Some(Seen::Full(known)) = seen else {
+            return Ok(Vec::new(self.alloc));
+        };
+        let restored = restored_domain(&known.domain, self.moment)?;
+        let line = self.charge(LineKind::Restore, known.domain.roid);
+        two(self.alloc, Change::PutDomain(restored), line)
     }
 
     fn update_contact(
@@ -286,13 +278,11 @@ impl<'a> Case<'a> {
         ensures { IfOk result (λ changes. changes.items ≡ spec.contact_changes self.now.moment
             update.now (option_copied seen.entry)) }
     {
-        match seen {
-            Some(Seen::Full(contact)) => {
-                let contact = self.updated_contact(update, contact)?;
-                only(self.alloc, Change::PutContact(contact))
-            }
-            _ => Ok(Vec::new(self.alloc)),
-        }
+        let Some(Seen::Full(contact)) = seen else {
+            return Ok(Vec::new(self.alloc));
+        };
+        let contact = self.updated_contact(update, contact)?;
+        only(self.alloc, Change::PutContact(contact))
     }
 
     fn update_domain(
@@ -303,13 +293,11 @@ impl<'a> Case<'a> {
         ensures { IfOk result (λ changes. changes.items ≡ spec.domain_changes self.now.moment
             update.now (option_copied seen.entry)) }
     {
-        match seen {
-            Some(Seen::Full(known)) => {
-                let domain = self.updated_domain(update, &known.domain)?;
-                only(self.alloc, Change::PutDomain(domain))
-            }
-            _ => Ok(Vec::new(self.alloc)),
-        }
+        let Some(Seen::Full(known)) = seen else {
+            return Ok(Vec::new(self.alloc));
+        };
+        let domain = self.updated_domain(update, &known.domain)?;
+        only(self.alloc, Change::PutDomain(domain))
     }
 
     fn update_host(

@@ -107,9 +107,7 @@ module _ (l : Line) (deposit : is_charge l ≡ false) where
   no-period kind z = absurd (omega (arith, z))
 
   never : (a b : Bool) → (a && (b && false)) ≡ false
-  never true true = refl
-  never true false = refl
-  never false b = refl
+  never a b = grind arith
 
   from-none : (p : PolicyRules) (t : ℕ) (since started : Option ℕ) → runs_from p t since started None ≡ false
   from-none p t since None = refl

@@ -1,5 +1,5 @@
 -- What another registrar's command changes, in registries that are one but for what is redacted.
-use Rattle.std.proofs.Common.{◌≡◌, ◌≢◌, inl, inr, ℕ, ◌+◌, ◌*◌, Bool, true, false, cond, not, ◌&&◌, ◌||◌, ◌==◌, List, [], ◌∷◌, Option, Some, None, is_none, option_and_then, option_map, refl, sym, ap, subst, ◌∙◌, eqb-true}
+use Rattle.std.proofs.Common.{◌≡◌, ◌≢◌, inl, inr, ℕ, ◌+◌, ◌*◌, Bool, true, false, cond, not, ◌&&◌, ◌||◌, ◌==◌, List, [], ◌∷◌, Option, Some, None, is_none, option_and_then, option_map, refl, sym, ap, subst, ◌∙◌, eqb-true, arith}
 use Rattle.std.proofs.{lemmas.Bool.ne_eqb, Math.Bool.or-false}
 use Rattle.std.specs.Str.{bytes_eq}
 use Rattle.accounts.specs.declared.line.LineKind.TheVariants as lines
@@ -423,11 +423,7 @@ module _ (p : PolicyRules) (r q : ℕ) (other : q ≢ r) (touched : Objects) (s 
       )
 
     query-changes-nothing : (u : ℕ) (seen : Option (Seen Contact ContactFace)) → contact_transfer_changes p q u ops.Query seen ≡ []
-    query-changes-nothing u (Some (Full c)) = by c.transfer
-      where
-        by : (last : Option Transfer) → contact_transferred_if u ops.Query last c ≡ []
-        by None = refl
-        by (Some y) = refl
+    query-changes-nothing u (Some (Full c)) = grind arith
     query-changes-nothing u seen = refl
 
     module _ (mine yours : Option (List ℕ)) where
@@ -476,11 +472,7 @@ module _ (p : PolicyRules) (r q : ℕ) (other : q ≢ r) (touched : Objects) (s 
       )
 
     domain-query-changes-nothing : (u : ℕ) (request : Request) (f : Facts) (seen : Option (Seen FullDomain DomainFace)) → domain_transfer_changes p q u ops.Query request f seen ≡ []
-    domain-query-changes-nothing u request f (Some (Full full)) = by full.domain.transfer
-      where
-        by : (last : Option Transfer) → domain_transferred_if p q u ops.Query request f last full.domain ≡ []
-        by None = refl
-        by (Some y) = refl
+    domain-query-changes-nothing u request f (Some (Full full)) = grind arith
     domain-query-changes-nothing u request f seen = refl
 
     module _ (mine yours : Option (List ℕ)) where

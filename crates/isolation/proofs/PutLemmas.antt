@@ -1,5 +1,5 @@
 -- What commands put in the place of an object is alike, where the object is one but for what is redacted.
-use Rattle.std.proofs.Common.{◌≡◌, ℕ, Bool, true, false, not, ◌&&◌, ◌==◌, List, [], Option, Some, None, refl, sym, ap, ◌∙◌}
+use Rattle.std.proofs.Common.{arith, ◌≡◌, ℕ, Bool, true, false, not, ◌&&◌, ◌==◌, List, [], Option, Some, None, refl, sym, ap, ◌∙◌}
 use Rattle.lifecycle.specs.{Lapse.{contact_handed_over, gained, handed_over}, Transfers.{ended, requested}}
 use Rattle.objects.specs.declared.transfer.TransferState.TheVariants.{ClientApproved}
 use Rattle.protocol.specs.declared.transfer.TransferOp.TheVariants as ops
@@ -19,12 +19,10 @@ use Rattle.protocol.specs.declared.command.Request.TheVariants.{TransferDomain}
 update-by : (out : Bool) (u : ContactUpdate) (secret : List ℕ) (postal : Postal) (voice : Option (List ℕ)) (mail : List ℕ) (x : Contact)
     → left_out out (or_old u.secret secret) (or_old u.postal postal) (or_else u.voice voice) (or_old u.mail mail) x
     ≡ left_out out (or_old u.secret (blank_if out [] secret)) (or_old u.postal (blank_if out no_postal postal)) (or_else u.voice (blank_if out None voice)) (or_old u.mail (blank_if out [] mail)) x
-update-by true u secret postal voice mail x = refl
-update-by false u secret postal voice mail x = refl
+update-by out u secret postal voice mail x = grind arith
 
 secret-by : (out : Bool) (given : Option (List ℕ)) (secret : List ℕ) (x : Domain) → with_secret (blank_if out [] (or_old given secret)) x ≡ with_secret (blank_if out [] (or_old given (blank_if out [] secret))) x
-secret-by true given secret x = refl
-secret-by false given secret x = refl
+secret-by out given secret x = grind arith
 
 module _ (r : ℕ) (touched : Objects) where
   pub contact-updated : (t : ℕ) (u : ContactUpdate) (c : Contact) → redacted_contact r touched (updated_contact t u c) ≡ redacted_contact r touched (updated_contact t u (redacted_contact r touched c))

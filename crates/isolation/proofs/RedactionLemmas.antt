@@ -1,5 +1,5 @@
 -- What is left out once is left out twice, and more is left out of what is left.
-use Rattle.std.proofs.Common.{◌≡◌, ◌≢◌, ℕ, Bool, true, false, cond, ◌&&◌, ◌==◌, List, [], Option, Some, None, option_map, refl, sym, ap, ◌∙◌}
+use Rattle.std.proofs.Common.{arith, ◌≡◌, ◌≢◌, ℕ, Bool, true, false, cond, ◌&&◌, ◌==◌, List, [], Option, Some, None, option_map, refl, sym, ap, ◌∙◌}
 use Rattle.isolation.proofs.AccountLemmas.{filter-twice}
 use Rattle.isolation.proofs.Words.{unwrap_or, nat_cmp_total, slice_cmp, nat_list_cmp_total, FinMap, get, nat_cmp-IsAntisymmetric, nat_cmp, and_from}
 use Rattle.isolation.proofs.Words.{and_parts, eq-eqb, Account, Line, empty_account, map_values, names_apart, get-map_values}
@@ -22,14 +22,10 @@ left_out out secret postal voice mail c = with_data (blank_if out [] secret) (bl
 -- what is left out first is left out then
 pub left_out-twice : (b c : Bool) → (b ≡ true → c ≡ true) → (secret : List ℕ) (postal : Postal) (voice : Option (List ℕ)) (mail : List ℕ) (x : Contact)
     → left_out c secret postal voice mail x ≡ left_out c (blank_if b [] secret) (blank_if b no_postal postal) (blank_if b None voice) (blank_if b [] mail) x
-left_out-twice true true more secret postal voice mail x = refl
-left_out-twice true false more secret postal voice mail x = let never : false ≡ true = more refl in absurd cc
-left_out-twice false c more secret postal voice mail x = refl
+left_out-twice b c more secret postal voice mail x = grind arith
 
 pub secret-twice : (b c : Bool) → (b ≡ true → c ≡ true) → (secret : List ℕ) (d : Domain) → with_secret (blank_if c [] secret) d ≡ with_secret (blank_if c [] (blank_if b [] secret)) d
-secret-twice true true more secret d = refl
-secret-twice true false more secret d = let never : false ≡ true = more refl in absurd cc
-secret-twice false c more secret d = refl
+secret-twice b c more secret d = grind arith
 
 -- what is left out stays so, where who is no party stays none
 pub still-out : (a b c : Bool) → (b ≡ true → c ≡ true) → (a && b) ≡ true → (a && c) ≡ true

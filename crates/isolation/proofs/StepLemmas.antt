@@ -9,7 +9,7 @@ use Rattle.protocol.specs.{Codes.is_accepted, declared.{code.Code.Code, order.{O
 use Rattle.protocol.specs.declared.order.Order.TheVariants as orders
 use Rattle.decisions.specs.Decisions.{changes_after, changes_of}
 use Rattle.decisions.specs.Orders.{cents_of, deposit_line, deposited, deposited_to, order_answer, order_changes, order_effect, ordered}
-use Rattle.decisions.proofs.AcceptedLemmas.{carried-out}
+use Rattle.rules.proofs.LawLemmas.{granting}
 use Rattle.rules.specs.Verdicts.{granted, judged, unless_refused}
 use Rattle.isolation.specs.Runs.{answer_to, command, date, dated, effect_of, inspection, is_asked_by, look_up, order, reply, shown}
 use Rattle.isolation.proofs.ChangeLemmas.{AreAlikeChanges, IsAlikeChange, changed-alike, deposited-alike, give-alike, put-contact-alike, put-domain-alike, same-change, same-changes}
@@ -29,7 +29,7 @@ accepted-changes : (p : PolicyRules) (q u : ℕ) (cl_trid : Option (List ℕ)) (
 unfolding changes_after judged
 accepted-changes p q u cl_trid request f taken =
     ap (λ (refusal : Option Code). cond (is_accepted (unless_refused refusal (granted p q u request f)).code) (changes_of p q u request f) []) taken
-    ∙ ap (λ (b : Bool). cond b (changes_of p q u request f) []) (carried-out request f)
+    ∙ ap (λ (b : Bool). cond b (changes_of p q u request f) []) (granting request f)
 
 refused-changes : (p : PolicyRules) (q u : ℕ) (cl_trid : Option (List ℕ)) (request : Request) (f : Facts) (code : Code) → refusal_of p q u request f ≡ Some code
     → changes_after p q u (Asked cl_trid request) f (judged p q u (Asked cl_trid request) f).code ≡ []
@@ -40,7 +40,7 @@ refused-changes p q u cl_trid request f code refused =
 
 accepted-code : (p : PolicyRules) (q u : ℕ) (cl_trid : Option (List ℕ)) (request : Request) (f : Facts) → refusal_of p q u request f ≡ None → is_accepted (judged p q u (Asked cl_trid request) f).code ≡ true
 unfolding judged
-accepted-code p q u cl_trid request f taken = ap (λ (refusal : Option Code). is_accepted (unless_refused refusal (granted p q u request f)).code) taken ∙ carried-out request f
+accepted-code p q u cl_trid request f taken = ap (λ (refusal : Option Code). is_accepted (unless_refused refusal (granted p q u request f)).code) taken ∙ granting request f
 
 refused-code : (p : PolicyRules) (q u : ℕ) (cl_trid : Option (List ℕ)) (request : Request) (f : Facts) (code : Code) → refusal_of p q u request f ≡ Some code → is_accepted (judged p q u (Asked cl_trid request) f).code ≡ false
 unfolding judged

@@ -1,5 +1,5 @@
 -- Time passes alike in registries that are one but for what is redacted.
-use Rattle.std.proofs.Common.{◌≡◌, ℕ, zero, suc, max, Bool, true, false, cond, not, ◌&&◌, ◌||◌, ◌==◌, nat_le, nat_lt, List, [], ◌∷◌, ◌++◌, map, Option, Some, None, option_map, refl, sym, ap, ap₂, ◌∙◌}
+use Rattle.std.proofs.Common.{◌≡◌, ℕ, zero, suc, max, Bool, true, false, cond, not, ◌&&◌, ◌||◌, ◌==◌, nat_le, nat_lt, List, [], ◌∷◌, ◌++◌, map, arith, Option, Some, None, option_map, refl, sym, ap, ap₂, ◌∙◌}
 use Rattle.std.specs.Option.{option_map_or}
 use Rattle.basis.specs.Sweeps.{given, given_list, kept}
 use Rattle.basis.proofs.ApartLaws.{get-kept}
@@ -22,9 +22,7 @@ handed-elsewhere r sponsor t None x after due same ended stranger = absurd cc
 handed-elsewhere r sponsor t (Some y) x after due same ended stranger = by (sponsor == r) (is_pending_state y.state) (nat_le y.ac_date t) due stranger
   where
     coming : (b c : Bool) → not (b || c) ≡ true → c ≡ false
-    coming true c e = absurd cc
-    coming false true e = absurd cc
-    coming false false e = refl
+    coming b c e = grind arith
 
     over : (b : Bool) → b ≡ false → not (b || (is_pending_state after.state && (after.requester == r))) ≡ true
     over b e = ap (λ (c : Bool). not (c || (is_pending_state after.state && (after.requester == r)))) e ∙ ap (λ (c : Bool). not (c && (after.requester == r))) ended

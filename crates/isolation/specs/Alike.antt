@@ -23,7 +23,7 @@ use Rattle.decisions.specs.declared.change.Change.TheVariants.{MoveClock, OpenAc
 use Rattle.decisions.specs.Decisions.{or_old}
 use Rattle.decisions.specs.Steps.{decision}
 use Rattle.isolation.specs.Redaction.{Objects}
-use Rattle.isolation.specs.Runs.{Answer, Question, answer_to, code, command, date, dated, inspected, inspection, is_asked_by, left_by_question, look_up, order, reply, shown}
+use Rattle.isolation.specs.Runs.{Answer, Question, answer_to, code, command, is_asked_by, left_by_question, order, reply}
 
 -- ---- hidden arguments
 
@@ -114,18 +114,15 @@ puts roid (Post r what) = false
 -- that presents a secret sets none; and two secrets of one object can both be right only where it is touched
 -- already. What is touched stays so.
 abbrev pub touched_by : PolicyRules → Pair → Registry → Objects → Objects
-touched_by p (same x) s touched = touched
 touched_by p (hidden q cl_trid request h) s touched = λ roid. touched roid || (is_none (asks_of request).secret && list_any (puts roid) (decision p q (Asked cl_trid request) s).changes)
-touched_by p (deposits registrar cents other) s touched = touched
+touched_by p _ s touched = touched
 
 -- ---- what is asked of the questions of a pair
 
 abbrev pub code_given : Answer → Option Code
 code_given (reply a) = Some a.code
 code_given (code a) = Some a
-code_given (dated t) = None
-code_given (shown part) = None
-code_given (inspected s) = None
+code_given _ = None
 
 -- it presents no right secret of an object that is touched
 pub record PresentsNone (touched : Objects) (c : Command) (s : Registry) : Type 0 where
@@ -136,10 +133,7 @@ pub record PresentsNone (touched : Objects) (c : Command) (s : Registry) : Type 
 
 abbrev pub PresentsNoneFor : ℕ → Objects → Question → Registry → Type 0
 PresentsNoneFor r touched (command q c) s = q ≡ r → PresentsNone touched c s
-PresentsNoneFor r touched (order o) s = Unit {0}
-PresentsNoneFor r touched date s = Unit {0}
-PresentsNoneFor r touched look_up s = Unit {0}
-PresentsNoneFor r touched inspection s = Unit {0}
+PresentsNoneFor r touched _ s = Unit {0}
 
 -- What differs is others'. What the registrar can't have asked is answered by one code in both. And in
 -- neither does the registrar present a right secret of what is touched, as the registries are then.

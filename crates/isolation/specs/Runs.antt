@@ -43,9 +43,7 @@ answer_to p inspection s = inspected s
 abbrev pub effect_of : PolicyRules → Question → Registry → Registry
 effect_of p (command r c) s = effect p r c s
 effect_of p (order o) s = order_effect p o s
-effect_of p date s = s
-effect_of p look_up s = s
-effect_of p inspection s = s
+effect_of p _ s = s
 
 -- The answer is that of the registry at the moment of the call, and what is left is the effect there.
 pub record IsCall (p : PolicyRules) (moment : ℕ) (q : Question) (before after : Registry) (a : Answer) : Type 0 where
