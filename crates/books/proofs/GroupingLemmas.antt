@@ -10,7 +10,7 @@ use Rattle.model.specs.Registry.{Registry, account_of}
 use Rattle.objects.specs.declared.host.Host.{Host}
 use Rattle.policy.specs.Rules.{PolicyRules}
 use Rattle.decisions.specs.{Changes.{changed, changed_all, host_renamed, may_rename, with_account}, declared.change.Change.Change}
-use Rattle.decisions.specs.declared.change.Change.TheVariants.{MoveClock, OpenAccount, PutContact, DropContact, PutDomain, DropDomain, PutHost, DropHost, RenameHost, LapseContact, LapseDomain, Post}
+use Rattle.decisions.specs.declared.change.Change.TheVariants.{OpenAccount, RenameHost, Post}
 use Rattle.books.specs.{Book.{Stored, with_changes}, Tables.{posted_all, posted_to}, declared.grouping.Parted.Parted}
 use Rattle.books.specs.inner.Grouping.{account_of_change, done_by, first_account, is_of_account, others, posts_of}
 use Rattle.books.proofs.PutLemmas.{changed-put}
@@ -35,16 +35,8 @@ module _ (p : PolicyRules) where
   kind : (c : Change) → OfAccount c ⊎ OfObjects c
   kind (OpenAccount r) = inl (r, refl, λ s. refl)
   kind (Post r what) = inl (r, refl, λ s. refl)
-  kind (MoveClock t) = inr (refl, λ r f s. refl)
-  kind (PutContact c) = inr (refl, λ r f s. refl)
-  kind (DropContact name) = inr (refl, λ r f s. refl)
-  kind (PutDomain d) = inr (refl, λ r f s. refl)
-  kind (DropDomain name) = inr (refl, λ r f s. refl)
-  kind (PutHost h) = inr (refl, λ r f s. refl)
-  kind (DropHost name) = inr (refl, λ r f s. refl)
   kind (RenameHost old h) = inr (refl, λ r f s. renamed-beside old h r f s (may_rename s.hosts old h.name))
-  kind (LapseContact name left) = inr (refl, λ r f s. refl)
-  kind (LapseDomain name left) = inr (refl, λ r f s. refl)
+  kind _ = inr (refl, λ r f s. refl)
 
   module _ (r : ℕ) where
     is_itself : nat_eq r r ≡ true

@@ -36,22 +36,11 @@ fn face_of_found_domain<R: Records>(
         (option_map (spec.domain_face policy.now (R.kept records.old).content.registry) domain.now)
         (R.kept records.old) (R.kept records.new) }
 {
-    match domain {
-        None => Ok(None),
-        Some(domain) => Ok(Some(face_of_domain(records, domain, policy)?)),
-    }
-}
-
-fn face_of_domain<R: Records>(
-    records: &mut R,
-    domain: &Domain,
-    policy: &Policy,
-) -> Result<DomainFace, BookFault>
-    ensures { Finds result (spec.domain_face policy.now (R.kept records.old).content.registry
-        domain.now) (R.kept records.old) (R.kept records.new) }
-{
+    let Some(domain) = domain else {
+        return Ok(None);
+    };
     let standing = standing_now(records, policy, domain)?;
-    Ok(domain.face(records.alloc(), standing)?)
+    Ok(Some(domain.face(records.alloc(), standing)?))
 }
 
 pub(crate) fn host_face<R: Records>(
@@ -76,13 +65,11 @@ fn face_of_found_host<R: Records>(
         (option_map (spec.host_face policy.now (R.kept records.old).content.registry name.now)
         host.now) (R.kept records.old) (R.kept records.new) }
 {
-    match host {
-        None => Ok(None),
-        Some(host) => {
-            let linked = records.is_linked_host(name)?;
-            Ok(Some(face_of_host(records, name, host, linked, policy)?))
-        }
-    }
+    let Some(host) = host else {
+        return Ok(None);
+    };
+    let linked = records.is_linked_host(name)?;
+    Ok(Some(face_of_host(records, name, host, linked, policy)?))
 }
 
 /// The face of a host, given whether a domain names it.
@@ -143,13 +130,11 @@ fn face_of_found_contact<R: Records>(
     ensures { Finds result (option_map (spec.contact_face (R.kept records.old).content.registry
         name.now) contact.now) (R.kept records.old) (R.kept records.new) }
 {
-    match contact {
-        None => Ok(None),
-        Some(contact) => {
-            let linked = records.is_linked_contact(name)?;
-            Ok(Some(face_of_contact(records.alloc(), linked, contact)?))
-        }
-    }
+    let Some(contact) = contact else {
+        return Ok(None);
+    };
+    let linked = records.is_linked_contact(name)?;
+    Ok(Some(face_of_contact(records.alloc(), linked, contact)?))
 }
 
 /// The face of a contact, given whether a domain names it.

@@ -359,25 +359,12 @@ fn found_domain<R: Records>(
         (option_map (domain_sight policy.now caller (R.kept records.old).content.registry
         (option_copied presented.entry)) domain.now) (R.kept records.old) (R.kept records.new) }
 {
-    match domain {
-        None => Ok(None),
-        Some(domain) => Ok(Some(seen_domain(records, caller, policy, presented, domain)?)),
-    }
-}
-
-/// What the registrar sees of a domain, that presents a secret or none.
-fn seen_domain<R: Records>(
-    records: &mut R,
-    caller: RegistrarNo,
-    policy: &Policy,
-    presented: Option<&Text>,
-    domain: &Domain,
-) -> Result<Seen<FullDomain, DomainFace>, BookFault>
-    ensures { Finds result (domain_sight policy.now caller (R.kept records.old).content.registry
-        (option_copied presented.entry) domain.now) (R.kept records.old) (R.kept records.new) }
-{
+    let Some(domain) = domain else {
+        return Ok(None);
+    };
     let standing = standing_now(records, policy, domain)?;
-    Ok(domain.seen_by(records.alloc(), caller, presented, standing)?)
+    let seen = domain.seen_by(records.alloc(), caller, presented, standing)?;
+    Ok(Some(seen))
 }
 
 /// The graces that run for a domain, and the phase of its deletion.

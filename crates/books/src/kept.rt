@@ -85,6 +85,16 @@ fn refusals_of(refuses: bool, refused: u64) -> u64
     if refuses { refused } else { 0 }
 }
 
+/// What the records answer. After a fault of theirs the book goes back.
+macro_rules! answered {
+    ($book:ident, $answer:expr) => {
+        match $answer {
+            Ok(answer) => Ok(answer),
+            Err(fault) => Err($book.rollback_and_count(fault)),
+        }
+    };
+}
+
 impl<R: Records> Book for Kept<R> {
     ghost use Rattle.books.specs.Kept.{none_refused, state_of};
 
@@ -103,24 +113,15 @@ impl<R: Records> Book for Kept<R> {
     }
 
     fn ready(&mut self) -> Result<Ready, BookFault> {
-        match self.records.ready() {
-            Ok(ready) => Ok(ready),
-            Err(fault) => Err(self.rollback_and_count(fault)),
-        }
+        answered!(self, self.records.ready())
     }
 
     fn clock(&mut self) -> Result<Moment, BookFault> {
-        match self.records.clock() {
-            Ok(clock) => Ok(clock),
-            Err(fault) => Err(self.rollback_and_count(fault)),
-        }
+        answered!(self, self.records.clock())
     }
 
     fn terms(&mut self) -> Result<Option<Terms>, BookFault> {
-        match self.records.terms() {
-            Ok(terms) => Ok(terms),
-            Err(fault) => Err(self.rollback_and_count(fault)),
-        }
+        answered!(self, self.records.terms())
     }
 
     fn facts_for(
@@ -129,17 +130,14 @@ impl<R: Records> Book for Kept<R> {
         command: &Command,
         policy: &Policy,
     ) -> Result<Facts, BookFault> {
-        match finding::facts_for(&mut self.records, caller, command, policy) {
-            Ok(facts) => Ok(facts),
-            Err(fault) => Err(self.rollback_and_count(fault)),
-        }
+        answered!(
+            self,
+            finding::facts_for(&mut self.records, caller, command, policy)
+        )
     }
 
     fn object_at(&mut self, kind: ObjectKind, name: &Text) -> Result<Option<Object>, BookFault> {
-        match finding::object_at(&mut self.records, kind, name) {
-            Ok(object) => Ok(object),
-            Err(fault) => Err(self.rollback_and_count(fault)),
-        }
+        answered!(self, finding::object_at(&mut self.records, kind, name))
     }
 
     fn domain_face(
@@ -147,38 +145,23 @@ impl<R: Records> Book for Kept<R> {
         name: &Text,
         policy: &Policy,
     ) -> Result<Option<DomainFace>, BookFault> {
-        match faces::domain_face(&mut self.records, name, policy) {
-            Ok(face) => Ok(face),
-            Err(fault) => Err(self.rollback_and_count(fault)),
-        }
+        answered!(self, faces::domain_face(&mut self.records, name, policy))
     }
 
     fn host_face(&mut self, name: &Text, policy: &Policy) -> Result<Option<HostFace>, BookFault> {
-        match faces::host_face(&mut self.records, name, policy) {
-            Ok(face) => Ok(face),
-            Err(fault) => Err(self.rollback_and_count(fault)),
-        }
+        answered!(self, faces::host_face(&mut self.records, name, policy))
     }
 
     fn contact_face(&mut self, name: &Text) -> Result<Option<ContactFace>, BookFault> {
-        match faces::contact_face(&mut self.records, name) {
-            Ok(face) => Ok(face),
-            Err(fault) => Err(self.rollback_and_count(fault)),
-        }
+        answered!(self, faces::contact_face(&mut self.records, name))
     }
 
     fn zone_data(&mut self, policy: &Policy) -> Result<ZoneData, BookFault> {
-        match zone_data(&mut self.records, policy.zone()) {
-            Ok(zone) => Ok(zone),
-            Err(fault) => Err(self.rollback_and_count(fault)),
-        }
+        answered!(self, zone_data(&mut self.records, policy.zone()))
     }
 
     fn lines(&mut self, registrar: RegistrarNo) -> Result<Lines, BookFault> {
-        match self.records.lines(registrar) {
-            Ok(lines) => Ok(lines),
-            Err(fault) => Err(self.rollback_and_count(fault)),
-        }
+        answered!(self, self.records.lines(registrar))
     }
 
     fn due(
@@ -187,10 +170,7 @@ impl<R: Records> Book for Kept<R> {
         most: Option<u32>,
         policy: &Policy,
     ) -> Result<Seq<Due>, BookFault> {
-        match self.records.due(moment, most, policy) {
-            Ok(due) => Ok(due),
-            Err(fault) => Err(self.rollback_and_count(fault)),
-        }
+        answered!(self, self.records.due(moment, most, policy))
     }
 
     fn due_for(
@@ -200,10 +180,10 @@ impl<R: Records> Book for Kept<R> {
         moment: Moment,
         policy: &Policy,
     ) -> Result<Seq<Due>, BookFault> {
-        match concerning::due_for(&mut self.records, caller, command, moment, policy) {
-            Ok(due) => Ok(due),
-            Err(fault) => Err(self.rollback_and_count(fault)),
-        }
+        answered!(
+            self,
+            concerning::due_for(&mut self.records, caller, command, moment, policy)
+        )
     }
 
     fn due_at(
@@ -213,38 +193,26 @@ impl<R: Records> Book for Kept<R> {
         moment: Moment,
         policy: &Policy,
     ) -> Result<Seq<Due>, BookFault> {
-        match concerning::due_at(&mut self.records, kind, name, moment, policy) {
-            Ok(due) => Ok(due),
-            Err(fault) => Err(self.rollback_and_count(fault)),
-        }
+        answered!(
+            self,
+            concerning::due_at(&mut self.records, kind, name, moment, policy)
+        )
     }
 
     fn begin(&mut self) -> Result<(), BookFault> {
-        match self.records.begin() {
-            Ok(()) => Ok(()),
-            Err(fault) => Err(self.rollback_and_count(fault)),
-        }
+        answered!(self, self.records.begin())
     }
 
     fn apply(&mut self, changes: Seq<Change>, policy: &Policy) -> Result<(), BookFault> {
-        match applying::apply(&mut self.records, changes, policy) {
-            Ok(()) => Ok(()),
-            Err(fault) => Err(self.rollback_and_count(fault)),
-        }
+        answered!(self, applying::apply(&mut self.records, changes, policy))
     }
 
     fn keep_terms(&mut self, terms: Terms) -> Result<(), BookFault> {
-        match self.records.set_terms(terms) {
-            Ok(()) => Ok(()),
-            Err(fault) => Err(self.rollback_and_count(fault)),
-        }
+        answered!(self, self.records.set_terms(terms))
     }
 
     fn commit(&mut self) -> Result<(), BookFault> {
-        match self.records.commit() {
-            Ok(()) => Ok(()),
-            Err(fault) => Err(self.rollback_and_count(fault)),
-        }
+        answered!(self, self.records.commit())
     }
 
     fn back(&mut self) {

@@ -97,6 +97,17 @@ impl<B: Book> OnceBook<B> {
     }
 }
 
+/// What the other book answers, unless the call that begins is the one that is refused.
+macro_rules! unless_next {
+    ($book:ident, $answer:expr) => {
+        if $book.is_next() {
+            $book.rollback_and_count()
+        } else {
+            $answer
+        }
+    };
+}
+
 impl<B: Book> Book for OnceBook<B> {
     ghost use Rattle.std.specs.Prelude.{true};
     ghost use Rattle.books.specs.Kept.{none_refused};
@@ -117,24 +128,15 @@ impl<B: Book> Book for OnceBook<B> {
     }
 
     fn ready(&mut self) -> Result<Ready, BookFault> {
-        if self.is_next() {
-            return self.rollback_and_count();
-        }
-        self.inner.ready()
+        unless_next!(self, self.inner.ready())
     }
 
     fn clock(&mut self) -> Result<Moment, BookFault> {
-        if self.is_next() {
-            return self.rollback_and_count();
-        }
-        self.inner.clock()
+        unless_next!(self, self.inner.clock())
     }
 
     fn terms(&mut self) -> Result<Option<Terms>, BookFault> {
-        if self.is_next() {
-            return self.rollback_and_count();
-        }
-        self.inner.terms()
+        unless_next!(self, self.inner.terms())
     }
 
     fn facts_for(
@@ -143,17 +145,11 @@ impl<B: Book> Book for OnceBook<B> {
         command: &Command,
         policy: &Policy,
     ) -> Result<Facts, BookFault> {
-        if self.is_next() {
-            return self.rollback_and_count();
-        }
-        self.inner.facts_for(caller, command, policy)
+        unless_next!(self, self.inner.facts_for(caller, command, policy))
     }
 
     fn object_at(&mut self, kind: ObjectKind, name: &Text) -> Result<Option<Object>, BookFault> {
-        if self.is_next() {
-            return self.rollback_and_count();
-        }
-        self.inner.object_at(kind, name)
+        unless_next!(self, self.inner.object_at(kind, name))
     }
 
     fn domain_face(
@@ -161,38 +157,23 @@ impl<B: Book> Book for OnceBook<B> {
         name: &Text,
         policy: &Policy,
     ) -> Result<Option<DomainFace>, BookFault> {
-        if self.is_next() {
-            return self.rollback_and_count();
-        }
-        self.inner.domain_face(name, policy)
+        unless_next!(self, self.inner.domain_face(name, policy))
     }
 
     fn host_face(&mut self, name: &Text, policy: &Policy) -> Result<Option<HostFace>, BookFault> {
-        if self.is_next() {
-            return self.rollback_and_count();
-        }
-        self.inner.host_face(name, policy)
+        unless_next!(self, self.inner.host_face(name, policy))
     }
 
     fn contact_face(&mut self, name: &Text) -> Result<Option<ContactFace>, BookFault> {
-        if self.is_next() {
-            return self.rollback_and_count();
-        }
-        self.inner.contact_face(name)
+        unless_next!(self, self.inner.contact_face(name))
     }
 
     fn zone_data(&mut self, policy: &Policy) -> Result<ZoneData, BookFault> {
-        if self.is_next() {
-            return self.rollback_and_count();
-        }
-        self.inner.zone_data(policy)
+        unless_next!(self, self.inner.zone_data(policy))
     }
 
     fn lines(&mut self, registrar: RegistrarNo) -> Result<Lines, BookFault> {
-        if self.is_next() {
-            return self.rollback_and_count();
-        }
-        self.inner.lines(registrar)
+        unless_next!(self, self.inner.lines(registrar))
     }
 
     fn due(
@@ -201,10 +182,7 @@ impl<B: Book> Book for OnceBook<B> {
         most: Option<u32>,
         policy: &Policy,
     ) -> Result<Seq<Due>, BookFault> {
-        if self.is_next() {
-            return self.rollback_and_count();
-        }
-        self.inner.due(moment, most, policy)
+        unless_next!(self, self.inner.due(moment, most, policy))
     }
 
     fn due_for(
@@ -214,10 +192,7 @@ impl<B: Book> Book for OnceBook<B> {
         moment: Moment,
         policy: &Policy,
     ) -> Result<Seq<Due>, BookFault> {
-        if self.is_next() {
-            return self.rollback_and_count();
-        }
-        self.inner.due_for(caller, command, moment, policy)
+        unless_next!(self, self.inner.due_for(caller, command, moment, policy))
     }
 
     fn due_at(
@@ -227,38 +202,23 @@ impl<B: Book> Book for OnceBook<B> {
         moment: Moment,
         policy: &Policy,
     ) -> Result<Seq<Due>, BookFault> {
-        if self.is_next() {
-            return self.rollback_and_count();
-        }
-        self.inner.due_at(kind, name, moment, policy)
+        unless_next!(self, self.inner.due_at(kind, name, moment, policy))
     }
 
     fn begin(&mut self) -> Result<(), BookFault> {
-        if self.is_next() {
-            return self.rollback_and_count();
-        }
-        self.inner.begin()
+        unless_next!(self, self.inner.begin())
     }
 
     fn apply(&mut self, changes: Seq<Change>, policy: &Policy) -> Result<(), BookFault> {
-        if self.is_next() {
-            return self.rollback_and_count();
-        }
-        self.inner.apply(changes, policy)
+        unless_next!(self, self.inner.apply(changes, policy))
     }
 
     fn keep_terms(&mut self, terms: Terms) -> Result<(), BookFault> {
-        if self.is_next() {
-            return self.rollback_and_count();
-        }
-        self.inner.keep_terms(terms)
+        unless_next!(self, self.inner.keep_terms(terms))
     }
 
     fn commit(&mut self) -> Result<(), BookFault> {
-        if self.is_next() {
-            return self.rollback_and_count();
-        }
-        self.inner.commit()
+        unless_next!(self, self.inner.commit())
     }
 
     fn back(&mut self) {
