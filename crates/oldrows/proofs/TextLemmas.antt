@@ -14,13 +14,12 @@ use Rattle.sqltables.specs.{Address.{address_shown, addresses}, Link.{link_shown
 use Rattle.sqltables.specs.{Message.{message_shown, messages}, Transfer.{transfer_shown, transfers}}
 use Rattle.sqltables.proofs.StatementLemmas.{all_columns}
 use Rattle.oldrows.specs.inner.{Stored.{Asks, IsOld}, Lines.{first_lines, without_end}}
-use Rattle.oldrows.specs.inner.Texts.{meta_query, account_query, contact_query, domain_query, host_query, address_query, link_query, line_query, message_query, transfer_query}
+use Rattle.oldrows.specs.declared.{copied.TheConstants.{ACCOUNTS, CONTACTS, DOMAINS, HOSTS, ADDRESSES, LINKS, LINES, MESSAGES, TRANSFERS}, reading.TheConstants.METAS}
 
 -- a text that selects these columns of all rows of a table asks for the records that they show
-of-all : {R : Type 0} (L : Layout R) (columns : List Term) (shown : R → Row) (sql : List ℕ) (f : Content → List R)
-    → ((x : R) → eval_all columns ([] ∷ L.to_row x ∷ []) ≡ shown x) → ((xs : Content) (db : Database) → IsOld xs db → Holds L db.trees (f xs))
+of-all : {R : Type 0} {shown : R → Row} {sql : List ℕ} {f : Content → List R} (L : Layout R) (columns : List Term) → ((x : R) → eval_all columns ([] ∷ L.to_row x ∷ []) ≡ shown x) → ((xs : Content) (db : Database) → IsOld xs db → Holds L db.trees (f xs))
     → IsSelect first_registry sql (select_query L.tree [] columns) → Asks shown sql f
-of-all L columns shown sql f shows held is = record {
+of-all {R} {shown} {sql} {f} L columns shows held is = record {
   query = select_query L.tree [] columns;
   is = is;
   means = λ db xs rows h answer.
@@ -28,47 +27,33 @@ of-all L columns shown sql f shows held is = record {
       ∙ ap (map shown) (filter_all (λ _. true) (f xs) (all_of _ (λ x. refl) (f xs)));
 }
 
-pub meta_asks : Asks meta_shown meta_query (λ c. c.metas)
+pub meta_asks : Asks meta_shown METAS.now (λ c. c.metas)
 unfolding understood everything
-meta_asks =
-    of-all metas (all_columns 16) meta_shown meta_query (λ c. c.metas) (λ x. refl) (λ xs db h. h.metas)
-    (record { names = _; command = refl; plain = (refl, refl); unlisted = refl })
+meta_asks = of-all metas (all_columns 16) (λ x. refl) (λ xs db h. h.metas) (record { names = _; command = refl; plain = (refl, refl); unlisted = refl })
 
-pub account_asks : Asks account_shown account_query (λ c. c.accounts)
+pub account_asks : Asks account_shown ACCOUNTS.now (λ c. c.accounts)
 unfolding understood everything
-account_asks =
-    of-all accounts (all_columns 7) account_shown account_query (λ c. c.accounts) (λ x. refl) (λ xs db h. h.accounts)
-    (record { names = _; command = refl; plain = (refl, refl); unlisted = refl })
+account_asks = of-all accounts (all_columns 7) (λ x. refl) (λ xs db h. h.accounts) (record { names = _; command = refl; plain = (refl, refl); unlisted = refl })
 
-pub contact_asks : Asks contact_shown contact_query (λ c. c.contacts)
+pub contact_asks : Asks contact_shown CONTACTS.now (λ c. c.contacts)
 unfolding understood everything
-contact_asks =
-    of-all contacts (all_columns 19) contact_shown contact_query (λ c. c.contacts) (λ x. refl) (λ xs db h. h.contacts)
-    (record { names = _; command = refl; plain = (refl, refl); unlisted = refl })
+contact_asks = of-all contacts (all_columns 19) (λ x. refl) (λ xs db h. h.contacts) (record { names = _; command = refl; plain = (refl, refl); unlisted = refl })
 
-pub domain_asks : Asks domain_shown domain_query (λ c. c.domains)
+pub domain_asks : Asks domain_shown DOMAINS.now (λ c. c.domains)
 unfolding understood everything
-domain_asks =
-    of-all domains (all_columns 14) domain_shown domain_query (λ c. c.domains) (λ x. refl) (λ xs db h. h.domains)
-    (record { names = _; command = refl; plain = (refl, refl); unlisted = refl })
+domain_asks = of-all domains (all_columns 14) (λ x. refl) (λ xs db h. h.domains) (record { names = _; command = refl; plain = (refl, refl); unlisted = refl })
 
-pub host_asks : Asks host_shown host_query (λ c. c.hosts)
+pub host_asks : Asks host_shown HOSTS.now (λ c. c.hosts)
 unfolding understood everything
-host_asks =
-    of-all hosts (all_columns 9) host_shown host_query (λ c. c.hosts) (λ x. refl) (λ xs db h. h.hosts)
-    (record { names = _; command = refl; plain = (refl, refl); unlisted = refl })
+host_asks = of-all hosts (all_columns 9) (λ x. refl) (λ xs db h. h.hosts) (record { names = _; command = refl; plain = (refl, refl); unlisted = refl })
 
-pub address_asks : Asks address_shown address_query (λ c. c.addresses)
+pub address_asks : Asks address_shown ADDRESSES.now (λ c. c.addresses)
 unfolding understood everything
-address_asks =
-    of-all addresses (all_columns 2) address_shown address_query (λ c. c.addresses) (λ x. refl) (λ xs db h. h.addresses)
-    (record { names = _; command = refl; plain = (refl, refl); unlisted = refl })
+address_asks = of-all addresses (all_columns 2) (λ x. refl) (λ xs db h. h.addresses) (record { names = _; command = refl; plain = (refl, refl); unlisted = refl })
 
-pub link_asks : Asks link_shown link_query (λ c. c.links)
+pub link_asks : Asks link_shown LINKS.now (λ c. c.links)
 unfolding understood everything
-link_asks =
-    of-all links (all_columns 5) link_shown link_query (λ c. c.links) (λ x. refl) (λ xs db h. h.links)
-    (record { names = _; command = refl; plain = (refl, refl); unlisted = refl })
+link_asks = of-all links (all_columns 5) (λ x. refl) (λ xs db h. h.links) (record { names = _; command = refl; plain = (refl, refl); unlisted = refl })
 
 -- a line that shows no end of its grace
 abbrev endless_shown : LineRow → Row
@@ -77,27 +62,21 @@ endless_shown x = line_shown (without_end x)
 abbrev line_columns : List Term
 line_columns = col 1 0 ∷ col 1 2 ∷ col 1 3 ∷ col 1 4 ∷ col 1 5 ∷ col 1 6 ∷ col 1 7 ∷ col 1 8 ∷ lit Null ∷ col 1 9 ∷ col 1 10 ∷ []
 
-line_asked : Asks endless_shown line_query (λ c. c.lines)
+line_asked : Asks endless_shown LINES.now (λ c. c.lines)
 unfolding understood everything
-line_asked =
-    of-all first_lines line_columns endless_shown line_query (λ c. c.lines) (λ x. refl) (λ xs db h. h.lines)
-    (record { names = _; command = refl; plain = (refl, refl); unlisted = refl })
+line_asked = of-all first_lines line_columns (λ x. refl) (λ xs db h. h.lines) (record { names = _; command = refl; plain = (refl, refl); unlisted = refl })
 
-pub line_asks : Asks line_shown line_query (λ c. c.lines)
+pub line_asks : Asks line_shown LINES.now (λ c. c.lines)
 line_asks = record {
   query = line_asked.query;
   is = line_asked.is;
   means = λ db xs rows h answer. line_asked.means db xs rows h answer ∙ sym (map-map line_shown without_end xs.lines) ∙ ap (map line_shown) h.endless;
 }
 
-pub message_asks : Asks message_shown message_query (λ c. c.messages)
+pub message_asks : Asks message_shown MESSAGES.now (λ c. c.messages)
 unfolding understood everything
-message_asks =
-    of-all messages (all_columns 7) message_shown message_query (λ c. c.messages) (λ x. refl) (λ xs db h. h.messages)
-    (record { names = _; command = refl; plain = (refl, refl); unlisted = refl })
+message_asks = of-all messages (all_columns 7) (λ x. refl) (λ xs db h. h.messages) (record { names = _; command = refl; plain = (refl, refl); unlisted = refl })
 
-pub transfer_asks : Asks transfer_shown transfer_query (λ c. c.transfers)
+pub transfer_asks : Asks transfer_shown TRANSFERS.now (λ c. c.transfers)
 unfolding understood everything
-transfer_asks =
-    of-all transfers (all_columns 8) transfer_shown transfer_query (λ c. c.transfers) (λ x. refl) (λ xs db h. h.transfers)
-    (record { names = _; command = refl; plain = (refl, refl); unlisted = refl })
+transfer_asks = of-all transfers (all_columns 8) (λ x. refl) (λ xs db h. h.transfers) (record { names = _; command = refl; plain = (refl, refl); unlisted = refl })

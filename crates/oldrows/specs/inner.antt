@@ -3,5 +3,4 @@ pub mod Adoption
 pub mod Copies
 pub mod Lines
 pub mod Stored
-pub mod Texts
 pub mod Tables

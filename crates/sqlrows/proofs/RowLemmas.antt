@@ -1,6 +1,9 @@
 -- A row that is found by its number, and one put in the place of another.
-use Rattle.std.proofs.Common.{◌≡◌, ℤ, Bool, true, false, cond, ◌&&◌, List, [], ◌∷◌, filter, find, Option, Some, None, refl, sym, ap, ◌∙◌, arith, Ordering, Less, Equal, Greater, int_cmp, int_eq, true≢false}
-use Rattle.sqlrows.proofs.Words.{get_by, insert_by, ints, is_eq, list_all, lt_from_Less, match_ordering, rows_of, same_int}
+use Rattle.std.proofs.Common.{◌≡◌, ◌⊎◌, inl, inr, ℤ, Bool, true, false, cond, ◌&&◌, List, [], ◌∷◌, filter, find, Option, Some, None, refl, sym, ap, ◌∙◌, arith, Ordering, Less, Equal, Greater, int_cmp, int_eq, true≢false}
+use Rattle.std.proofs.lemmas.Bool.Decides.{Decides-int_eq}
+use Rattle.sqlrows.proofs.Words.{get_by, Has, insert_by, ints, is_eq, list_all, lt_from_Less, match_ordering, rows_of, same_int}
+use Rattle.sqlite_keyed.proofs.KeyedLemmas.{all-insert_by as each-insert_by}
+use Rattle.sqlite_rules.proofs.ListLemmas.{all_from, all_has, has_found}
 
 -- ---- one row at most
 
@@ -53,6 +56,14 @@ module _ {X : Type 0} (key : X → ℤ) where
       go Equal false false is f g e = ap (λ t. cond t (Some new) (get_by key xs id)) g
       go Greater b true is f g e = ap (λ t. cond t (Some new) (get_by key (x ∷ xs) id)) g
       go Greater b false is f g e = ap (λ t. cond t (Some new) (get_by key (x ∷ xs) id)) g ∙ ap (λ t. cond t (Some x) (get_by key xs id)) f
+
+  -- what was put is there
+  pub has-insert_by : (xs : List X) (new : X) → Has (insert_by key xs new) new
+  has-insert_by xs new = (has_found (λ x. int_eq (key x) (key new)) (insert_by key xs new) new (rw (get_by-insert_by xs new (key new), (Decides-int_eq (key new) (key new)).1 refl) refl)).0
+
+  -- each row is the one that was put, or was there
+  pub put-or-there : (xs : List X) (new y : X) → Has (insert_by key xs new) y → (y ≡ new) ⊎ Has xs y
+  put-or-there xs new y = all_has (λ x. (x ≡ new) ⊎ Has xs x) (insert_by key xs new) y (each-insert_by key (λ x. (x ≡ new) ⊎ Has xs x) xs new (inl refl) (all_from (λ x. (x ≡ new) ⊎ Has xs x) xs (λ x. inr)))
 
   pub all-insert_by : (g : ℤ → Bool) (xs : List X) (new : X) → list_all (λ x. g (key x)) (insert_by key xs new) ≡ (g (key new) && list_all (λ x. g (key x)) xs)
   all-insert_by g [] new = refl

@@ -1,12 +1,14 @@
 -- A row that alone answers a question.
 use Rattle.std.proofs.Common.{◌≡◌, Bool, true, false, ℕ, ℤ, List, [], ◌∷◌, map, filter, refl, sym, ap, subst, ◌∙◌, arith}
 use Rattle.std.proofs.lemmas.List.Sorted.{IsPermutation-refl}
-use Rattle.sqltables.proofs.Words.{account_by_id, account_shown, account_with_id, AccountRow, accounts, all_of, at_ints, Content, end, Env, Eq}
+use Rattle.sqltables.proofs.Words.{account_shown, account_with_id, AccountRow, accounts, all_of, at_ints, Content, end, Env, Eq}
 use Rattle.sqltables.proofs.Words.{eval_all, filter_all, Holds, holds, inner, Int, IsAnswer, IsAnsweredByRows, IsContent, IsSelect, last_term}
-use Rattle.sqltables.proofs.Words.{Layout, list_all, matches_as, meta_all, meta_shown, MetaRow, metas, Null, Output, output, overlay, overlay_none}
+use Rattle.sqltables.proofs.Words.{Layout, list_all, matches_as, meta_shown, MetaRow, metas, Null, Output, output, overlay, overlay_none}
 use Rattle.sqltables.proofs.{Words.{registry, Row, select_query, Term, Trees}, AnswerLemmas.asked-by}
 use Rattle.sqltables.proofs.{QueryLemmas.{select_account, select_metas}, StatementLemmas.{all_columns, equals}}
 use Rattle.sqlite_typed.proofs.AnswerLemmas.{at_end, last_table, matches_are}
+use Rattle.sqltables.specs.declared.account.TheConstants as account_texts
+use Rattle.sqltables.specs.declared.meta.TheConstants as meta_texts
 
 module _ {X : Type 0} (L : Layout X) (filters project : List Term) (params : Row) (p : X → Bool) (shown : X → Row)
     (tests : (x : X) → list_all (holds (params ∷ L.to_row x ∷ [])) filters ≡ p x)
@@ -38,11 +40,11 @@ module _ {X : Type 0} (L : Layout X) (filters project : List Term) (params : Row
       subst (λ q. IsAnswer q (overlay db []) params (shown x ∷ [])) (ap (asked-by query) (sym is.command ∙ asked.command)) (only db xs x h alone)
 
 pub account-known : (v : ℤ) (row : AccountRow) (db : Trees) (xs : Content) → IsContent xs (record { schema = registry; trees = db }) → filter (account_with_id v) xs.accounts ≡ row ∷ []
-    → IsAnsweredByRows db account_by_id (Int v ∷ []) (account_shown row ∷ [])
+    → IsAnsweredByRows db account_texts.BY_ID.now (Int v ∷ []) (account_shown row ∷ [])
 account-known v row db xs h alone =
-    answered-only accounts (equals 0 0 ∷ []) (all_columns 7) (Int v ∷ []) (account_with_id v) account_shown (λ x. last_term (at_ints false Eq x.id v)) (λ x. refl) account_by_id select_account db xs.accounts row h.accounts alone
+    answered-only accounts (equals 0 0 ∷ []) (all_columns 7) (Int v ∷ []) (account_with_id v) account_shown (λ x. last_term (at_ints false Eq x.id v)) (λ x. refl) account_texts.BY_ID.now select_account db xs.accounts row h.accounts alone
 
-pub meta-known : (row : MetaRow) (db : Trees) (xs : Content) → IsContent xs (record { schema = registry; trees = db }) → xs.metas ≡ row ∷ [] → IsAnsweredByRows db meta_all [] (meta_shown row ∷ [])
+pub meta-known : (row : MetaRow) (db : Trees) (xs : Content) → IsContent xs (record { schema = registry; trees = db }) → xs.metas ≡ row ∷ [] → IsAnsweredByRows db meta_texts.ALL.now [] (meta_shown row ∷ [])
 meta-known row db xs h alone =
-    answered-only metas [] (all_columns 16) [] (λ _. true) meta_shown (λ x. refl) (λ x. refl) meta_all select_metas db xs.metas row h.metas
+    answered-only metas [] (all_columns 16) [] (λ _. true) meta_shown (λ x. refl) (λ x. refl) meta_texts.ALL.now select_metas db xs.metas row h.metas
     (filter_all (λ _. true) xs.metas (all_of _ (λ x. refl) xs.metas) ∙ alone)

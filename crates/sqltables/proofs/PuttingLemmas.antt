@@ -1,10 +1,11 @@
 -- What putting an account's row makes of the rows.
-use Rattle.std.proofs.Common.{◌≡◌, ◌⊎◌, inl, inr, ℤ, ◌<ℤ◌, ◌==◌, Bool, true, false, not, cond, length, List, [], ◌∷◌, filter, Option, refl, sym, ap, ◌∙◌, subst, arith, Ordering, Less, Equal, Greater, int_cmp, int_eq, true≢false}
+use Rattle.std.proofs.Common.{◌≡◌, ◌⊎◌, inl, inr, ℤ, ◌==◌, true, false, not, length, List, [], ◌∷◌, filter, Option, refl, sym, ap, ◌∙◌, subst, arith, Ordering, Less, Equal, Greater, int_cmp, true≢false}
 use Rattle.std.specs.Ordering.{is_eq, match_ordering}
-use Rattle.sqltables.proofs.Words.{account_with_id, AccountRow, accounts, accounts_to, AllByRecursion, Content, Has, insert_by, ints}
+use Rattle.sqltables.proofs.Words.{account_with_id, AccountRow, accounts, accounts_to, Content, Has, insert_by, ints}
 use Rattle.sqltables.proofs.Words.{IsConsistent, IsKeyedBy, IsKeyedBy-insert_by, IsNamedBy, LeadsTo, metas, same_int, update_where}
 use Rattle.sqltables.proofs.RowLemmas.{same_by_key}
-use Rattle.sqlrows.proofs.ReplaceLemmas.{replaced-is-put, at-all}
+use Rattle.sqlite_rules.proofs.ListLemmas.{has_filtered}
+use Rattle.sqlrows.proofs.{ListLemmas.only_one, ReplaceLemmas.replaced-is-put, RowLemmas.{has-insert_by, put-or-there}}
 
 -- ---- a row put in its place
 
@@ -12,34 +13,6 @@ same_cmp : (a b : ℤ) → a ≡ b → int_cmp a b ≡ Equal
 same_cmp a b e = grind (arith, ints)
 
 module _ {X : Type 0} (key : X → ℤ) where
-  pub has-put : (xs : List X) (new : X) → Has (insert_by key xs new) new
-  has-put [] new = inl refl
-  has-put (x ∷ xs) new = go (int_cmp (key x) (key new)) (has-put xs new)
-    where
-      go : (o : Ordering) → Has (insert_by key xs new) new → Has (match_ordering o (x ∷ insert_by key xs new) (new ∷ xs) (new ∷ x ∷ xs)) new
-      go Less h = inr h
-      go Equal h = inl refl
-      go Greater h = inl refl
-
-  -- each row is the new one, or was there
-  put-new-or-old : (xs : List X) (new y : X) → Has (insert_by key xs new) y → (y ≡ new) ⊎ Has xs y
-  put-new-or-old [] new y (inl e) = inl e
-  put-new-or-old [] new y (inr h) = absurd h
-  put-new-or-old (x ∷ xs) new y h = go (int_cmp (key x) (key new)) (put-new-or-old xs new y) h
-    where
-      later : (y ≡ new) ⊎ Has xs y → (y ≡ new) ⊎ Has (x ∷ xs) y
-      later (inl e) = inl e
-      later (inr h) = inr (inr h)
-
-      go : (o : Ordering) → (Has (insert_by key xs new) y → (y ≡ new) ⊎ Has xs y)
-          → Has (match_ordering o (x ∷ insert_by key xs new) (new ∷ xs) (new ∷ x ∷ xs)) y → (y ≡ new) ⊎ Has (x ∷ xs) y
-      go Less more (inl e) = inr (inl e)
-      go Less more (inr h) = later (more h)
-      go Equal more (inl e) = inl e
-      go Equal more (inr h) = inr (inr h)
-      go Greater more (inl e) = inl e
-      go Greater more (inr h) = inr h
-
   -- no number goes
   put-keeps-keys : (xs : List X) (new y : X) → Has xs y → (z : X) × Has (insert_by key xs new) z × (key z ≡ key y)
   put-keeps-keys [] new y h = absurd h
@@ -64,21 +37,6 @@ module _ {X : Type 0} (key : X → ℤ) where
       go Equal e more = rw (e, same_cmp (key a) (key b) same)
       go Greater e more = rw (e, same_cmp (key a) (key b) same)
 
-  none-above : (xs : List X) (id : ℤ) → AllByRecursion (λ y. id <ℤ key y) xs → filter (λ x. int_eq (key x) id) xs ≡ []
-  none-above [] id h = refl
-  none-above (x ∷ xs) id h = let k = h.0 in let apart : int_eq (key x) id ≡ false = grind (arith, ints) in rw apart (none-above xs id h.1)
-
-  -- the one row with its number
-  pub found-by-key : (xs : List X) (row : X) → IsKeyedBy key xs → Has xs row → filter (λ x. int_eq (key x) (key row)) xs ≡ row ∷ []
-  found-by-key [] row up h = absurd h
-  found-by-key (x ∷ xs) row up (inl e) =
-      subst (λ (y : X). filter (λ z. int_eq (key z) (key y)) (x ∷ xs) ≡ y ∷ []) (sym e)
-      (let same : int_eq (key x) (key x) ≡ true = grind (arith, ints) in rw (same, none-above xs (key x) up.0))
-  found-by-key (x ∷ xs) row up (inr h) =
-      let below = at-all (λ y. key x <ℤ key y) xs row up.0 h in
-      let apart : int_eq (key x) (key row) ≡ false = grind (arith, ints) in
-      rw apart (found-by-key xs row up.1 h)
-
 -- ---- the row of an account in the place of one with its number and its name
 
 led-with : {X : Type 0} (xs : List X) (column : X → Option ℤ) (rows : List AccountRow) (row : AccountRow) → LeadsTo xs column rows (λ (x : AccountRow). x.id) → LeadsTo xs column (insert_by accounts.key rows row) (λ (x : AccountRow). x.id)
@@ -88,7 +46,7 @@ led-with xs column rows row led x h id is =
     (z.0, z.1, z.2 ∙ it.2)
 
 named-with : (rows : List AccountRow) (row old : AccountRow) → IsKeyedBy accounts.key rows → Has rows old → old.id ≡ row.id → old.ident ≡ row.ident → IsNamedBy (λ (x : AccountRow). x.ident) rows → IsNamedBy (λ (x : AccountRow). x.ident) (insert_by accounts.key rows row)
-named-with rows row old up there same-id same-ident named a b ha hb e = go (put-new-or-old accounts.key rows row a ha) (put-new-or-old accounts.key rows row b hb)
+named-with rows row old up there same-id same-ident named a b ha hb e = go (put-or-there accounts.key rows row a ha) (put-or-there accounts.key rows row b hb)
   where
     key : AccountRow → ℤ
     key = accounts.key
@@ -158,16 +116,16 @@ account-replaced xs row old consistent there same =
 
 -- the account that has the number of the one that was put
 pub account-put : (rows : List AccountRow) (row : AccountRow) → IsKeyedBy accounts.key rows → filter (account_with_id row.id) (insert_by accounts.key rows row) ≡ row ∷ []
-account-put rows row up = found-by-key accounts.key (insert_by accounts.key rows row) row (IsKeyedBy-insert_by accounts.key rows row up) (has-put accounts.key rows row)
+account-put rows row up = only_one accounts.key (insert_by accounts.key rows row) row row.id (IsKeyedBy-insert_by accounts.key rows row up) (has-insert_by accounts.key rows row) refl
 
 -- ---- what is known before it
 
 -- one with its number is there
 pub account-there : (rows : List AccountRow) (id : ℤ) → not (length (filter (account_with_id id) rows) == 0) ≡ true → (x : AccountRow) × Has rows x × (x.id ≡ id)
-account-there [] id h = absurd (true≢false (sym h))
-account-there (row ∷ rows) id h = go (int_eq row.id id) refl h (account-there rows id)
+account-there rows id h = go (filter (account_with_id id) rows) refl h
   where
-    go : (b : Bool) → int_eq row.id id ≡ b → not (length (cond b (row ∷ filter (account_with_id id) rows) (filter (account_with_id id) rows)) == 0) ≡ true
-        → (not (length (filter (account_with_id id) rows) == 0) ≡ true → (x : AccountRow) × Has rows x × (x.id ≡ id)) → (x : AccountRow) × Has (row ∷ rows) x × (x.id ≡ id)
-    go true e h later = (row, inl refl, same_int row.id id e)
-    go false e h later = let it = later h in (it.0, inr it.1, it.2)
+    go : (some : List AccountRow) → filter (account_with_id id) rows ≡ some → not (length some == 0) ≡ true → (x : AccountRow) × Has rows x × (x.id ≡ id)
+    go [] e none = absurd (true≢false (sym none))
+    go (row ∷ more) e _ =
+        let it = has_filtered (account_with_id id) rows row (subst (λ l. Has l row) (sym e) (inl refl)) in
+        (row, it.0, same_int row.id id it.1)

@@ -1,7 +1,7 @@
 -- What the texts make of a database that was never used, and what its tables hold then.
 use Rattle.std.proofs.Common.{◌++◌, ℕ, List, codes, map, refl, inl, inr, [], ◌∷◌, Result, Ok, Err, OnOk}
 use Rattle.std.specs.Bool.{⊤}
-use Rattle.sqltables.proofs.Words.{Database, DefinesAll, Error, filled, first_line, first_line_create, first_registry, IsBlank, IsContent, IsIndex}
+use Rattle.sqltables.proofs.Words.{Database, DefinesAll, Error, filled, first_line, first_registry, IsBlank, IsContent, IsIndex}
 use Rattle.sqltables.proofs.Words.{line, no_content, no_schema, nullable, registry}
 use Rattle.sqlite.specs.{Listing.understood, Kind.TheVariants.Integer, Schema.Schema}
 use Rattle.sqlite_tied.specs.Compute.{everything}
@@ -9,7 +9,7 @@ use Rattle.sqlite_schema.specs.declared.schema.Column.{Column}
 use Rattle.sqlite_catalog.specs.Change.{created, indexed}
 use Rattle.sqlrows.specs.inner.Definitions.{IsTable}
 use Rattle.sqltables.specs.Tables.{before_lines, created_all, days, Indexing, indexed_by, indexings, line_with, made_with, Making, makings, texts_with}
-use Rattle.sqltables.specs.inner.Tables.{line_create, days_create}
+use Rattle.sqltables.specs.declared.schema.TheConstants.{LINE, DAYS, FIRST_LINE}
 
 -- each text makes its table, and each its index
 abbrev AreTables : Schema → List Making → Type 0
@@ -81,24 +81,24 @@ all_define text more texts to is rest =
     tables_define to (map (λ it. it.text) (indexings (line_with more)) ++ texts) no_schema (makings text (line_with more)) (makings_are text more is)
     (indexings_define to texts (created_all no_schema (makings text (line_with more))) (indexings (line_with more)) (indexings_are text more) rest)
 
-line_is : IsTable (created_all no_schema before_lines) line_create line
+line_is : IsTable (created_all no_schema before_lines) LINE.now line
 unfolding understood everything
 line_is = record { command = refl; as_written = refl; defined = refl; plain = (refl, refl); uncounted = refl }
 
-first_line_is : IsTable (created_all no_schema before_lines) first_line_create first_line
+first_line_is : IsTable (created_all no_schema before_lines) FIRST_LINE.now first_line
 unfolding understood everything
 first_line_is = record { command = refl; as_written = refl; defined = refl; plain = (refl, refl); uncounted = refl }
 
-days_is : IsTable (made_with line_create line) days_create days
+days_is : IsTable (made_with LINE.now line) DAYS.now days
 unfolding understood everything
 days_is = record { command = refl; as_written = refl; defined = refl; plain = (refl, refl); uncounted = refl }
 
-pub creation_defines : DefinesAll no_schema (texts_with line_create line ++ days_create ∷ []) registry
-creation_defines = all_define line_create (nullable (codes "ends") Integer ∷ nullable (codes "refunded") Integer ∷ filled (codes "recorded") Integer ∷ []) (days_create ∷ []) registry line_is
+pub creation_defines : DefinesAll no_schema (texts_with LINE.now line ++ DAYS.now ∷ []) registry
+creation_defines = all_define LINE.now (nullable (codes "ends") Integer ∷ nullable (codes "refunded") Integer ∷ filled (codes "recorded") Integer ∷ []) (DAYS.now ∷ []) registry line_is
     (registry, inl (days, days_is, refl), refl)
 
-pub first_creation_defines : DefinesAll no_schema (texts_with first_line_create first_line) first_registry
-first_creation_defines = all_define first_line_create (nullable (codes "refunded") Integer ∷ filled (codes "recorded") Integer ∷ []) [] first_registry first_line_is refl
+pub first_creation_defines : DefinesAll no_schema (texts_with FIRST_LINE.now first_line) first_registry
+first_creation_defines = all_define FIRST_LINE.now (nullable (codes "refunded") Integer ∷ filled (codes "recorded") Integer ∷ []) [] first_registry first_line_is refl
 
 pub blank_holds_nothing : (db : Database) → IsBlank registry db → IsContent no_content db
 blank_holds_nothing db blank = record {

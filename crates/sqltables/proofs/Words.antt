@@ -44,10 +44,9 @@ pub use Rattle.sqltables.specs.inner.Adoption.{IsReread, IsSeenBy, IsShapedAs, I
 pub use Rattle.sqltables.specs.inner.Answers.{AreRight, IsAnsweredByRows, IsRight, Recalls, lasting, lasts}
 pub use Rattle.sqltables.specs.inner.Consistent.{AreKeyed, AreLinked, AreNamed, IsConsistent, IsNamedBy, LeadsTo}
 pub use Rattle.sqltables.specs.inner.Content.{IsContent, accounts_to, metas_to}
-pub use Rattle.sqltables.specs.inner.FirstTables.{first_line, first_line_create, first_registry}
+pub use Rattle.sqltables.specs.inner.FirstTables.{first_line, first_registry}
 pub use Rattle.sqltables.specs.inner.Statements.{Alters, Appends, AreOthersSame, Asks, IsOfTable, is_table}
 pub use Rattle.sqltables.specs.inner.Stored.{AgreesWithForm, Bears, Fits, Guards, HoldsRows, committed, has_rows, leaves_of, left_in, readiness_of, rows_in, store_state, undone}
-pub use Rattle.sqltables.specs.inner.Tables.{account_by_id, meta_all}
 pub use Rattle.states.specs.States.{Closes, Fails, Finds, LeavesSame, Reads, Remains, Starts, StateOf, Stays, Writes, holding}
 pub use Rattle.states.specs.declared.fault.BookFault.{BookFault}
 pub use Rattle.std.proofs.lemmas.{Bool.{and_parts, eq-eqb, eqb-false, eqb-true, not-true}, Int.ints}

@@ -7,7 +7,7 @@ use Rattle.sqlite_schema.specs.declared.schema.Column.{Column}
 use Rattle.sqlite_schema.specs.declared.schema.Index.{Index}
 use Rattle.sqlite_catalog.specs.Change.{created, indexed}
 use Rattle.sqlrows.specs.Columns.{filled, nullable, keyed_table, index_on, reference_to, no_schema}
-use Rattle.sqltables.specs.inner.Tables.{line_create}
+use Rattle.sqltables.specs.declared.schema.TheConstants.{LINE}
 
 abbrev pub meta : Table
 meta = keyed_table (codes "meta") (filled (codes "version") Integer ∷ filled (codes "clock") Integer ∷ filled (codes "zone") Text ∷ filled (codes "reserved") Text ∷ filled (codes "days_add") Integer ∷ filled (codes "days_auto_renew") Integer ∷ filled (codes "days_renew") Integer ∷ filled (codes "days_transfer") Integer ∷ filled (codes "days_redemption") Integer ∷ filled (codes "days_restore") Integer ∷ filled (codes "days_pending_delete") Integer ∷ filled (codes "days_answer") Integer ∷ filled (codes "days_lock") Integer ∷ filled (codes "price_create") Integer ∷ filled (codes "price_renew") Integer ∷ filled (codes "price_transfer") Integer ∷ []) ([]) ([])
@@ -125,7 +125,7 @@ texts_with text line = map (λ it. it.text) (makings text line) ++ map (λ it. i
 -- ---- the schema
 
 abbrev pub registry : Schema
-registry = created (made_with line_create line) days
+registry = created (made_with LINE.now line) days
 
 -- the number of this schema, which the table `meta` keeps
 abbrev pub schema_number : ℤ

@@ -2,6 +2,7 @@
 pub mod Adoption
 pub mod Answers
 pub mod Balance
+pub mod Calls
 pub mod Content
 pub mod Due
 pub mod Faults
@@ -10,5 +11,4 @@ pub mod Reopening
 pub mod Rows
 pub mod Statements
 pub mod Stored
-pub mod Tables
 pub mod Consistent

@@ -1,12 +1,9 @@
 //! Registrars' accounts.
 ghost use Rattle.std.specs.Prelude.{◌≡◌, true, filter, map, [], ◌∷◌};
-ghost use Rattle.sqlite.specs.Values.{bound};
+ghost use Rattle.sqltables.specs.inner.Calls.{bound, owned, insert_by, update_where, accounts_to, Finds, Makes};
 ghost use Rattle.sqlite_rules.specs.Lists.{Has};
-ghost use Rattle.sqlite_value.specs.{Value.owned, declared.value.Value.TheVariants.Int};
-ghost use Rattle.sqlite_keyed.specs.{Keyed.insert_by, Lists.update_where};
-ghost use Rattle.sqltables.specs.inner.Content.{accounts_to};
+ghost use Rattle.sqlite_value.specs.declared.value.Value.TheVariants.{Int};
 ghost use Rattle.sqltables.specs.Account.{AccountRow, accounts, account_with_id, account_shown};
-ghost use Rattle.states.specs.States.{Finds, Makes};
 
 use crate::store::RowStore;
 use basis::list::Seq;

@@ -1,11 +1,7 @@
 //! Addresses of hosts.
 ghost use Rattle.std.specs.Prelude.{◌≡◌, true, filter};
-ghost use Rattle.sqlite.specs.Values.{bound};
-ghost use Rattle.sqlite_keyed.specs.{Lists.delete_where, Keyed.insert_by};
-ghost use Rattle.sqltables.specs.inner.Content.{addresses_to};
+ghost use Rattle.sqltables.specs.inner.Calls.{bound, delete_where, insert_by, addresses_to, Finds, Makes, appended};
 ghost use Rattle.sqltables.specs.Address.{addresses, address_with_host, address_shown};
-ghost use Rattle.states.specs.States.{Finds, Makes};
-ghost use Rattle.sqlrows.specs.inner.Layouts.{appended};
 
 use crate::store::RowStore;
 use basis::list::Seq;

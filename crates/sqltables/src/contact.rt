@@ -1,12 +1,7 @@
 //! Contacts.
 ghost use Rattle.std.specs.Prelude.{◌≡◌, true, filter, take, IfOk};
-ghost use Rattle.sqlite.specs.Values.{bound};
-ghost use Rattle.sqlite_keyed.specs.Keyed.{insert_by, next_key};
-ghost use Rattle.sqlite_keyed.specs.Lists.{delete_where, update_where};
-ghost use Rattle.sqltables.specs.inner.Content.{contacts_to};
+ghost use Rattle.sqltables.specs.inner.Calls.{bound, insert_by, next_key, delete_where, update_where, contacts_to, Finds, Makes, appended};
 ghost use Rattle.sqltables.specs.Contact.{ContactRow, contact_shown, contacts, contact_with_id, contact_with_name, contact_within_due, contact_of_sponsor_within, contacts_by_due};
-ghost use Rattle.states.specs.States.{Finds, Makes};
-ghost use Rattle.sqlrows.specs.inner.Layouts.{appended};
 
 use crate::store::RowStore;
 use basis::list::Seq;

@@ -1,9 +1,7 @@
 //! Lengths of periods that are in force from a moment on.
 ghost use Rattle.std.specs.Prelude.{◌≡◌, true};
-ghost use Rattle.sqlite.specs.Values.{bound};
-ghost use Rattle.sqltables.specs.{inner.Content.days_to, Day.{days, day_shown}};
-ghost use Rattle.states.specs.States.{Finds, Makes};
-ghost use Rattle.sqlrows.specs.inner.Layouts.{appended};
+ghost use Rattle.sqltables.specs.inner.Calls.{bound, days_to, Finds, Makes, appended};
+ghost use Rattle.sqltables.specs.Day.{days, day_shown};
 
 use crate::store::RowStore;
 use basis::list::Seq;

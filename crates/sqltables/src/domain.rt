@@ -1,12 +1,7 @@
 //! Domains.
 ghost use Rattle.std.specs.Prelude.{◌≡◌, true, filter, take, IfOk};
-ghost use Rattle.sqlite.specs.Values.{bound};
-ghost use Rattle.sqlite_keyed.specs.Keyed.{insert_by, next_key};
-ghost use Rattle.sqlite_keyed.specs.Lists.{delete_where, update_where};
-ghost use Rattle.sqltables.specs.inner.Content.{domains_to};
+ghost use Rattle.sqltables.specs.inner.Calls.{bound, insert_by, next_key, delete_where, update_where, domains_to, Finds, Makes, appended};
 ghost use Rattle.sqltables.specs.Domain.{domain_with_name, domains, domain_after_id, domain_with_id, domain_with_registrant, domain_within_due, domain_of_sponsor_within, domain_of_registrant_within, domain_with_roid, domains_by_due, domain_shown};
-ghost use Rattle.states.specs.States.{Finds, Makes};
-ghost use Rattle.sqlrows.specs.inner.Layouts.{appended};
 
 use crate::store::RowStore;
 use basis::list::Seq;

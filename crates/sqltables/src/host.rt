@@ -1,12 +1,7 @@
 //! Hosts.
 ghost use Rattle.std.specs.Prelude.{◌≡◌, true, filter, IfOk};
-ghost use Rattle.sqlite.specs.Values.{bound};
-ghost use Rattle.sqlite_keyed.specs.Keyed.{insert_by, next_key};
-ghost use Rattle.sqlite_keyed.specs.Lists.{delete_where, update_where};
-ghost use Rattle.sqltables.specs.inner.Content.{hosts_to};
+ghost use Rattle.sqltables.specs.inner.Calls.{bound, insert_by, next_key, delete_where, update_where, hosts_to, Finds, Makes, appended};
 ghost use Rattle.sqltables.specs.Host.{hosts, host_takes_sponsor, host_with_id, host_with_name, host_with_above, host_shown};
-ghost use Rattle.states.specs.States.{Finds, Makes};
-ghost use Rattle.sqlrows.specs.inner.Layouts.{appended};
 
 use crate::store::RowStore;
 use basis::list::Seq;

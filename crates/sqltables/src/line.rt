@@ -1,11 +1,7 @@
 //! Lines of accounts.
 ghost use Rattle.std.specs.Prelude.{◌≡◌, true, filter, IfOk};
-ghost use Rattle.sqlite.specs.Values.{bound};
-ghost use Rattle.sqlite_keyed.specs.{Lists.delete_where, Keyed.insert_by};
-ghost use Rattle.sqltables.specs.inner.Content.{lines_to};
+ghost use Rattle.sqltables.specs.inner.Calls.{bound, delete_where, insert_by, lines_to, Finds, Makes, appended};
 ghost use Rattle.sqltables.specs.Line.{LineRow, lines, line_with_account, line_with_id, line_of_object, line_shown};
-ghost use Rattle.states.specs.States.{Finds, Makes};
-ghost use Rattle.sqlrows.specs.inner.Layouts.{appended};
 
 use crate::store::RowStore;
 use basis::list::Seq;

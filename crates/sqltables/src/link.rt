@@ -1,11 +1,7 @@
 //! What domains name: contacts in a role, and hosts.
 ghost use Rattle.std.specs.Prelude.{◌≡◌, true, filter, take};
-ghost use Rattle.sqlite.specs.Values.{bound};
-ghost use Rattle.sqlite_keyed.specs.{Lists.{delete_where, update_where}, Keyed.insert_by};
-ghost use Rattle.sqltables.specs.inner.Content.{links_to};
+ghost use Rattle.sqltables.specs.inner.Calls.{bound, delete_where, update_where, insert_by, links_to, Finds, Makes, appended};
 ghost use Rattle.sqltables.specs.Link.{links, link_with_domain, link_of_domains, link_with_contact, link_with_host, link_of_contact_within, link_of_host_within, link_shown};
-ghost use Rattle.states.specs.States.{Finds, Makes};
-ghost use Rattle.sqlrows.specs.inner.Layouts.{appended};
 
 use crate::store::RowStore;
 use basis::list::Seq;

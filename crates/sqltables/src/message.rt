@@ -1,11 +1,7 @@
 //! Messages that wait.
 ghost use Rattle.std.specs.Prelude.{◌≡◌, true, filter, take};
-ghost use Rattle.sqlite.specs.Values.{bound};
-ghost use Rattle.sqlite_keyed.specs.{Lists.delete_where, Keyed.insert_by};
-ghost use Rattle.sqltables.specs.inner.Content.{messages_to};
+ghost use Rattle.sqltables.specs.inner.Calls.{bound, delete_where, insert_by, messages_to, Finds, Makes, appended};
 ghost use Rattle.sqltables.specs.Message.{messages, message_with_id, is_same_message, queue_of, message_shown};
-ghost use Rattle.states.specs.States.{Finds, Makes};
-ghost use Rattle.sqlrows.specs.inner.Layouts.{appended};
 
 use crate::store::RowStore;
 use basis::list::Seq;

@@ -1,11 +1,7 @@
 //! What holds of the whole registry, in one row.
 ghost use Rattle.std.specs.Prelude.{◌≡◌, true, map, [], ◌∷◌};
-ghost use Rattle.sqlite.specs.Values.{bound};
-ghost use Rattle.sqlite_value.specs.Value.{owned};
-ghost use Rattle.sqlite_keyed.specs.{Keyed.insert_by, Lists.update_where};
-ghost use Rattle.sqltables.specs.inner.Content.{metas_to};
+ghost use Rattle.sqltables.specs.inner.Calls.{bound, owned, insert_by, update_where, metas_to, Finds, Makes};
 ghost use Rattle.sqltables.specs.Meta.{MetaRow, meta_with_id, metas, meta_shown};
-ghost use Rattle.states.specs.States.{Finds, Makes};
 
 use crate::store::RowStore;
 use basis::list::Seq;

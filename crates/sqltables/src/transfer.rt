@@ -1,11 +1,7 @@
 //! The last transfer of each object that had one.
 ghost use Rattle.std.specs.Prelude.{◌≡◌, true, filter};
-ghost use Rattle.sqlite.specs.Values.{bound};
-ghost use Rattle.sqlite_keyed.specs.{Lists.delete_where, Keyed.insert_by};
-ghost use Rattle.sqltables.specs.inner.Content.{transfers_to};
+ghost use Rattle.sqltables.specs.inner.Calls.{bound, delete_where, insert_by, transfers_to, Finds, Makes, appended};
 ghost use Rattle.sqltables.specs.Transfer.{transfers, transfer_with_contact, transfer_with_domain, transfer_of_domains, transfer_pending_by, transfer_pending_from, transfer_shown};
-ghost use Rattle.states.specs.States.{Finds, Makes};
-ghost use Rattle.sqlrows.specs.inner.Layouts.{appended};
 
 use crate::store::RowStore;
 use basis::list::Seq;
