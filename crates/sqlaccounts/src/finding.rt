@@ -7,12 +7,11 @@ ghost use Rattle.sqltables.specs.declared.line.LineRow.{LineRow as Row};
 ghost use Rattle.states.specs.States.{Finds};
 
 use crate::account::number_of;
-use crate::line::is_roid;
 use accounts::Line;
 use basis::list::Seq;
 use basis::registrar::RegistrarNo;
 use objects::{ObjectKind, Roid};
-use sqlcolumns::{counter_column, line_of_row};
+use sqlcolumns::{counter_column, is_roid, line_of_row};
 use sqlite::Alter;
 use sqlrows::Number;
 use sqltables::{LineRow, RowStore};

@@ -1,16 +1,14 @@
 //! Lines of accounts, what they add up to, and rows that read as them.
-ghost use Rattle.std.specs.Prelude.{◌≡◌, ◌↔◌, ◌⊎◌, ◌+ℤ◌, ◌-ℤ◌, pos, FitsSigned};
-ghost use Rattle.std.specs.Prelude.{IfNone, IfOk, IfSome, IsTrue, OnErr};
+ghost use Rattle.std.specs.Prelude.{◌≡◌, ◌⊎◌, ◌+ℤ◌, ◌-ℤ◌, pos, FitsSigned};
+ghost use Rattle.std.specs.Prelude.{IfNone, IfOk, IfSome, OnErr};
 ghost use Rattle.std.specs.{Int.w128, Option.option_map_or};
 ghost use Rattle.sqltables.specs.declared.account.AccountRow.{AccountRow};
 ghost use Rattle.accounts.specs.{Entries.with_lines, Lines.{amount, in_order}};
 ghost use Rattle.accounts.specs.Lines as lines;
 ghost use Rattle.basis.specs.Bag.{add, taken};
-ghost use Rattle.calendar.specs.Moment.{IsMoment};
 ghost use Rattle.sqlaccounts.specs.Accounts.{account_of_rows, balance_in, sums_are_right};
 ghost use Rattle.sqlaccounts.specs.inner.Changes.{IsBalanceChanged, IsWritten};
 ghost use Rattle.sqlaccounts.specs.inner.Posting.{IsReady, PostsNoLine, PostsTo};
-ghost use Rattle.sqlcolumns.specs.{inner.Lines.IsStorableLine, Roids.IsRoid};
 ghost use Rattle.sqlrows.specs.Meanings.{FindsIfRight};
 
 use crate::account::maybe_row;
@@ -18,10 +16,8 @@ use crate::finding::{number_of_line, rows_about};
 use crate::graces::maybe_grace_end;
 use accounts::Line;
 use basis::registrar::RegistrarNo;
-use calendar::Moment;
-use objects::Roid;
 use policy::Schedule;
-use sqlcolumns::{line_row, maybe_moment_column, registrar_column};
+use sqlcolumns::{is_line, line_row, maybe_moment_column, registrar_column};
 use sqlite::Alter;
 use sqlrows::or_fault;
 use sqltables::{AccountRow, LineRow, RowStore, bytes_of_balance};
@@ -146,41 +142,4 @@ fn written(registrar: RegistrarNo, line: &Line, ends: Option<i64>) -> Result<Lin
         return Err(BookFault::Store);
     }
     Ok(or_fault(line_row(0, registrar_column(registrar), line, ends))?)
-}
-
-/// Whether a line's domain, if it has one, has an identifier that reads.
-fn is_line(line: &Line) -> bool
-    ensures { IsTrue result ↔ IsStorableLine line.now }
-{
-    let _years = line.years;
-    show_moment(Some(line.recorded));
-    show_moment(line.started);
-    show_moment(line.refunded);
-    has_creator(&line.roid)
-}
-
-/// Shows the prover that it is within the range.
-fn show_moment(moment: Option<Moment>)
-    ensures { IfSome moment IsMoment }
-{
-    if let Some(moment) = moment {
-        let _secs = moment.secs();
-    }
-}
-
-fn has_creator(roid: &Option<Roid>) -> bool
-    ensures { IsTrue result ↔ IfSome roid.now IsRoid }
-{
-    match roid {
-        None => true,
-        Some(roid) => is_roid(roid),
-    }
-}
-
-/// Whether an identifier's creator has a place.
-pub(crate) fn is_roid(roid: &Roid) -> bool
-    ensures { IsTrue result ↔ IsRoid roid.now }
-{
-    let _serial = roid.serial;
-    roid.creator.place() != 0
 }

@@ -23,7 +23,7 @@ pub use code::{Coded, Role};
 pub use contact::{contact_of_row, contact_row, is_contact};
 pub use domain::{deletion_of_row, domain_of_row, domain_row, is_domain};
 pub use host::{host_of_row, host_row, is_host};
-pub use line::{line_of_row, line_row};
+pub use line::{is_line, line_of_row, line_row};
 pub use message::{message_of_row, message_row};
 pub use moment::{maybe_moment_column, maybe_moment_of_column, moment_column, moment_of_column};
 pub use number::{
@@ -31,5 +31,6 @@ pub use number::{
     maybe_registrar_of_column, registrar_column, registrar_of_column, years_column,
     years_of_column,
 };
+pub use roid::is_roid;
 pub use texts::{statuses_column, statuses_of_column, street_column, street_of_column};
 pub use transfer::{is_same, is_transfer, transfer_of_row, transfer_row};

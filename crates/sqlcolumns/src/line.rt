@@ -1,13 +1,17 @@
 //! Lines of accounts as rows.
-ghost use Rattle.std.specs.Prelude.{◌≡◌, Some, IfSome};
+ghost use Rattle.std.specs.Prelude.{◌≡◌, ◌↔◌, Some, IfSome, IsTrue};
 ghost use Rattle.accounts.specs.declared.line.Line.{Line};
 ghost use Rattle.sqlcolumns.specs.Lines as spec;
 ghost use Rattle.sqlcolumns.specs.inner.Lines as inner_spec;
+ghost use Rattle.sqlcolumns.specs.Roids.{IsRoid};
 
 use crate::code::Coded;
-use crate::moment::{maybe_moment_column, maybe_moment_of_column, moment_column, moment_of_column};
+use crate::moment::{
+    maybe_moment_column, maybe_moment_of_column, moment_column, moment_of_column,
+    show_maybe_moment, show_moment,
+};
 use crate::number::{exact_column, exact_of_column, years_column, years_of_column};
-use crate::roid::{roid_columns, roid_of_columns};
+use crate::roid::{is_roid, roid_columns, roid_of_columns};
 use accounts::{Line, LineKind};
 use objects::{ObjectKind, Roid};
 use sqltables::{GraceRow, LineRow};
@@ -41,6 +45,27 @@ pub fn line_row(id: i64, account: i64, line: &Line, ends: Option<i64>) -> Option
             ends,
         },
     })
+}
+
+/// Whether a line's domain, if it has one, has a creator with a place: such a line is read back from its
+/// row.
+pub fn is_line(line: &Line) -> bool
+    ensures { IsTrue result ↔ inner_spec.IsStorableLine line.now }
+{
+    let _years = line.years;
+    show_moment(line.recorded);
+    show_maybe_moment(line.started);
+    show_maybe_moment(line.refunded);
+    has_creator(&line.roid)
+}
+
+fn has_creator(roid: &Option<Roid>) -> bool
+    ensures { IsTrue result ↔ IfSome roid.now IsRoid }
+{
+    match roid {
+        None => true,
+        Some(roid) => is_roid(roid),
+    }
 }
 
 /// The line of a row, if each column but that of its grace's end reads.

@@ -45,7 +45,7 @@ pub(crate) fn roid_of_columns(kind: ObjectKind, creator: i64, serial: i64) -> Op
 }
 
 /// Whether its creator has a place.
-pub(crate) fn is_roid(roid: &Roid) -> bool
+pub fn is_roid(roid: &Roid) -> bool
     ensures { IsTrue result ↔ spec.IsRoid roid.now }
 {
     let _serial = roid.serial;

@@ -1,5 +1,5 @@
 -- Rows of a table, by number and by name, after a write that leaves all other names alone.
-use Rattle.std.proofs.Common.{◌≡◌, ◌⊎◌, inl, inr, ℕ, ℤ, Bool, true, false, not, cond, List, [], ◌∷◌, ◌++◌, filter, map, Option, Some, None, option_map, refl, sym, ap, subst, ◌∙◌, arith, Ordering, Less, Equal, Greater, int_cmp, int_eq, true≢false}
+use Rattle.std.proofs.Common.{◌≡◌, inl, inr, ℕ, ℤ, Bool, true, false, not, cond, List, [], ◌∷◌, ◌++◌, filter, map, Option, Some, None, option_map, refl, sym, ap, subst, ◌∙◌, arith, Ordering, Less, Equal, Greater, int_cmp, int_eq, true≢false}
 use Rattle.std.proofs.lemmas.List.Elements as elements
 use Rattle.std.specs.Cmp.{Equal-is, Lexicographic.{nat_list_cmp_total, slice_cmp}}
 use Rattle.std.specs.FinMap.{FinMap, get-insert, get-remove, nat_cmp-IsAntisymmetric, same_map, slice_cmp-IsAntisymmetric}
@@ -7,9 +7,9 @@ use Rattle.std.specs.Ordering.{match_ordering, nat_cmp}
 use Rattle.sqlobjects.proofs.Words.{append-nil, AreOtherNamesKept, bytes_eq, bytes_same, Decides-int_eq, delete_where, false_from_ne_true}
 use Rattle.sqlobjects.proofs.Words.{first_read, from_entries, get, get_by, Has, insert_by, int_eq_apart, IsKeyedBy, IsNamedBy, IsPlaced}
 use Rattle.sqlobjects.proofs.Words.{key-get_by, or_else, same_by_key, same_int, with_named}
-use Rattle.sqlite_keyed.proofs.{KeyedLemmas.{all-insert_by, IsKeyedBy-insert_by}, ListLemmas.filter_none}
-use Rattle.sqlite_rules.proofs.ListLemmas.{all_from, all_has, has_filtered, has_found, has_kept, has_right}
-use Rattle.sqlrows.proofs.{ListLemmas.{only_one, removed_put}, NameLemmas.{entries_of, stands}, RowLemmas.{find_one, get_by-insert_by}}
+use Rattle.sqlite_keyed.proofs.{KeyedLemmas.IsKeyedBy-insert_by, ListLemmas.filter_none}
+use Rattle.sqlite_rules.proofs.ListLemmas.{all_from, has_filtered, has_found, has_kept, has_right}
+use Rattle.sqlrows.proofs.{ListLemmas.{only_one, removed_put}, NameLemmas.{entries_of, stands}, RowLemmas.{find_one, has-insert_by, put-or-there}}
 
 -- ---- names
 
@@ -70,13 +70,6 @@ module _ {P : Type 0} where
 -- ---- numbers
 
 module _ {P : Type 0} (key : P → ℤ) where
-  pub has-insert_by : (xs : List P) (p : P) → Has (insert_by key xs p) p
-  has-insert_by xs p = (has_found (λ x. int_eq (key x) (key p)) (insert_by key xs p) p (rw (get_by-insert_by key xs p (key p), (Decides-int_eq (key p) (key p)).1 refl) refl)).0
-
-  -- each row is the one that was put, or was there
-  put-or-there : (xs : List P) (new y : P) → Has (insert_by key xs new) y → (y ≡ new) ⊎ Has xs y
-  put-or-there xs new y = all_has (λ x. (x ≡ new) ⊎ Has xs x) (insert_by key xs new) y (all-insert_by key (λ x. (x ≡ new) ⊎ Has xs x) xs new (inl refl) (all_from (λ x. (x ≡ new) ⊎ Has xs x) xs (λ x. inr)))
-
   -- a row that fails a test, in the place of one that failed, if there was one
   pub filter-insert_by : (t : P → Bool) (xs : List P) (p : P) → t p ≡ false → ((x : P) → Has xs x → key x ≡ key p → t x ≡ false) → filter t (insert_by key xs p) ≡ filter t xs
   filter-insert_by t [] p e fails = rw e refl
@@ -101,8 +94,8 @@ module _ {P : Type 0} (key : P → ℤ) where
 
   -- a row that passes a test, in the place of the one that passed
   pub filter-in-place : (t : P → Bool) (xs : List P) (one p : P) → IsKeyedBy key xs → key p ≡ key one → t p ≡ true → filter t xs ≡ one ∷ [] → filter t (insert_by key xs p) ≡ p ∷ []
-  filter-in-place t xs one p up same e found = only-passing t (insert_by key xs p) p (IsKeyedBy-insert_by key xs p up) (has-insert_by xs p) e (λ y h is.
-      elim (put-or-there xs p y h) [ inl new ↦ ap key new | inr there ↦ ap key (the-one t xs one y found there is) ∙ sym same ])
+  filter-in-place t xs one p up same e found = only-passing t (insert_by key xs p) p (IsKeyedBy-insert_by key xs p up) (has-insert_by key xs p) e (λ y h is.
+      elim (put-or-there key xs p y h) [ inl new ↦ ap key new | inr there ↦ ap key (the-one t xs one y found there is) ∙ sym same ])
 
   pub has-get_by : (xs : List P) (id : ℤ) (x : P) → get_by key xs id ≡ Some x → Has xs x
   has-get_by xs id x e = (has_found (λ y. int_eq (key y) id) xs x e).0

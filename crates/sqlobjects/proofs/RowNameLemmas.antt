@@ -6,12 +6,12 @@ use Rattle.sqlobjects.proofs.Words.{addresses_of, AreAddressesPut, AreOtherAddre
 use Rattle.sqlobjects.proofs.Words.{false_from_ne_true, get_by, Has, Host, host_of_columns, host_read, HostRow, insert_by, is_same}
 use Rattle.sqlobjects.proofs.Words.{is_sponsor_right, IsConsistent, IsPlaced, IsRowRenamed, IsRowTaken, key-get_by, new_name, same_int, sponsor_of}
 use Rattle.sqlobjects.proofs.{Words.{sponsors_are_right, with_named}, HostLemmas.{IsWritten, reads-alike, written}}
-use Rattle.sqlobjects.proofs.PutLemmas.{bytes_apart, changed-drop, changed-put, filter-put, get_by-has, has-filter, has-get_by, has-insert_by, IsChanged, nobody, none-removed, row_there, row-named}
+use Rattle.sqlobjects.proofs.PutLemmas.{bytes_apart, changed-drop, changed-put, filter-put, get_by-has, has-filter, has-get_by, IsChanged, nobody, none-removed, row_there, row-named}
 use Rattle.sqlobjects.proofs.{SponsorLemmas.{found-right, same-from, sponsor-kept}, VerdictLemmas.same-verdict}
 use Rattle.sqlcolumns.specs.inner.Hosts.{IsHost, row_of_host}
 use Rattle.sqlcolumns.proofs.HostLemmas.{host_back}
 use Rattle.sqltables.specs.Host as host_table
-use Rattle.sqlrows.proofs.RowLemmas.{get_by-insert_by}
+use Rattle.sqlrows.proofs.RowLemmas.{get_by-insert_by, has-insert_by}
 use Rattle.sqlobjects.specs.Changes.{host_name_by_number}
 
 abbrev name_of : HostRow → List ℕ

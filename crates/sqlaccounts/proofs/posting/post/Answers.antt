@@ -1,7 +1,6 @@
-use Rattle.std.proofs.Common.{refl, subst, sym}
-use Rattle.sqlaccounts.proofs.Words.{changed, counted_in, next_command, next_serial, PostsTo, reads-same, with_command, with_serial}
+use Rattle.std.proofs.Common.{refl}
+use Rattle.sqlaccounts.proofs.Words.{counted_in, next_command, next_serial, reads-same, with_command, with_serial}
 use Rattle.sqlaccounts.proofs.{CallLemmas.then-kept, PostingLemmas.counts-posted}
-use Rattle.lifecycle.specs.declared.change.AccountChange.{AccountChange}
 use Rattle.sqlaccounts.proofs.posting.post.Goals as goal
 
 pub returns-in-CountCommand : goal.returns-in-CountCommand
